@@ -1,0 +1,255 @@
+-- Laws of numbers in octets and of runs of fields, each once for all widths. Assumes nothing.
+use Prim.Native.Nat.{ℕ, zero, suc, _+_, _-_, _*_, _/_, _%_, _^_, _<_, _≤_}
+use mathlib.Core.Path.{_≡_, refl, sym, ap, ap₂, _∙_}
+use mathlib.Core.Logic.{_⊎_, inl, inr, ⊎-elim}
+use mathlib.Core.List.{List, [], _∷_}
+use lib.ListN.{length, getD, set, drop, replicate, length-set, length-replicate, getD-replicate, drop-of-length-le}
+use lib.Seq.{getD-set-same, getD-set-other, set-getD, drop-cons, ext-getD, set-out}
+use native.Mathlib.Decide.{ℕ-discrete}
+use native.Mathlib.Omega.{arith}
+use native.Mathlib.Numerals.{add-one}
+use native.Mathlib.Nat.{zero-add, suc-add, add-zero, add-suc, pow-suc, sub-zero, not-suc-le-zero}
+use borrow.Author.Count.{below-more}
+use borrow.Author.Tests.{ltb-true, ltb-false}
+use lib.Dec.{ltb}
+use mathlib.Core.Bool.{Bool, true, false}
+use Rattle.octets.specs.LittleEndian.{numberAt, withNumber, fieldsAt, withFields, total, FitFields, zeros, Octets}
+
+-- ---- one number
+
+-- a number of m + n octets is the number of its first m and that of its last n
+pub split : (m n : ℕ) (s : List ℕ) (at : ℕ) → numberAt (m + n) s at ≡ numberAt m s at + 256 ^ m * numberAt n s (at + m)
+unfolding numberAt
+split zero n s at = rw (zero-add, add-zero) (omega arith)
+split (suc m) n s at = rw (suc-add, add-suc, ← suc-add, pow-suc) (omega (arith, split m n s (suc at)))
+
+-- the clauses of `withNumber` as equations: `rw` sees a call only where the definition is shut
+with-zero : (s : List ℕ) (at x : ℕ) → withNumber zero s at x ≡ s
+unfolding withNumber
+with-zero s at x = refl
+
+with-suc : (n : ℕ) (s : List ℕ) (at x : ℕ) → withNumber (suc n) s at x ≡ withNumber n (set s at (x % 256)) (suc at) (x / 256)
+unfolding withNumber
+with-suc n s at x = refl
+
+pub length-number : (n : ℕ) (s : List ℕ) (at x : ℕ) → length (withNumber n s at x) ≡ length s
+unfolding withNumber
+length-number zero s at x = refl
+length-number (suc n) s at x = length-number n (set s at (x % 256)) (suc at) (x / 256) ∙ length-set s at (x % 256)
+
+-- ---- read after write
+
+-- an octet outside of what is written stays
+octet-other : (n : ℕ) (s : List ℕ) (at x k : ℕ) → (k < at) ⊎ (at + n ≤ k) → getD (withNumber n s at x) k 0 ≡ getD s k 0
+unfolding withNumber
+octet-other zero s at x k h = refl
+octet-other (suc n) s at x k h =
+    octet-other n (set s at (x % 256)) (suc at) (x / 256) k (⊎-elim (λ l. inl (omega arith)) (λ l. inr (omega arith)) h)
+    ∙ getD-set-other s at k (x % 256) 0 (⊎-elim (λ l. omega arith) (λ l. omega arith) h)
+
+-- numbers that lie in octets that agree are equal
+agree : (n : ℕ) (s t : List ℕ) (at : ℕ) → ((k : ℕ) → at ≤ k → k < at + n → getD s k 0 ≡ getD t k 0) → numberAt n s at ≡ numberAt n t at
+unfolding numberAt
+agree zero s t at h = refl
+agree (suc n) s t at h =
+    ap₂ (λ (b x : ℕ). b + 256 * x) (h at (omega arith) (omega arith)) (agree n s t (suc at) (λ k l g. h k (omega arith) (omega arith)))
+
+-- what stands apart from a number that is written stays
+pub number-other : (m n : ℕ) (s : List ℕ) (p at x : ℕ) → (p + m ≤ at) ⊎ (at + n ≤ p) → numberAt m (withNumber n s at x) p ≡ numberAt m s p
+number-other m n s p at x h =
+    agree m (withNumber n s at x) s p
+    (λ k l g. octet-other n s at x k (⊎-elim (λ a. inl (omega arith)) (λ b. inr (omega arith)) h))
+
+-- a number that is written is read back
+pub number-same : (n : ℕ) (s : List ℕ) (at x : ℕ) → at + n ≤ length s → x < 256 ^ n → numberAt n (withNumber n s at x) at ≡ x
+unfolding numberAt withNumber
+number-same zero s at x h b = omega arith
+number-same (suc n) s at x h b =
+    let t : List ℕ = set s at (x % 256) in
+    let b′ : x < 256 ^ n * 256 = rw pow-suc at b in
+    let first = octet-other n t (suc at) (x / 256) at (inl (omega arith)) ∙ getD-set-same s at (x % 256) 0 (omega arith) in
+    let rest = number-same n t (suc at) (x / 256) (rw length-set (omega arith)) (omega arith) in
+    omega arith
+
+-- to write what is read changes nothing
+pub number-back : (n : ℕ) (s : List ℕ) (at : ℕ) → Octets s → withNumber n s at (numberAt n s at) ≡ s
+unfolding numberAt withNumber Octets
+number-back zero s at o = refl
+number-back (suc n) s at o =
+    let x : ℕ = numberAt n s (suc at) in
+    let b : getD s at 0 < 256 = o at in
+    let low : (getD s at 0 + 256 * x) % 256 ≡ getD s at 0 = omega arith in
+    let high : (getD s at 0 + 256 * x) / 256 ≡ x = omega arith in
+    ap₂ (λ (v w : ℕ). withNumber n (set s at v) (suc at) w) low high
+    ∙ ap (λ (l : List ℕ). withNumber n l (suc at) x) (set-getD s at 0)
+    ∙ number-back n s (suc at) o
+
+-- a number of n octets is below 256 ^ n
+pub number-bound : (n : ℕ) (s : List ℕ) (at : ℕ) → Octets s → numberAt n s at < 256 ^ n
+unfolding numberAt Octets
+number-bound zero s at o = omega arith
+number-bound (suc n) s at o =
+    let b : getD s at 0 < 256 = o at in
+    rw pow-suc (omega (arith, number-bound n s (suc at) o))
+
+-- ---- octets that are all zero
+
+zero-at : (n k : ℕ) → getD (zeros n) k 0 ≡ 0
+zero-at zero k = refl
+zero-at (suc n) zero = refl
+zero-at (suc n) (suc k) = zero-at n k
+
+-- every number in them is zero
+pub number-zero : (w n at : ℕ) → numberAt w (zeros n) at ≡ 0
+unfolding numberAt
+number-zero zero n at = refl
+number-zero (suc w) n at = rw (zero-at n at, number-zero w n (suc at))
+
+-- ---- octets stay octets
+
+octets-set : (s : List ℕ) (at v : ℕ) → v < 256 → Octets s → Octets (set s at v)
+unfolding Octets
+octets-set s at v l o k = by (ℕ-discrete k at) (ltb at (length s)) refl
+  where
+    by : Dec (k ≡ at) → (b : Bool) → ltb at (length s) ≡ b → getD (set s at v) k 0 < 256
+    by (no q) b e = rw (getD-set-other s at k v 0 q) (o k)
+    by (yes q) true e = rw (q, getD-set-same s at v 0 (ltb-true at (length s) e)) l
+    by (yes q) false e = rw (set-out s at v (ltb-false at (length s) e)) (o k)
+
+pub octets-number : (n : ℕ) (s : List ℕ) (at x : ℕ) → Octets s → Octets (withNumber n s at x)
+unfolding withNumber
+octets-number zero s at x o = o
+octets-number (suc n) s at x o =
+    octets-number n (set s at (x % 256)) (suc at) (x / 256) (octets-set s at (x % 256) (omega arith) o)
+
+pub octets-zero : (n : ℕ) → Octets (zeros n)
+unfolding Octets
+octets-zero n k = rw (zero-at n k) (omega arith)
+
+-- ---- the same of fields
+
+pub length-fields : (ws s : List ℕ) (at o : ℕ) (xs : List ℕ) → length (withFields ws s at o xs) ≡ length s
+unfolding withFields
+length-fields [] s at o xs = refl
+length-fields (w ∷ ws) s at o [] = refl
+length-fields (w ∷ ws) s at o (x ∷ xs) = length-fields ws (withNumber w s (at + o) x) at (o + w) xs ∙ length-number w s (at + o) x
+
+-- a number that stands apart from fields that are written stays
+pub apart : (m : ℕ) (ws s : List ℕ) (p at o : ℕ) (xs : List ℕ) → (p + m ≤ at + o) ⊎ (at + o + total ws ≤ p) → numberAt m (withFields ws s at o xs) p ≡ numberAt m s p
+unfolding withFields total
+apart m [] s p at o xs h = refl
+apart m (w ∷ ws) s p at o [] h = refl
+apart m (w ∷ ws) s p at o (x ∷ xs) h =
+    apart m ws (withNumber w s (at + o) x) p at (o + w) xs (⊎-elim (λ a. inl (omega arith)) (λ b. inr (omega arith)) h)
+    ∙ number-other m w s p (at + o) x (⊎-elim (λ a. inl (omega arith)) (λ b. inr (omega arith)) h)
+
+-- and so do fields that stand apart
+pub fields-other : (vs ws s : List ℕ) (p q at o : ℕ) (xs : List ℕ) → (p + q + total vs ≤ at + o) ⊎ (at + o + total ws ≤ p + q) → fieldsAt vs (withFields ws s at o xs) p q ≡ fieldsAt vs s p q
+unfolding fieldsAt total
+fields-other [] ws s p q at o xs h = refl
+fields-other (v ∷ vs) ws s p q at o xs h =
+    ap₂ _∷_
+    (apart v ws s (p + q) at o xs (⊎-elim (λ a. inl (omega arith)) (λ b. inr (omega arith)) h))
+    (fields-other vs ws s p (q + v) at o xs (⊎-elim (λ a. inl (omega arith)) (λ b. inr (omega arith)) h))
+
+-- fields that are written are read back
+pub fields-same : (ws s : List ℕ) (at o : ℕ) (xs : List ℕ) → at + o + total ws ≤ length s → FitFields ws xs → fieldsAt ws (withFields ws s at o xs) at o ≡ xs
+unfolding fieldsAt withFields total FitFields
+fields-same [] s at o [] h f = refl
+fields-same [] s at o (x ∷ xs) h f = absurd f
+fields-same (w ∷ ws) s at o [] h f = absurd f
+fields-same (w ∷ ws) s at o (x ∷ xs) h f =
+    ap₂ _∷_
+    (apart w ws (withNumber w s (at + o) x) (at + o) at (o + w) xs (inl (omega arith)) ∙ number-same w s (at + o) x (omega arith) (f .0))
+    (fields-same ws (withNumber w s (at + o) x) at (o + w) xs (rw length-number (omega arith)) (f .1))
+
+-- to write the fields that are read changes nothing
+pub fields-back : (ws s : List ℕ) (at o : ℕ) → Octets s → withFields ws s at o (fieldsAt ws s at o) ≡ s
+unfolding fieldsAt withFields
+fields-back [] s at o h = refl
+fields-back (w ∷ ws) s at o h =
+    ap (λ (l : List ℕ). withFields ws l at (o + w) (fieldsAt ws s at (o + w))) (number-back w s (at + o) h)
+    ∙ fields-back ws s at (o + w) h
+
+-- fields of octets fit
+pub fields-fit : (ws s : List ℕ) (at o : ℕ) → Octets s → FitFields ws (fieldsAt ws s at o)
+unfolding fieldsAt FitFields
+fields-fit [] s at o h = tt
+fields-fit (w ∷ ws) s at o h = (number-bound w s (at + o) h, fields-fit ws s at (o + w) h)
+
+pub octets-fields : (ws s : List ℕ) (at o : ℕ) (xs : List ℕ) → Octets s → Octets (withFields ws s at o xs)
+unfolding withFields
+octets-fields [] s at o xs h = h
+octets-fields (w ∷ ws) s at o [] h = h
+octets-fields (w ∷ ws) s at o (x ∷ xs) h = octets-fields ws (withNumber w s (at + o) x) at (o + w) xs (octets-number w s (at + o) x h)
+
+pub fields-zero : (ws : List ℕ) (n at o : ℕ) → fieldsAt ws (zeros n) at o ≡ zeros (length ws)
+unfolding fieldsAt
+fields-zero [] n at o = refl
+fields-zero (w ∷ ws) n at o = ap₂ _∷_ (number-zero w n (at + o)) (fields-zero ws n at (o + w))
+
+-- ---- loops that write, by what is left to write: g is the whole
+
+pub number-start : (n : ℕ) (s : List ℕ) (at x : ℕ) → withNumber (n - 0) s (at + 0) x ≡ withNumber n s at x
+number-start n s at x = rw (sub-zero, add-zero at)
+
+pub number-more : (n j : ℕ) (s g : List ℕ) (at x : ℕ) → j < n → withNumber (n - j) s (at + j) x ≡ g
+    → withNumber (n - (j + 1)) (set s (at + j) (x % 256)) (at + (j + 1)) (x / 256) ≡ g
+number-more n j s g at x l h =
+    let p : n - j ≡ suc (n - (j + 1)) = omega arith in
+    let q : at + (j + 1) ≡ suc (at + j) = omega arith in
+    rw q (rw (p, with-suc) at h)
+
+pub number-ended : (n j : ℕ) (s g : List ℕ) (at x : ℕ) → n ≤ j → withNumber (n - j) s (at + j) x ≡ g → s ≡ g
+number-ended n j s g at x l h =
+    let p : n - j ≡ 0 = omega arith in
+    rw (p, with-zero) at h
+
+-- the clauses of `total` and `withFields` as equations
+total-cons : (w : ℕ) (ws : List ℕ) → total (w ∷ ws) ≡ w + total ws
+unfolding total
+total-cons w ws = refl
+
+fields-nil : (s : List ℕ) (at o : ℕ) (xs : List ℕ) → withFields [] s at o xs ≡ s
+unfolding withFields
+fields-nil s at o xs = refl
+
+fields-cons : (w : ℕ) (ws s : List ℕ) (at o x : ℕ) (xs : List ℕ) → withFields (w ∷ ws) s at o (x ∷ xs) ≡ withFields ws (withNumber w s (at + o) x) at (o + w) xs
+unfolding withFields
+fields-cons w ws s at o x xs = refl
+
+-- the widths that are left take what is left of the octets
+pub total-more : (ws : List ℕ) (i o : ℕ) → i < length ws → o + total (drop i ws) ≡ total ws → o + getD ws i 0 + total (drop (i + 1) ws) ≡ total ws
+total-more ws i o l h = let e = rw (drop-cons ws i 0 l, total-cons) at h in rw add-one (omega arith)
+
+pub fields-more : (ws xs s g : List ℕ) (i at o : ℕ) → i < length ws → length ws ≡ length xs → withFields (drop i ws) s at o (drop i xs) ≡ g
+    → (t : List ℕ) → t ≡ withNumber (getD ws i 0) s (at + o) (getD xs i 0)
+    → withFields (drop (i + 1) ws) t at (o + getD ws i 0) (drop (i + 1) xs) ≡ g
+fields-more ws xs s g i at o l e h t te =
+    let l′ : i < length xs = omega arith in
+    rw (add-one, te) (rw (drop-cons ws i 0 l, drop-cons xs i 0 l′, fields-cons) at h)
+
+pub fields-ended : (ws xs s g : List ℕ) (i at o : ℕ) → length ws ≤ i → withFields (drop i ws) s at o (drop i xs) ≡ g → s ≡ g
+fields-ended ws xs s g i at o l h = rw (drop-of-length-le ws l, fields-nil) at h
+
+-- ---- a loop that clears: the octets below i are zero
+
+pub record Cleared (s : List ℕ) (i : ℕ) : Type 0 where
+  pub zeros : (k : ℕ) → k < i → getD s k 0 ≡ 0
+
+pub cleared-none : (s : List ℕ) → Cleared s 0
+cleared-none s = record { zeros = λ k l. absurd (not-suc-le-zero l) }
+
+pub cleared-more : (s : List ℕ) (i : ℕ) → i < length s → Cleared s i → Cleared (set s i 0) (i + 1)
+cleared-more s i l h =
+    record {
+      zeros =
+          below-more (λ (k : ℕ). getD (set s i 0) k 0 ≡ 0) i
+          (λ k g. getD-set-other s i k 0 0 (λ q. omega arith) ∙ h .zeros k g)
+          (getD-set-same s i 0 0 l);
+    }
+
+pub cleared-ended : (s : List ℕ) (i n : ℕ) → length s ≡ n → length s ≤ i → Cleared s i → s ≡ zeros n
+cleared-ended s i n e l h =
+    ext-getD 0 s (zeros n) (rw length-replicate e)
+    (λ k g. h .zeros k (omega arith) ∙ sym (getD-replicate n k 0 0 (omega arith)))

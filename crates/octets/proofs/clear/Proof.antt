@@ -1,0 +1,28 @@
+-- `octets::clear` meets its contract: every octet passed is zero. Assumes nothing.
+use Prim.Native.Nat.{_-_, _≤_}
+use mathlib.Core.Path.{_≡_}
+use lib.ListN.{length}
+use borrow.Author.Needs.{needs}
+use Rattle.octets.proofs.Laws.{Cleared, cleared-none, cleared-more, cleared-ended}
+use Rattle.octets.proofs.clear.Statement.{statement}
+use Rattle.octets.proofs.clear.Tie as tie
+
+abbrev Inv-loop : tie.InvT-loop
+Inv-loop s₀ i₀ s i = (i ≤ length s₀) × (length s ≡ length s₀) × Cleared s i
+
+abbrev μ-loop : tie.MeasureT-loop
+μ-loop s₀ i₀ s i = length s₀ - i
+
+pub clear-spec : {M : Type 1} → statement M
+clear-spec =
+    tie.close
+    (tie.spec
+    Inv-loop
+    μ-loop
+    (λ c. search (needs, cleared-none))
+    (λ c. search needs)
+    (λ c. search needs)
+    (λ c. search needs)
+    (λ c. search (needs, cleared-more))
+    (λ c. search needs)
+    (λ c. search cleared-ended))

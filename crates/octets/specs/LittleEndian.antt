@@ -1,0 +1,46 @@
+-- Little-endian numbers in a list of octets, and runs of them: the fields of a layout. Assumes nothing.
+use Prim.Native.Nat.{ℕ, zero, suc, _+_, _*_, _/_, _%_, _^_, _<_}
+use mathlib.Core.List.{List, [], _∷_}
+use lib.ListN.{getD, set, replicate}
+
+-- the number in the n octets of s from place at, the least significant octet first
+unfoldable pub numberAt : ℕ → List ℕ → ℕ → ℕ
+numberAt zero s at = 0
+numberAt (suc n) s at = getD s at 0 + 256 * numberAt n s (suc at)
+
+-- s with x in the n octets from place at
+unfoldable pub withNumber : ℕ → List ℕ → ℕ → ℕ → List ℕ
+withNumber zero s at x = s
+withNumber (suc n) s at x = withNumber n (set s at (x % 256)) (suc at) (x / 256)
+
+-- the numbers in the fields of widths ws that stand side by side from offset o after place at
+-- (offsets apart from the place, so that those of a given layout are numerals)
+unfoldable pub fieldsAt : List ℕ → List ℕ → ℕ → ℕ → List ℕ
+fieldsAt [] s at o = []
+fieldsAt (w ∷ ws) s at o = numberAt w s (at + o) ∷ fieldsAt ws s at (o + w)
+
+-- s with the numbers xs in those fields
+unfoldable pub withFields : List ℕ → List ℕ → ℕ → ℕ → List ℕ → List ℕ
+withFields [] s at o xs = s
+withFields (w ∷ ws) s at o [] = s
+withFields (w ∷ ws) s at o (x ∷ xs) = withFields ws (withNumber w s (at + o) x) at (o + w) xs
+
+-- how many octets the fields of widths ws take
+unfoldable pub total : List ℕ → ℕ
+total [] = 0
+total (w ∷ ws) = w + total ws
+
+-- there is one number for each field, and each fits its field
+unfoldable pub FitFields : List ℕ → List ℕ → Type 0
+FitFields [] [] = Unit {0}
+FitFields [] (x ∷ xs) = ⊥
+FitFields (w ∷ ws) [] = ⊥
+FitFields (w ∷ ws) (x ∷ xs) = (x < 256 ^ w) × FitFields ws xs
+
+-- n octets that are zero
+abbrev pub zeros : ℕ → List ℕ
+zeros n = replicate n 0
+
+-- every element is an octet
+unfoldable pub Octets : List ℕ → Type 0
+Octets s = (k : ℕ) → getD s k 0 < 256

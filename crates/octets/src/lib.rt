@@ -1,0 +1,81 @@
+// Little-endian numbers in lent octets: read at the widths that layouts have, written at any width, alone or side by side.
+ghost use mathlib.Core.Path.{_≡_};
+ghost use Prim.Native.Nat.{_+_, _≤_};
+ghost use lib.ListN.{length};
+ghost use Rattle.octets.specs.LittleEndian.{numberAt, total, withFields, withNumber, zeros};
+
+pub fn read_u8(s: &[u8], at: usize) -> u8
+    requires { ⌜ at + 1 ≤ length (now s) ⌝ }
+    ensures { λ r. ⌜ r ≡ numberAt 1 (now (s .entry)) at ⌝ }
+{
+    s[at]
+}
+
+pub fn read_u16(s: &[u8], at: usize) -> u16
+    requires { ⌜ at + 2 ≤ length (now s) ⌝ }
+    ensures { λ r. ⌜ r ≡ numberAt 2 (now (s .entry)) at ⌝ }
+{
+    read_u8(s, at) as u16 + 256 * read_u8(s, at + 1) as u16
+}
+
+pub fn read_u32(s: &[u8], at: usize) -> u32
+    requires { ⌜ at + 4 ≤ length (now s) ⌝ }
+    ensures { λ r. ⌜ r ≡ numberAt 4 (now (s .entry)) at ⌝ }
+{
+    read_u16(s, at) as u32 + 65536 * read_u16(s, at + 2) as u32
+}
+
+pub fn read_u48(s: &[u8], at: usize) -> u64
+    requires { ⌜ at + 6 ≤ length (now s) ⌝ }
+    ensures { λ r. ⌜ r ≡ numberAt 6 (now (s .entry)) at ⌝ }
+{
+    read_u32(s, at) as u64 + 4294967296 * read_u16(s, at + 4) as u64
+}
+
+pub fn read_u64(s: &[u8], at: usize) -> u64
+    requires { ⌜ at + 8 ≤ length (now s) ⌝ }
+    ensures { λ r. ⌜ r ≡ numberAt 8 (now (s .entry)) at ⌝ }
+{
+    read_u32(s, at) as u64 + 4294967296 * read_u32(s, at + 4) as u64
+}
+
+// The lowest n octets of x, the least significant first.
+pub fn write_number(s: &mut [u8], at: usize, n: usize, x: u64)
+    requires { ⌜ at + n ≤ length (now s) ⌝ }
+    ensures { λ _. ⌜ now (s .exit) ≡ withNumber n (now (s .entry)) at x ⌝ }
+{
+    let mut rest = x;
+    let mut j = 0;
+    while j < n {
+        s[at + j] = (rest % 256) as u8;
+        rest = rest / 256;
+        j += 1;
+    }
+}
+
+// The numbers of values side by side from place at, each in as many octets as widths says.
+pub fn write_fields(s: &mut [u8], at: usize, widths: &[u8], values: &[u64])
+    requires { ⌜ at + total (now widths) ≤ length (now s) ⌝ }
+    requires { ⌜ length (now widths) ≡ length (now values) ⌝ }
+    ensures { λ _. ⌜ now (s .exit) ≡ withFields (now (widths .entry)) (now (s .entry)) at 0 (now (values .entry)) ⌝ }
+{
+    let mut o = 0;
+    let mut i = 0;
+    while i < widths.len() {
+        let w = widths[i] as usize;
+        write_number(s, at + o, w, values[i]);
+        o += w;
+        i += 1;
+    }
+}
+
+// Every octet becomes zero.
+pub fn clear(s: &mut [u8])
+    ensures { λ _. ⌜ now (s .exit) ≡ zeros (length (now (s .entry))) ⌝ }
+{
+    let mut i = 0;
+    while i < s.len() {
+        s[i] = 0;
+        i += 1;
+    }
+}
