@@ -1,0 +1,9 @@
+-- `counters::RequestId::next` meets its contract: a wrapping sum is the next request ID. Assumes nothing.
+use borrow.Author.Needs.{needs}
+use Rattle.counters.specs.Numbers.{stepped}
+use Rattle.counters.proofs.RequestId.next.Statement.{statement}
+use Rattle.counters.proofs.RequestId.next.Tie as tie
+
+pub next-spec : {M : Type 1} → statement M
+unfolding stepped
+next-spec = tie.close (tie.spec (λ c κs. search needs) (λ c. cc))

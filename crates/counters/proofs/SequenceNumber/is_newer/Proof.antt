@@ -1,0 +1,8 @@
+-- `counters::SequenceNumber::is_newer` meets its contract: the distance lies in the lower half. Assumes nothing.
+use borrow.Author.Needs.{needs}
+use Rattle.counters.proofs.Laws.{newer-at}
+use Rattle.counters.proofs.SequenceNumber.is_newer.Statement.{statement}
+use Rattle.counters.proofs.SequenceNumber.is_newer.Tie as tie
+
+pub is-newer-spec : {M : Type 1} → statement M
+is-newer-spec = tie.close (tie.spec (λ c κs. search needs) (λ c. search (newer-at, needs)))

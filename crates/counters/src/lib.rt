@@ -1,0 +1,46 @@
+// Counters that never stand in for one another: each is a struct of one number.
+ghost use mathlib.Core.Path.{_≡_};
+ghost use Rattle.counters.specs.Numbers.{newer, nextNumber, nextRequest, older};
+
+pub struct SequenceNumber(pub u32);
+
+pub struct RequestId(pub u32);
+
+pub struct Metric(pub u32);
+
+pub struct HopCount(pub u8);
+
+impl SequenceNumber {
+    // The number after this one; after 4,294,967,295 comes 0.
+    pub fn next(self) -> Self
+        ensures { λ r. ⌜ r ≡ nextNumber self ⌝ }
+    {
+        SequenceNumber(std::num::wrapping_add_u32(self.0, 1))
+    }
+
+    // Whether the distance from other to this number, read as signed, is above 0.
+    pub fn is_newer(self, other: Self) -> bool
+        ensures { λ r. ⌜ r ≡ newer self other ⌝ }
+    {
+        let s = self.0;
+        let t = other.0;
+        let distance = std::num::wrapping_sub_u32(s, t);
+        (0 < distance) & (distance < 2147483648)
+    }
+
+    // Whether that distance is below 0.
+    pub fn is_older(self, other: Self) -> bool
+        ensures { λ r. ⌜ r ≡ older self other ⌝ }
+    {
+        2147483648 <= std::num::wrapping_sub_u32(self.0, other.0)
+    }
+}
+
+impl RequestId {
+    // The request ID after this one; after 4,294,967,295 comes 0.
+    pub fn next(self) -> Self
+        ensures { λ r. ⌜ r ≡ nextRequest self ⌝ }
+    {
+        RequestId(std::num::wrapping_add_u32(self.0, 1))
+    }
+}
