@@ -1,0 +1,9 @@
+-- The laws of tables, for this crate's proofs and its callers'.
+pub mod Cases
+pub mod EachHeld
+pub mod HeadAndRows
+pub mod Heads
+pub mod Lookup
+pub mod WellFormed
+mod Marks
+pub mod Places

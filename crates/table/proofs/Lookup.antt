@@ -1,0 +1,413 @@
+-- The row of a destination and the free rows, after a row is stored or freed. Assumes nothing.
+use Prim.Native.Nat.{ℕ, zero, suc, _+_, _<_, _≤_}
+use mathlib.Core.Path.{_≡_, refl, sym, ap, _∙_}
+use mathlib.Core.Bool.{Bool, true, false, _&&_, _||_, not, cond, and-eq-true-iff, and-false, or-true}
+use mathlib.Core.List.{List}
+use mathlib.Core.Option.{Option, none, some}
+use lib.ListN.{length}
+use lib.Dec.{eqb}
+use native.Mathlib.Decide.{ℕ-discrete}
+use native.Mathlib.Omega.{arith}
+use borrow.Author.Tests.{eqb-true}
+use Rattle.table.specs.declared.address.Address.{Address}
+use Rattle.table.specs.declared.row.Head.{Head}
+use Rattle.table.specs.declared.row.Row.{Row}
+use Rattle.table.specs.declared.search.Found.{Found}
+use Rattle.table.specs.declared.search.Found.the-variants.{At, Nothing}
+use Rattle.octets.specs.LittleEndian.{FitFields, Octets}
+use Rattle.table.specs.Address.{same}
+use Rattle.table.specs.Row.{freeRow, isFree, isHeld, rowOk}
+use Rattle.table.specs.Layout.{rows, place, headAt, rowAt, putRow, FitRow}
+use Rattle.table.specs.Places.{first, count}
+use Rattle.table.specs.Table.{own, vacant, holds, findRow, firstFree, rowIn, rowFor, newRows, freeRows, placeFor, putAt, store, freed}
+use Rattle.table.proofs.HeadAndRows.{length-row, row-same, row-other, head-stays, row-octets}
+use Rattle.table.proofs.Places.{first-below, first-true, first-not, first-only, first-nowhere, first-cong, count-cong, count-drop, count-nowhere}
+use Rattle.table.proofs.WellFormed.{Legal, true-not-false, false-of, same-is, same-itself, held-row, holds-of}
+
+-- ---- what a place that was found is
+
+module _ (t : List ℕ) (d : Address) where
+  pub found-here : (i : ℕ) → findRow t d ≡ At i → (i < rows t) × (holds t d i ≡ true)
+  unfolding findRow
+  found-here i e = (first-below (holds t d) (rows t) i e, first-true (holds t d) (rows t) i e)
+
+  pub found-nowhere : findRow t d ≡ Nothing → (k : ℕ) → k < rows t → holds t d k ≡ false
+  unfolding findRow
+  found-nowhere e k l = first-not (holds t d) (rows t) k e l
+
+  -- no other row is held for its destination
+  pub found-only : Legal t → (i : ℕ) → findRow t d ≡ At i → (k : ℕ) → k < rows t → (k ≡ i → ⊥) → holds t d k ≡ false
+  found-only legal i e k l n =
+      let here = found-here i e in
+      false-of (holds t d k) (λ h. n (legal .once d k i l (here .0) h (here .1)))
+
+-- ---- a row that is put
+
+module _ (t : List ℕ) (i : ℕ) (r : Row) (within : place i + 32 ≤ length t) (fit : FitRow r) where
+  -- what row i now says
+  here : (d : Address) → holds (putRow t i r) d i ≡ (not (eqb (r .status) 0) && same (r .destination) d)
+  unfolding holds vacant
+  here d = rw (row-same t i r within fit)
+
+  vacant-here : vacant (putRow t i r) i ≡ eqb (r .status) 0
+  unfolding vacant
+  vacant-here = rw (row-same t i r within fit)
+
+  -- the other rows say what they said
+  there : (d : Address) (k : ℕ) → (k ≡ i → ⊥) → holds (putRow t i r) d k ≡ holds t d k
+  unfolding holds vacant
+  there d k n = rw (row-other t i k r n)
+
+  vacant-there : (k : ℕ) → (k ≡ i → ⊥) → vacant (putRow t i r) k ≡ vacant t k
+  unfolding vacant
+  vacant-there k n = rw (row-other t i k r n)
+
+  -- a destination that only row i is held for now
+  put-found : (d : Address) → holds (putRow t i r) d i ≡ true → ((k : ℕ) → k < rows t → (k ≡ i → ⊥) → holds t d k ≡ false)
+      → rowFor (putRow t i r) d ≡ some r
+  unfolding rowFor findRow
+  put-found d h none-else =
+      rw (
+        first-only (holds (putRow t i r) d) (rows (putRow t i r)) i (rw length-row (omega arith)) h
+            (λ k l n. there d k n ∙ none-else k (rw length-row at l) n),
+        row-same t i r within fit,
+      )
+
+  -- a destination that no row is held for now
+  put-gone : (d : Address) → holds (putRow t i r) d i ≡ false → ((k : ℕ) → k < rows t → (k ≡ i → ⊥) → holds t d k ≡ false)
+      → rowFor (putRow t i r) d ≡ none
+  unfolding rowFor findRow
+  put-gone d h none-else =
+      rw (first-nowhere (holds (putRow t i r) d) (rows (putRow t i r)) (λ k l. by k (rw length-row at l) (ℕ-discrete k i)))
+    where
+      by : (k : ℕ) → k < rows t → Dec (k ≡ i) → holds (putRow t i r) d k ≡ false
+      by k l (yes q) = rw q h
+      by k l (no q) = there d k q ∙ none-else k l q
+
+  -- a destination that row i is not held for, before or now
+  module _ (d : Address) (before : holds t d i ≡ false) (now : holds (putRow t i r) d i ≡ false) where
+    agree : (k : ℕ) → holds (putRow t i r) d k ≡ holds t d k
+    agree k = at (ℕ-discrete k i)
+      where
+        at : Dec (k ≡ i) → holds (putRow t i r) d k ≡ holds t d k
+        at (yes q) = rw q (now ∙ sym before)
+        at (no q) = there d k q
+
+    same-place : findRow (putRow t i r) d ≡ findRow t d
+    unfolding findRow
+    same-place = rw length-row (first-cong (holds (putRow t i r) d) (holds t d) (rows t) (λ k l. agree k))
+
+    put-other : rowFor (putRow t i r) d ≡ rowFor t d
+    unfolding rowFor
+    put-other = ap (rowIn (putRow t i r)) same-place ∙ by (findRow t d) refl
+      where
+        by : (f : Found) → findRow t d ≡ f → rowIn (putRow t i r) f ≡ rowIn t f
+        by Nothing e = refl
+        by (At k) e = rw (row-other t i k r (λ q. true-not-false (rw q at (found-here t d k e .1)) before))
+
+  -- how many rows are free then
+  put-level : vacant t i ≡ eqb (r .status) 0 → freeRows (putRow t i r) ≡ freeRows t
+  unfolding freeRows
+  put-level e = rw length-row (count-cong (vacant (putRow t i r)) (vacant t) (rows t) (λ k l. by k (ℕ-discrete k i)))
+    where
+      by : (k : ℕ) → Dec (k ≡ i) → vacant (putRow t i r) k ≡ vacant t k
+      by k (yes q) = rw q (vacant-here ∙ sym e)
+      by k (no q) = vacant-there k q
+
+  put-takes : vacant t i ≡ true → eqb (r .status) 0 ≡ false → freeRows t ≡ suc (freeRows (putRow t i r))
+  unfolding freeRows
+  put-takes v h =
+      rw length-row
+      (count-drop (vacant t) (vacant (putRow t i r)) (rows t) i (omega arith) (λ k l n. sym (vacant-there k n)) v (vacant-here ∙ h))
+
+  put-gives : vacant t i ≡ false → eqb (r .status) 0 ≡ true → freeRows (putRow t i r) ≡ suc (freeRows t)
+  unfolding freeRows
+  put-gives v h =
+      rw length-row
+      (count-drop (vacant (putRow t i r)) (vacant t) (rows t) i (omega arith) (λ k l n. vacant-there k n) (vacant-here ∙ h) v)
+
+  -- a row that is as it should be, and for whose destination no other row is held if it is held, keeps a table a table
+  module _ (legal : Legal t) (ok : rowOk (own t) r ≡ true)
+      (single : eqb (r .status) 0 ≡ false → (k : ℕ) → k < rows t → (k ≡ i → ⊥) → holds t (r .destination) k ≡ false) where
+    row-kept : (k : ℕ) → k < rows t → rowOk (own t) (rowAt (putRow t i r) k) ≡ true
+    row-kept k l = by (ℕ-discrete k i)
+      where
+        by : Dec (k ≡ i) → rowOk (own t) (rowAt (putRow t i r) k) ≡ true
+        by (yes q) = rw (q, row-same t i r within fit) ok
+        by (no q) = rw (row-other t i k r q) (legal .row k l)
+
+    not-both : (d : Address) (k : ℕ) → k < rows t → (k ≡ i → ⊥) → holds (putRow t i r) d i ≡ true → holds (putRow t i r) d k ≡ true → ⊥
+    not-both d k l n hi hk =
+        let row = held-row (putRow t i r) d i hi in
+        let is-d = ap (λ (q : Row). q .destination) (sym (row-same t i r within fit)) ∙ row .1 in
+        true-not-false (sym (there d k n) ∙ hk) (rw is-d at (single (sym vacant-here ∙ row .0) k l n))
+
+    once-kept : (d : Address) (j k : ℕ) → j < rows t → k < rows t → holds (putRow t i r) d j ≡ true → holds (putRow t i r) d k ≡ true → j ≡ k
+    once-kept d j k lj lk hj hk = by (ℕ-discrete j i) (ℕ-discrete k i)
+      where
+        by : Dec (j ≡ i) → Dec (k ≡ i) → j ≡ k
+        by (yes p) (yes q) = p ∙ sym q
+        by (yes p) (no q) = absurd (not-both d k lk q (rw p at hj) hk)
+        by (no p) (yes q) = absurd (not-both d j lj p (rw q at hk) hj)
+        by (no p) (no q) = legal .once d j k lj lk (sym (there d j p) ∙ hj) (sym (there d k q) ∙ hk)
+
+    put-legal : Legal (putRow t i r)
+    put-legal =
+        record {
+          head = rw head-stays (legal .head);
+          row = λ k l. ap (λ (h : Head). rowOk (h .own) (rowAt (putRow t i r) k)) (head-stays t i r) ∙ row-kept k (rw length-row at l);
+          once = λ d j k lj lk. once-kept d j k (rw length-row at lj) (rw length-row at lk);
+        }
+
+-- ---- where a row goes that is stored
+
+-- the place, and what was there
+record Spot (t : List ℕ) (d : Address) : Type 0 where
+  at : ℕ
+  is : placeFor t d ≡ At at
+  below : at < rows t
+  -- no other row is held for d, and this one for no other destination
+  single : (k : ℕ) → k < rows t → (k ≡ at → ⊥) → holds t d k ≡ false
+  apart : (e : Address) → same d e ≡ false → holds t e at ≡ false
+  -- it is a new row where it was free
+  fresh : newRows (rowFor t d) ≡ cond (vacant t at) 1 0
+
+-- a free row is held for nobody
+vacant-holds : (t : List ℕ) (d : Address) (i : ℕ) → vacant t i ≡ true → holds t d i ≡ false
+unfolding holds
+vacant-holds t d i v = rw v
+
+-- a held row is held for one destination
+held-for-one : (t : List ℕ) (d e : Address) (i : ℕ) → holds t d i ≡ true → same d e ≡ false → holds t e i ≡ false
+held-for-one t d e i hd n =
+    false-of (holds t e i)
+    (λ he. let q = sym (held-row t d i hd .1) ∙ held-row t e i he .1 in true-not-false (rw q (same-itself e)) n)
+
+module _ (t : List ℕ) where
+  free-here : (i : ℕ) → firstFree t ≡ At i → (i < rows t) × (vacant t i ≡ true)
+  unfolding firstFree
+  free-here i e = (first-below (vacant t) (rows t) i e, first-true (vacant t) (rows t) i e)
+
+  none-free : firstFree t ≡ Nothing → freeRows t ≡ 0
+  unfolding firstFree freeRows
+  none-free e = count-nowhere (vacant t) (rows t) (λ k l. first-not (vacant t) (rows t) k e l)
+
+spot : (t : List ℕ) (d : Address) → Legal t → newRows (rowFor t d) ≤ freeRows t → Spot t d
+unfolding placeFor rowFor
+spot t d legal room = go (findRow t d) refl (firstFree t) refl
+  where
+    go : (f : Found) → findRow t d ≡ f → (g : Found) → firstFree t ≡ g → Spot t d
+    go (At i) fe g ge =
+        let found = found-here t d i fe in
+        record {
+          at = i;
+          is = rw fe;
+          below = found .0;
+          single = found-only t d legal i fe;
+          apart = λ e n. held-for-one t d e i (found .1) n;
+          fresh = rw (fe, held-row t d i (found .1) .0);
+        }
+    go Nothing fe (At i) ge =
+        let free = free-here t i ge in
+        record {
+          at = i;
+          is = rw (fe, ge);
+          below = free .0;
+          single = λ k l n. found-nowhere t d fe k l;
+          apart = λ e n. vacant-holds t e i (free .1);
+          fresh = rw (fe, free .1);
+        }
+    go Nothing fe Nothing ge = let none = none-free t ge in let one : 1 ≤ freeRows t = rw fe at room in absurd (omega arith)
+
+-- ---- a row that is stored
+
+pub held-status : (a : Address) (r : Row) → isHeld a r ≡ true → eqb (r .status) 0 ≡ false
+unfolding isHeld
+held-status a r e = false-of (eqb (r .status) 0) (λ z. true-not-false (rw (eqb-true (r .status) 0 z) at e) refl)
+
+held-ok : (a : Address) (r : Row) → isHeld a r ≡ true → rowOk a r ≡ true
+unfolding rowOk
+held-ok a r e = rw e (or-true (isFree r))
+
+-- A row of the point that is held, where there is room for it: its destination has a row, or a row is free, wherever it lies.
+module _ (t : List ℕ) (r : Row) (legal : Legal t) (held : isHeld (own t) r ≡ true) (fit : FitRow r)
+    (room : newRows (rowFor t (r .destination)) ≤ freeRows t) where
+  place-of : Spot t (r .destination)
+  place-of = spot t (r .destination) legal room
+
+  inside : place (place-of .at) + 32 ≤ length t
+  inside = let l = place-of .below in omega arith
+
+  stored : store t r ≡ putRow t (place-of .at) r
+  unfolding store
+  stored = rw (place-of .is)
+
+  status : eqb (r .status) 0 ≡ false
+  status = held-status (own t) r held
+
+  -- its destination's row is this row
+  pub store-found : rowFor (store t r) (r .destination) ≡ some r
+  store-found =
+      rw stored
+      (put-found t (place-of .at) r inside fit (r .destination)
+      (here t (place-of .at) r inside fit (r .destination) ∙ rw (status, same-itself (r .destination)))
+      (place-of .single))
+
+  -- the rows of all other destinations are what they were
+  pub store-other : (d : Address) → same (r .destination) d ≡ false → rowFor (store t r) d ≡ rowFor t d
+  store-other d n =
+      rw stored
+      (put-other t (place-of .at) r inside fit d (place-of .apart d n)
+      (here t (place-of .at) r inside fit d ∙ rw n (and-false (not (eqb (r .status) 0)))))
+
+  -- a new row takes one of the free rows
+  pub store-free : freeRows (store t r) + newRows (rowFor t (r .destination)) ≡ freeRows t
+  store-free = rw stored (by (vacant t (place-of .at)) refl)
+    where
+      by : (b : Bool) → vacant t (place-of .at) ≡ b → freeRows (putRow t (place-of .at) r) + newRows (rowFor t (r .destination)) ≡ freeRows t
+      by true v = let e = rw v at (place-of .fresh) in let f = put-takes t (place-of .at) r inside fit v status in omega arith
+      by false v = let e = rw v at (place-of .fresh) in let f = put-level t (place-of .at) r inside fit (v ∙ sym status) in omega arith
+
+  -- a table stays a table
+  pub store-legal : Legal (store t r)
+  store-legal =
+      rw stored (put-legal t (place-of .at) r inside fit legal (held-ok (own t) r held) (λ _. place-of .single))
+
+-- ---- what a row that is put anywhere leaves alone
+
+module _ (t : List ℕ) (r : Row) where
+  put-length : (f : Found) → length (putAt t r f) ≡ length t
+  put-length (At i) = length-row t i r
+  put-length Nothing = refl
+
+  put-head : (f : Found) → headAt (putAt t r f) ≡ headAt t
+  put-head (At i) = head-stays t i r
+  put-head Nothing = refl
+
+  put-octets : Octets t → (f : Found) → Octets (putAt t r f)
+  put-octets o (At i) = row-octets t i r o
+  put-octets o Nothing = o
+
+  pub store-length : length (store t r) ≡ length t
+  unfolding store
+  store-length = put-length (placeFor t (r .destination))
+
+  pub store-head : headAt (store t r) ≡ headAt t
+  unfolding store
+  store-head = put-head (placeFor t (r .destination))
+
+  pub store-octets : Octets t → Octets (store t r)
+  unfolding store
+  store-octets o = put-octets o (placeFor t (r .destination))
+
+module _ (t : List ℕ) (d : Address) where
+  pub freed-length : length (freed t d) ≡ length t
+  unfolding freed
+  freed-length = put-length t freeRow (findRow t d)
+
+  pub freed-head : headAt (freed t d) ≡ headAt t
+  unfolding freed
+  freed-head = put-head t freeRow (findRow t d)
+
+  pub freed-octets : Octets t → Octets (freed t d)
+  unfolding freed
+  freed-octets o = put-octets t freeRow o (findRow t d)
+
+-- ---- two rows that are stored, one after the other
+
+differs : (a b : Address) → same a b ≡ false → same b a ≡ false
+differs a b n = false-of (same b a) (λ e. true-not-false (rw (same-is b a e) (same-itself a)) n)
+
+-- Two rows of different destinations, where no more new rows are needed than rows are free, wherever those lie: both are found
+-- afterwards, and the rows of all other destinations are what they were.
+module _ (t : List ℕ) (r s : Row) (legal : Legal t) (held : isHeld (own t) r ≡ true) (fit : FitRow r)
+    (held′ : isHeld (own t) s ≡ true) (fit′ : FitRow s) (differ : same (r .destination) (s .destination) ≡ false)
+    (room : newRows (rowFor t (r .destination)) + newRows (rowFor t (s .destination)) ≤ freeRows t) where
+  room-first : newRows (rowFor t (r .destination)) ≤ freeRows t
+  room-first = omega arith
+
+  legal′ : Legal (store t r)
+  legal′ = store-legal t r legal held fit room-first
+
+  room-second : newRows (rowFor (store t r) (s .destination)) ≤ freeRows (store t r)
+  room-second =
+      let f = store-free t r legal held fit room-first in
+      rw (store-other t r legal held fit room-first (s .destination) differ) (omega arith)
+
+  held-second : isHeld (own (store t r)) s ≡ true
+  held-second = ap (λ (h : Head). isHeld (h .own) s) (store-head t r) ∙ held′
+
+  pub first-found : rowFor (store (store t r) s) (r .destination) ≡ some r
+  first-found =
+      store-other (store t r) s legal′ held-second fit′ room-second (r .destination) (differs (r .destination) (s .destination) differ)
+      ∙ store-found t r legal held fit room-first
+
+  pub second-found : rowFor (store (store t r) s) (s .destination) ≡ some s
+  second-found = store-found (store t r) s legal′ held-second fit′ room-second
+
+  pub others-stay : (d : Address) → same (r .destination) d ≡ false → same (s .destination) d ≡ false
+      → rowFor (store (store t r) s) d ≡ rowFor t d
+  others-stay d n n′ =
+      store-other (store t r) s legal′ held-second fit′ room-second d n′ ∙ store-other t r legal held fit room-first d n
+
+  pub both-legal : Legal (store (store t r) s)
+  both-legal = store-legal (store t r) s legal′ held-second fit′ room-second
+
+-- ---- a row that is freed
+
+free-fits : FitRow freeRow
+unfolding FitRow FitFields
+free-fits = omega arith
+
+free-ok : (a : Address) → rowOk a freeRow ≡ true
+unfolding rowOk isFree
+free-ok a = refl
+
+-- a free row is held for nobody
+free-holds : (t : List ℕ) (i : ℕ) → place i + 32 ≤ length t → (d : Address) → holds (putRow t i freeRow) d i ≡ false
+free-holds t i within d = here t i freeRow within free-fits d
+
+module _ (t : List ℕ) (d : Address) (legal : Legal t) where
+  -- its destination has no row
+  pub freed-gone : rowFor (freed t d) d ≡ none
+  unfolding freed rowFor
+  freed-gone = by (findRow t d) refl
+    where
+      by : (f : Found) → findRow t d ≡ f → rowFor (putAt t freeRow f) d ≡ none
+      by Nothing e = rw e
+      by (At i) e =
+          let found = found-here t d i e in
+          put-gone t i freeRow (omega arith) free-fits d (free-holds t i (omega arith) d) (found-only t d legal i e)
+
+  -- the rows of all other destinations are what they were
+  pub freed-other : (e : Address) → same d e ≡ false → rowFor (freed t d) e ≡ rowFor t e
+  unfolding freed
+  freed-other e n = by (findRow t d) refl
+    where
+      by : (f : Found) → findRow t d ≡ f → rowFor (putAt t freeRow f) e ≡ rowFor t e
+      by Nothing q = refl
+      by (At i) q =
+          let found = found-here t d i q in
+          put-other t i freeRow (omega arith) free-fits e (held-for-one t d e i (found .1) n) (free-holds t i (omega arith) e)
+
+  -- a row more is free
+  pub freed-free : freeRows (freed t d) + newRows (rowFor t d) ≡ suc (freeRows t)
+  unfolding freed rowFor
+  freed-free = by (findRow t d) refl
+    where
+      by : (f : Found) → findRow t d ≡ f → freeRows (putAt t freeRow f) + newRows (rowIn t f) ≡ suc (freeRows t)
+      by Nothing e = omega arith
+      by (At i) e =
+          let found = found-here t d i e in
+          let more = put-gives t i freeRow (omega arith) free-fits (held-row t d i (found .1) .0) refl in
+          omega arith
+
+  pub freed-legal : Legal (freed t d)
+  unfolding freed
+  freed-legal = by (findRow t d) refl
+    where
+      by : (f : Found) → findRow t d ≡ f → Legal (putAt t freeRow f)
+      by Nothing e = legal
+      by (At i) e =
+          let found = found-here t d i e in
+          put-legal t i freeRow (omega arith) free-fits legal (free-ok (own t)) (λ held. absurd (true-not-false refl held))

@@ -1,0 +1,77 @@
+-- A row whose destination is not marked stands alone. Assumes nothing.
+use Prim.Native.Nat.{ℕ, _+_, _%_, _<_}
+use mathlib.Core.Path.{_≡_, refl, sym, ap, _∙_}
+use mathlib.Core.Bool.{Bool, true, false, _&&_, _||_, not, and-false, or-true}
+use mathlib.Core.List.{List}
+use lib.ListN.{length, getD, set}
+use lib.Dec.{eqb}
+use lib.Seq.{getD-set-same, getD-set-other}
+use native.Mathlib.Nat.{not-suc-le-zero}
+use native.Mathlib.Decide.{ℕ-discrete}
+use native.Mathlib.Omega.{arith}
+use borrow.Author.Count.{below-more}
+use borrow.Author.Tests.{eqb-true, ne-eqb}
+use Rattle.table.specs.Layout.{rowAt}
+use Rattle.table.specs.Places.{first}
+use Rattle.table.specs.Table.{vacant, holds, alone}
+use Rattle.table.specs.Marks.{slot}
+use Rattle.table.proofs.Places.{first-nowhere}
+
+-- the destinations of the rows below i are marked
+pub record Marked (t seen : List ℕ) (i : ℕ) : Type 0 where
+  pub marks : (k : ℕ) → k < i → getD seen (slot t k) 0 ≡ 0 → ⊥
+
+pub slot-in : (t seen : List ℕ) (i h : ℕ) → h ≡ slot t i → length seen ≡ 1021 → h < length seen
+unfolding slot
+slot-in t seen i h e l = omega arith
+
+pub marked-none : (t seen : List ℕ) → Marked t seen 0
+marked-none t seen = record { marks = λ k l. absurd (not-suc-le-zero l) }
+
+-- a test may be spared where another implies it
+spared : (x a b : Bool) → b ≡ (x || a) → (x ≡ true → a ≡ true) → b ≡ a
+spared true a b e f = e ∙ sym (f refl)
+spared false a b e f = e
+
+pub by-mark : (m : ℕ) (a : Bool) → m ≡ 0 → true ≡ (eqb m 0 || a)
+by-mark m a e = rw e
+
+pub by-row : (m : ℕ) (a b : Bool) → (m ≡ 0 → ⊥) → b ≡ a → b ≡ (eqb m 0 || a)
+by-row m a b n e = rw (ne-eqb m 0 n) e
+
+-- a mark that is set is set, and the others stay
+set-mark : (seen : List ℕ) (h : ℕ) → h < length seen → getD (set seen h 1) h 0 ≡ 0 → ⊥
+set-mark seen h l z = omega (arith, getD-set-same seen h 1 0 l)
+
+kept-mark : (seen : List ℕ) (h x : ℕ) → h < length seen → (getD seen x 0 ≡ 0 → ⊥) → getD (set seen h 1) x 0 ≡ 0 → ⊥
+kept-mark seen h x l m z = by (ℕ-discrete x h)
+  where
+    by : Dec (x ≡ h) → ⊥
+    by (yes q) = set-mark seen h l (rw q at z)
+    by (no q) = m (sym (getD-set-other seen h x 1 0 q) ∙ z)
+
+module _ (t seen : List ℕ) (i h : ℕ) (he : h ≡ slot t i) (m : Marked t seen i) where
+  pub marked-more : length seen ≡ 1021 → Marked t (set seen h 1) (i + 1)
+  marked-more l =
+      let b = slot-in t seen i h he l in
+      record {
+        marks =
+            below-more (λ (k : ℕ). getD (set seen h 1) (slot t k) 0 ≡ 0 → ⊥) i
+            (λ k g. kept-mark seen h (slot t k) b (m .marks k g))
+            (rw (← he) (set-mark seen h b));
+      }
+
+  -- a row whose destination is not marked has another one than each row below it, and so stands alone
+  other : getD seen h 0 ≡ 0 → (k : ℕ) → k < i → holds t (rowAt t i .destination) k ≡ false
+  unfolding holds slot
+  other e k l =
+      let apart = ne-eqb (rowAt t k .destination .0) (rowAt t i .destination .0) (λ q. m .marks k l (rw (q, ← he) e)) in
+      rw apart (and-false (not (vacant t k)))
+
+  unmarked : getD seen h 0 ≡ 0 → alone t i ≡ true
+  unfolding alone
+  unmarked e = rw (first-nowhere (holds t (rowAt t i .destination)) i (other e)) (or-true (vacant t i))
+
+  -- so a test of the mark, and then of the row, says whether it does
+  pub alone-by : (b : Bool) → b ≡ (eqb (getD seen h 0) 0 || alone t i) → b ≡ alone t i
+  alone-by b be = spared (eqb (getD seen h 0) 0) (alone t i) b be (λ q. unmarked (eqb-true (getD seen h 0) 0 q))

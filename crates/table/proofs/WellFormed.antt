@@ -1,0 +1,120 @@
+-- A table by its parts, and the row of a destination by its place. Assumes nothing.
+use Prim.Native.Nat.{ℕ, _+_, _^_, _<_, _≤_}
+use mathlib.Core.Path.{_≡_, refl, sym, ap, _∙_}
+use mathlib.Core.Bool.{Bool, true, false, _&&_, _||_, not, and-eq-true-iff}
+use mathlib.Core.List.{List}
+use lib.ListN.{length}
+use lib.Dec.{eqb}
+use native.Mathlib.Decide.{ℕ-discrete}
+use native.Mathlib.Omega.{arith, ne-cases}
+use borrow.Author.Tests.{eqb-true, eq-eqb, not-true}
+use Rattle.octets.specs.LittleEndian.{zeros}
+use Rattle.octets.proofs.Laws.{number-same}
+use Rattle.table.specs.declared.address.Address.{Address}
+use Rattle.table.specs.declared.search.Found.{Found}
+use Rattle.table.specs.declared.search.Found.the-variants.{At, Nothing}
+use Rattle.table.specs.Address.{addressOf, octetsOf, same}
+use Rattle.table.specs.Row.{headOk, rowOk}
+use Rattle.table.specs.Layout.{rows, rowAt, headAt}
+use Rattle.table.specs.Places.{first, every, isNothing}
+use Rattle.table.specs.Table.{own, fits, vacant, holds, alone, isTable}
+use Rattle.table.proofs.Places.{every-at, every-of, first-not, first-nowhere}
+
+-- ---- tests
+
+pub true-not-false : {b : Bool} → b ≡ true → b ≡ false → ⊥
+true-not-false p q = let z : _≡_ {A = ℕ} 0 1 = cc in omega arith
+
+pub false-of : (b : Bool) → (b ≡ true → ⊥) → b ≡ false
+false-of true h = absurd (h refl)
+false-of false h = refl
+
+-- ---- addresses
+
+pub address-is : (a b : Address) → a .0 ≡ b .0 → a ≡ b
+address-is a b e = ap {B = Address} (λ x. record { 0 = x }) e
+
+pub same-is : (a b : Address) → same a b ≡ true → a ≡ b
+same-is a b e = address-is a b (eqb-true (a .0) (b .0) e)
+
+pub same-itself : (a : Address) → same a a ≡ true
+same-itself a = eq-eqb (a .0) (a .0) refl
+
+-- the octets of an address are read back as that address
+pub address-back : (a : Address) → a .0 < 256 ^ 6 → addressOf (octetsOf a) ≡ a
+address-back a l = address-is (addressOf (octetsOf a)) a (number-same 6 (zeros 6) 0 (a .0) (omega arith) l)
+
+-- ---- a row that is held for a destination
+
+module _ (t : List ℕ) (d : Address) (k : ℕ) where
+  pub held-row : holds t d k ≡ true → (vacant t k ≡ false) × (rowAt t k .destination ≡ d)
+  unfolding holds
+  held-row e =
+      let both = and-eq-true-iff (not (vacant t k)) (same (rowAt t k .destination) d) .0 e in
+      (not-true (vacant t k) (both .0), same-is (rowAt t k .destination) d (both .1))
+
+  pub holds-of : vacant t k ≡ false → rowAt t k .destination ≡ d → holds t d k ≡ true
+  unfolding holds
+  holds-of v e = rw (v, e) (same-itself d)
+
+-- ---- a table
+
+-- `isTable` as what it says of the head, of each row and of two rows
+pub record Legal (t : List ℕ) : Type 0 where
+  pub head : headOk (headAt t) ≡ true
+  pub row : (k : ℕ) → k < rows t → rowOk (own t) (rowAt t k) ≡ true
+  -- no destination stands twice
+  pub once : (d : Address) (j k : ℕ) → j < rows t → k < rows t → holds t d j ≡ true → holds t d k ≡ true → j ≡ k
+
+-- a held row that is alone is the first that is held for its destination
+alone-first : (t : List ℕ) (k : ℕ) → alone t k ≡ true → vacant t k ≡ false → first (holds t (rowAt t k .destination)) k ≡ Nothing
+unfolding alone
+alone-first t k a v = go (first (holds t (rowAt t k .destination)) k) refl
+  where
+    go : (f : Found) → first (holds t (rowAt t k .destination)) k ≡ f → first (holds t (rowAt t k .destination)) k ≡ Nothing
+    go Nothing e = e
+    go (At j) e = let z : _≡_ {A = ℕ} 0 1 = cc in absurd (omega arith)
+
+-- so no row before it is held for the same destination
+not-before : (t : List ℕ) (d : Address) (j k : ℕ) → alone t k ≡ true → j < k → holds t d j ≡ true → holds t d k ≡ true → ⊥
+not-before t d j k a l hj hk =
+    let row = held-row t d k hk in
+    let none = first-not (holds t (rowAt t k .destination)) k j (alone-first t k a (row .0)) l in
+    true-not-false hj (rw (row .1) at none)
+
+once-of : (t : List ℕ) → every (alone t) (rows t) ≡ true → (d : Address) (j k : ℕ) → j < rows t → k < rows t
+    → holds t d j ≡ true → holds t d k ≡ true → j ≡ k
+once-of t e d j k lj lk hj hk = by (ℕ-discrete j k)
+  where
+    by : Dec (j ≡ k) → j ≡ k
+    by (yes q) = q
+    by (no q) =
+        ne-cases j k (j ≡ k) q
+        (λ l. absurd (not-before t d j k (every-at (alone t) (rows t) k e lk) l hj hk))
+        (λ l. absurd (not-before t d k j (every-at (alone t) (rows t) j e lj) l hk hj))
+
+pub legal-of : (t : List ℕ) → isTable t ≡ true → Legal t
+unfolding isTable
+legal-of t e =
+    let two = and-eq-true-iff (headOk (headAt t) && every (fits t (own t)) (rows t)) (every (alone t) (rows t)) .0 e in
+    let one = and-eq-true-iff (headOk (headAt t)) (every (fits t (own t)) (rows t)) .0 (two .0) in
+    record {
+      head = one .0;
+      row = λ k l. every-at (fits t (own t)) (rows t) k (one .1) l;
+      once = once-of t (two .1);
+    }
+
+pub legal-is : (t : List ℕ) → Legal t → isTable t ≡ true
+unfolding isTable alone
+legal-is t h =
+    rw (h .head, every-of (fits t (own t)) (rows t) (h .row), every-of (alone t) (rows t) (λ k l. by k l (vacant t k) refl))
+  where
+    by : (k : ℕ) → k < rows t → (b : Bool) → vacant t k ≡ b → alone t k ≡ true
+    by k l true e = rw e
+    by k l false e =
+        rw (
+          e,
+          first-nowhere (holds t (rowAt t k .destination)) k
+              (λ j g. false-of (holds t (rowAt t k .destination) j)
+              (λ hj. let q = h .once (rowAt t k .destination) j k (omega arith) l hj (holds-of t (rowAt t k .destination) k e refl) in omega arith)),
+        )

@@ -1,0 +1,11 @@
+-- `table::address::Address::is_individual` meets its contract: by what its definition unfolds to. Assumes nothing.
+use Rattle.table.specs.Address.{individual}
+use Rattle.table.proofs.address.Address.is_individual.Statement.{statement}
+use Rattle.table.proofs.address.Address.is_individual.Tie as tie
+
+pub is-individual-spec : {M : Type 1} → statement M
+unfolding individual
+is-individual-spec =
+    tie.close
+    (tie.spec
+    (λ c. cc))

@@ -1,0 +1,13 @@
+-- `table::row::Head::is_ok` meets its contract: by what its definition unfolds to. Assumes nothing.
+use borrow.Author.Needs.{needs}
+use Rattle.table.specs.Row.{headOk}
+use Rattle.table.proofs.row.Head.is_ok.Statement.{statement}
+use Rattle.table.proofs.row.Head.is_ok.Tie as tie
+
+pub is-ok-spec : {M : Type 1} → statement M
+unfolding headOk
+is-ok-spec =
+    tie.close
+    (tie.spec
+    (λ c κs. search needs)
+    (λ c. cc))

@@ -1,0 +1,20 @@
+-- `table::row::read_head` meets its contract: by what its definition unfolds to. Assumes nothing.
+use borrow.Author.Needs.{needs}
+use native.Mathlib.Nat.{add-zero}
+use Rattle.octets.specs.LittleEndian.{fieldsAt}
+use Rattle.table.specs.Layout.{headAt}
+use Rattle.table.proofs.row.read_head.Statement.{statement}
+use Rattle.table.proofs.row.read_head.Tie as tie
+
+pub read-head-spec : {M : Type 1} → statement M
+unfolding headAt fieldsAt
+read-head-spec =
+    tie.close
+    (tie.spec
+    (λ c κs. search needs)
+    (λ c κs. search needs)
+    (λ c κs. search needs)
+    (λ c κs. search needs)
+    (λ c κs. search needs)
+    (λ c κs. search needs)
+    (λ c. cc))

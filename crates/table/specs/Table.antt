@@ -1,0 +1,110 @@
+-- What makes octets a table, what is to be seen of one, and what calls do to it. Assumes nothing.
+use Prim.Native.Nat.{ℕ, zero, suc}
+use mathlib.Core.Bool.{Bool, _&&_, _||_, not, cond}
+use mathlib.Core.List.{List}
+use mathlib.Core.Option.{Option, none, some}
+use lib.Dec.{eqb}
+use Rattle.counters.specs.declared.SequenceNumber.{SequenceNumber}
+use Rattle.counters.specs.declared.RequestId.{RequestId}
+use Rattle.octets.specs.LittleEndian.{zeros}
+use Rattle.table.specs.declared.address.Address.{Address}
+use Rattle.table.specs.declared.row.Row.{Row}
+use Rattle.table.specs.declared.search.Found.{Found}
+use Rattle.table.specs.declared.search.Found.the-variants.{At, Nothing}
+use Rattle.table.specs.Address.{same}
+use Rattle.table.specs.Row.{freshHead, freeRow, headOk, rowOk}
+use Rattle.table.specs.Layout.{rows, headAt, putHead, rowAt, putRow}
+use Rattle.table.specs.Places.{first, count, every, isNothing, orElse}
+
+-- ---- the head
+
+abbrev pub own : List ℕ → Address
+own t = headAt t .own
+
+abbrev pub number : List ℕ → SequenceNumber
+number t = headAt t .number
+
+abbrev pub requestId : List ℕ → RequestId
+requestId t = headAt t .request
+
+abbrev pub clock : List ℕ → ℕ
+clock t = headAt t .clock
+
+-- ---- rows by destination
+
+-- row i is free
+unfoldable pub vacant : List ℕ → ℕ → Bool
+vacant t i = eqb (rowAt t i .status) 0
+
+-- row i is held for d
+unfoldable pub holds : List ℕ → Address → ℕ → Bool
+holds t d i = not (vacant t i) && same (rowAt t i .destination) d
+
+-- the place of the row that is held for d
+unfoldable pub findRow : List ℕ → Address → Found
+findRow t d = first (holds t d) (rows t)
+
+abbrev pub rowIn : List ℕ → Found → Option Row
+rowIn t (At i) = some (rowAt t i)
+rowIn t Nothing = none
+
+-- the row that is held for d
+unfoldable pub rowFor : List ℕ → Address → Option Row
+rowFor t d = rowIn t (findRow t d)
+
+-- how many new rows a destination needs whose row this is
+abbrev pub newRows : Option Row → ℕ
+newRows (some r) = 0
+newRows none = 1
+
+-- how many rows are free, and the free row of lowest place
+unfoldable pub freeRows : List ℕ → ℕ
+freeRows t = count (vacant t) (rows t)
+
+unfoldable pub firstFree : List ℕ → Found
+firstFree t = first (vacant t) (rows t)
+
+-- ---- refusal 21: the octets are a table
+
+-- row i is free, or no row before it is held for its destination
+unfoldable pub alone : List ℕ → ℕ → Bool
+alone t i = vacant t i || isNothing (first (holds t (rowAt t i .destination)) i)
+
+abbrev pub fits : List ℕ → Address → ℕ → Bool
+fits t a i = rowOk a (rowAt t i)
+
+-- the head and each row are as they should be, and no destination stands twice
+unfoldable pub isTable : List ℕ → Bool
+isTable t = headOk (headAt t) && every (fits t (own t)) (rows t) && every (alone t) (rows t)
+
+-- ---- what calls do to a table
+
+-- n octets as a fresh table
+unfoldable pub fresh : ℕ → Address → SequenceNumber → List ℕ
+fresh n a s = putHead (zeros n) (freshHead a s)
+
+abbrev pub putAt : List ℕ → Row → Found → List ℕ
+putAt t r (At i) = putRow t i r
+putAt t r Nothing = t
+
+-- a row goes in the place of its destination's row, else in the free row of lowest place
+unfoldable pub placeFor : List ℕ → Address → Found
+placeFor t d = orElse (findRow t d) (firstFree t)
+
+unfoldable pub store : List ℕ → Row → List ℕ
+store t r = putAt t r (placeFor t (r .destination))
+
+-- the row of a destination is freed
+unfoldable pub freed : List ℕ → Address → List ℕ
+freed t d = putAt t freeRow (findRow t d)
+
+-- each held row below n is changed by f
+abbrev pub changeAt : (Row → Row) → ℕ → List ℕ → List ℕ
+changeAt f i t = cond (vacant t i) t (putRow t i (f (rowAt t i)))
+
+unfoldable pub changeBelow : (Row → Row) → ℕ → List ℕ → List ℕ
+changeBelow f zero t = t
+changeBelow f (suc n) t = changeAt f n (changeBelow f n t)
+
+unfoldable pub eachHeld : (Row → Row) → List ℕ → List ℕ
+eachHeld f t = changeBelow f (rows t) t

@@ -1,0 +1,28 @@
+// Addresses of six octets.
+ghost use mathlib.Core.Path.{_≡_};
+ghost use Rattle.table.specs.Address.{addressOf, individual, octetsOf};
+
+// Six octets as a little-endian number: the first octet is the lowest.
+pub struct Address(pub u64);
+
+pub fn read(s: &[u8; 6]) -> Address
+    ensures { λ r. ⌜ r ≡ addressOf (now (s .entry)) ⌝ }
+{
+    Address(octets::read_u48(s, 0))
+}
+
+impl Address {
+    pub fn octets(self) -> [u8; 6]
+        ensures { λ r. ⌜ r ≡ octetsOf self ⌝ }
+    {
+        let mut s = [0u8; 6];
+        octets::write_number(&mut s, 0, 6, self.0);
+        s
+    }
+
+    pub fn is_individual(self) -> bool
+        ensures { λ r. ⌜ r ≡ individual self ⌝ }
+    {
+        (self.0 % 2 == 0) & (self.0 != 0)
+    }
+}

@@ -1,0 +1,206 @@
+// The head and the rows of a table, as values and in its octets.
+use crate::address::Address;
+use counters::HopCount;
+use counters::Metric;
+use counters::RequestId;
+use counters::SequenceNumber;
+ghost use mathlib.Core.Path.{_≡_};
+ghost use Prim.Native.Nat.{_+_, _*_, _≤_};
+ghost use lib.ListN.{length};
+ghost use Rattle.table.specs.Row.{active, freeRow, freshHead, invalidated, numbered, raised, renewed};
+ghost use Rattle.table.specs.Layout.{headAt, headNumbers, place, putHead, putRow, rowAt, rowNumbers};
+
+// The fields of the head and of a row, in the order of the octets. Those called zero hold no more than that.
+pub struct Head {
+    pub own: Address,
+    pub zero2: u16,
+    pub number: SequenceNumber,
+    pub request: RequestId,
+    pub clock: u64,
+    pub zero8: u64,
+}
+
+pub struct Row {
+    pub status: u8,
+    pub known: u8,
+    pub hops: HopCount,
+    pub zero: u8,
+    pub destination: Address,
+    pub next: Address,
+    pub number: SequenceNumber,
+    pub metric: Metric,
+    pub expiry: u64,
+}
+
+impl Head {
+    // Of a fresh table.
+    pub fn fresh(own: Address, number: SequenceNumber) -> Self
+        ensures { λ r. ⌜ r ≡ freshHead own number ⌝ }
+    {
+        Head {
+            own,
+            zero2: 0,
+            number,
+            request: RequestId(0),
+            clock: 0,
+            zero8: 0,
+        }
+    }
+}
+
+impl Row {
+    pub fn free() -> Self
+        ensures { λ r. ⌜ r ≡ freeRow ⌝ }
+    {
+        Row {
+            status: 0,
+            known: 0,
+            hops: HopCount(0),
+            zero: 0,
+            destination: Address(0),
+            next: Address(0),
+            number: SequenceNumber(0),
+            metric: Metric(0),
+            expiry: 0,
+        }
+    }
+
+    pub fn is_active(self, clock: u64) -> bool
+        ensures { λ r. ⌜ r ≡ active clock self ⌝ }
+    {
+        (self.status == 1) & (clock < self.expiry)
+    }
+
+    // Valid, along this path; the number stays.
+    pub fn renewed(mut self, next: Address, metric: Metric, hops: HopCount, expiry: u64) -> Self
+        ensures { λ r. ⌜ r ≡ renewed next metric hops expiry self ⌝ }
+    {
+        self.status = 1;
+        self.next = next;
+        self.metric = metric;
+        self.hops = hops;
+        self.expiry = expiry;
+        self
+    }
+
+    // With this number, which is then known.
+    pub fn numbered(mut self, number: SequenceNumber) -> Self
+        ensures { λ r. ⌜ r ≡ numbered number self ⌝ }
+    {
+        self.known = 1;
+        self.number = number;
+        self
+    }
+
+    // No longer valid; the row stays, and with it the memory of its number.
+    pub fn invalidated(mut self) -> Self
+        ensures { λ r. ⌜ r ≡ invalidated self ⌝ }
+    {
+        self.status = 2;
+        self
+    }
+
+    // With this number, at the largest metric: only a newer number, or this one with a smaller metric, is taken again.
+    pub fn raised(mut self, number: SequenceNumber) -> Self
+        ensures { λ r. ⌜ r ≡ raised number self ⌝ }
+    {
+        self.number = number;
+        self.metric.0 = 4294967295;
+        self
+    }
+}
+
+pub fn read_head(table: &[u8]) -> Head
+    requires { ⌜ 32 ≤ length (now table) ⌝ }
+    ensures { λ r. ⌜ r ≡ headAt (now (table .entry)) ⌝ }
+{
+    Head {
+        own: Address(octets::read_u48(table, 0)),
+        zero2: octets::read_u16(table, 6),
+        number: SequenceNumber(octets::read_u32(table, 8)),
+        request: RequestId(octets::read_u32(table, 12)),
+        clock: octets::read_u64(table, 16),
+        zero8: octets::read_u64(table, 24),
+    }
+}
+
+// The numbers of a head, in the order of the octets.
+fn head_numbers(h: Head) -> [u64; 6]
+    ensures { λ r. ⌜ r ≡ headNumbers h ⌝ }
+{
+    [
+        h.own.0,
+        h.zero2 as u64,
+        h.number.0 as u64,
+        h.request.0 as u64,
+        h.clock,
+        h.zero8,
+    ]
+}
+
+pub fn write_head(table: &mut [u8], h: Head)
+    requires { ⌜ 32 ≤ length (now table) ⌝ }
+    ensures { λ _. ⌜ now (table .exit) ≡ putHead (now (table .entry)) h ⌝ }
+{
+    let widths = [6u8, 2, 4, 4, 8, 8];
+    let numbers = head_numbers(h);
+    octets::write_fields(table, 0, &widths, &numbers);
+}
+
+pub fn status_at(table: &[u8], i: usize) -> u8
+    requires { ⌜ place i + 32 ≤ length (now table) ⌝ }
+    ensures { λ r. ⌜ r ≡ rowAt (now (table .entry)) i .status ⌝ }
+{
+    octets::read_u8(table, 32 + 32 * i)
+}
+
+pub fn destination_at(table: &[u8], i: usize) -> Address
+    requires { ⌜ place i + 32 ≤ length (now table) ⌝ }
+    ensures { λ r. ⌜ r ≡ rowAt (now (table .entry)) i .destination ⌝ }
+{
+    Address(octets::read_u48(table, 32 + 32 * i + 4))
+}
+
+pub fn read_row(table: &[u8], i: usize) -> Row
+    requires { ⌜ place i + 32 ≤ length (now table) ⌝ }
+    ensures { λ r. ⌜ r ≡ rowAt (now (table .entry)) i ⌝ }
+{
+    let at = 32 + 32 * i;
+    Row {
+        status: octets::read_u8(table, at),
+        known: octets::read_u8(table, at + 1),
+        hops: HopCount(octets::read_u8(table, at + 2)),
+        zero: octets::read_u8(table, at + 3),
+        destination: Address(octets::read_u48(table, at + 4)),
+        next: Address(octets::read_u48(table, at + 10)),
+        number: SequenceNumber(octets::read_u32(table, at + 16)),
+        metric: Metric(octets::read_u32(table, at + 20)),
+        expiry: octets::read_u64(table, at + 24),
+    }
+}
+
+// The numbers of a row, in the order of the octets.
+fn row_numbers(row: Row) -> [u64; 9]
+    ensures { λ r. ⌜ r ≡ rowNumbers row ⌝ }
+{
+    [
+        row.status as u64,
+        row.known as u64,
+        row.hops.0 as u64,
+        row.zero as u64,
+        row.destination.0,
+        row.next.0,
+        row.number.0 as u64,
+        row.metric.0 as u64,
+        row.expiry,
+    ]
+}
+
+pub fn write_row(table: &mut [u8], i: usize, row: Row)
+    requires { ⌜ place i + 32 ≤ length (now table) ⌝ }
+    ensures { λ _. ⌜ now (table .exit) ≡ putRow (now (table .entry)) i row ⌝ }
+{
+    let widths = [1u8, 1, 1, 1, 6, 6, 4, 4, 8];
+    let numbers = row_numbers(row);
+    octets::write_fields(table, 32 + 32 * i, &widths, &numbers);
+}
