@@ -5,19 +5,20 @@ use lib.Dec.{eqb, leb}
 use lib.ListN.{length}
 use mathlib.Core.Path.{_≡_, refl, sym, _∙_}
 use native.Mathlib.Omega.{arith}
-use borrow.Author.Tests.{leb-true}
-use mathlib.Core.Bool.{Bool, true, false, _&&_, and-eq-true-iff}
+use borrow.Author.Tests.{leb-true, eqb-true, eq-eqb, ne-eqb}
+use mathlib.Core.Bool.{Bool, true, false, _&&_, _||_, not, and-eq-true-iff}
 use mathlib.Core.List.{List}
 use Rattle.table.specs.declared.address.Address.{Address}
 use Rattle.table.specs.declared.row.Head.{Head}
 use Rattle.table.specs.declared.row.Row.{Row}
 use Rattle.table.specs.declared.search.Found.{Found}
-use Rattle.table.specs.Row.{freeRow, headOk}
-use Rattle.table.specs.Layout.{sized, rows, place, rowAt, headAt, putRow}
+use Rattle.table.specs.Address.{individual}
+use Rattle.table.specs.Row.{freeRow, headOk, isFree, isUnnumbered, isOther, isMarked, isBounded, isHeld, rowOk}
+use Rattle.table.specs.Layout.{sized, rows, allZero, place, rowAt, headAt, putRow}
 use Rattle.table.specs.declared.search.Found.the-variants.{At, Nothing}
 use Rattle.table.proofs.Places.{first-below}
 use Rattle.table.specs.Places.{first, every, isNothing}
-use Rattle.table.specs.Table.{vacant, holds, findRow, firstFree, placeFor, store, freed, alone, fits, isTable}
+use Rattle.table.specs.Table.{vacant, holds, findRow, firstFree, placeFor, store, freed, alone, passes, isTable}
 
 both : (a b : Bool) → (a && b) ≡ true → (a ≡ true) × (b ≡ true)
 both a b = and-eq-true-iff a b .0
@@ -81,17 +82,88 @@ module _ (t : List ℕ) where
   unfolding alone
   alone-held i b r d f e no-b de fe re = cc
 
-  -- a table by its three parts, the first that fails deciding
+  -- a table by its head, and then its rows
   module _ (h : Head) (a : Bool) (he : h ≡ headAt t) (ae : a ≡ headOk h) where
     pub bad-head : a ≡ false → false ≡ isTable t
     unfolding isTable
     bad-head no-a = cc
 
-    module _ (n : ℕ) (b : Bool) (ne : n ≡ rows t) (be : b ≡ every (fits t (h .own)) n) (yes-a : a ≡ true) where
-      pub bad-row : b ≡ false → false ≡ isTable t
-      unfolding isTable
-      bad-row no-b = cc
+    pub table-is : (n : ℕ) (b : Bool) → a ≡ true → n ≡ rows t → b ≡ every (passes t (h .own)) n → b ≡ isTable t
+    unfolding isTable
+    table-is n b yes-a ne be = cc
 
-      pub table-is : (c : Bool) → b ≡ true → c ≡ every (alone t) n → c ≡ isTable t
-      unfolding isTable
-      table-is c yes-b ce = cc
+  -- row i is held for d
+  module _ (d e : Address) (i : ℕ) (ee : e ≡ rowAt t i .destination) where
+    pub holds-not : (e .0 ≡ d .0 → ⊥) → false ≡ holds t d i
+    unfolding holds
+    holds-not n = rw (← ee, ne-eqb (e .0) (d .0) n)
+
+    pub holds-if : (b : Bool) → e .0 ≡ d .0 → b ≡ vacant t i → not b ≡ holds t d i
+    unfolding holds
+    holds-if b q be = rw (← ee, eq-eqb (e .0) (d .0) q, ← be)
+
+  -- row i passes, by its mark m
+  module _ (own : Address) (i m : ℕ) (a : Bool) (ae : a ≡ rowOk own (rowAt t i)) where
+    pub row-bad : a ≡ false → false ≡ (rowOk own (rowAt t i) && (eqb m 0 || alone t i))
+    row-bad no-a = cc
+
+    module _ (yes-a : a ≡ true) where
+      pub row-unmarked : m ≡ 0 → true ≡ (rowOk own (rowAt t i) && (eqb m 0 || alone t i))
+      row-unmarked z = cc (eq-eqb m 0 z)
+
+      pub row-marked : (m ≡ 0 → ⊥) → (b : Bool) → b ≡ alone t i → b ≡ (rowOk own (rowAt t i) && (eqb m 0 || alone t i))
+      row-marked n b be = cc (ne-eqb m 0 n)
+
+-- a head by its own address, and then the rest
+module _ (h : Head) (a : Bool) (ae : a ≡ individual (h .own)) where
+  pub head-stranger : a ≡ false → false ≡ headOk h
+  unfolding headOk
+  head-stranger no-a = cc
+
+  pub head-rest : a ≡ true → (eqb (h .zero2) 0 && leb (h .clock) 281474976710655 && eqb (h .zero8) 0) ≡ headOk h
+  unfolding headOk
+  head-rest yes-a = cc
+
+-- row i is free or held
+module _ (t : List ℕ) (own : Address) (i : ℕ) (a b : Bool) (ae : a ≡ vacant t i) where
+  pub row-free : a ≡ true → b ≡ isFree (rowAt t i) → b ≡ rowOk own (rowAt t i)
+  unfolding rowOk isHeld isMarked vacant
+  row-free v e = rw e (sym (by (isFree (rowAt t i))))
+    where
+      by : (c : Bool) → (c || isHeld own (rowAt t i)) ≡ c
+      by true = refl
+      by false = rw (eqb-true (rowAt t i .status) 0 (sym ae ∙ v))
+
+  pub row-held : (r : Row) → r ≡ rowAt t i → a ≡ false → b ≡ isHeld own r → b ≡ rowOk own (rowAt t i)
+  unfolding rowOk isFree allZero vacant
+  row-held r re v e = rw (sym ae ∙ v, ← re) e
+
+-- a held row by its parts, the first that fails deciding
+module _ (own : Address) (r : Row) (a : Bool) (ae : a ≡ isMarked r) where
+  pub held-unmarked : a ≡ false → false ≡ isHeld own r
+  unfolding isHeld
+  held-unmarked no-a = cc
+
+  module _ (yes-a : a ≡ true) (b : Bool) (be : b ≡ isOther own (r .destination)) where
+    pub held-destination : b ≡ false → false ≡ isHeld own r
+    unfolding isHeld
+    held-destination no-b = cc
+
+    module _ (yes-b : b ≡ true) (c : Bool) (ce : c ≡ isOther own (r .next)) where
+      pub held-next : c ≡ false → false ≡ isHeld own r
+      unfolding isHeld
+      held-next no-c = cc
+
+      module _ (yes-c : c ≡ true) (e : Bool) (ee : e ≡ isBounded r) where
+        pub held-unbounded : e ≡ false → false ≡ isHeld own r
+        unfolding isHeld
+        held-unbounded no-e = cc
+
+        module _ (yes-e : e ≡ true) where
+          pub held-numbered : r .known ≡ 1 → true ≡ isHeld own r
+          unfolding isHeld
+          held-numbered k = cc (eq-eqb (r .known) 1 k)
+
+          pub held-unnumbered : (f : Bool) → (r .known ≡ 1 → ⊥) → f ≡ isUnnumbered r → f ≡ isHeld own r
+          unfolding isHeld
+          held-unnumbered f k fe = cc (ne-eqb (r .known) 1 k)

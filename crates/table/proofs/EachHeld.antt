@@ -18,7 +18,7 @@ use Rattle.table.specs.declared.search.Found.{Found}
 use Rattle.table.specs.declared.search.Found.the-variants.{At, Nothing}
 use Rattle.table.specs.Address.{same}
 use Rattle.table.specs.Row.{isFree, isHeld, rowOk}
-use Rattle.table.specs.Layout.{rows, place, headAt, rowAt, putRow, FitRow}
+use Rattle.table.specs.Layout.{rows, allZero, place, headAt, rowAt, putRow, FitRow}
 use Rattle.table.specs.Table.{own, vacant, holds, findRow, rowIn, rowFor, freeRows, changeAt, changeBelow, eachHeld}
 use Rattle.table.proofs.HeadAndRows.{length-row, row-same, row-other, head-stays, row-octets, row-fits}
 use Rattle.table.proofs.Places.{first-cong, count-cong}
@@ -116,7 +116,7 @@ module _ (f : Row → Row) where
         by false = keeps .destination r
 
     changed-ok : (a : Address) (r : Row) → (isHeld a r ≡ true → isHeld a (f r) ≡ true) → rowOk a r ≡ true → rowOk a (changed f r) ≡ true
-    unfolding rowOk isFree
+    unfolding rowOk isFree allZero
     changed-ok a r h ok = by (eqb (r .status) 0) refl
       where
         by : (b : Bool) → eqb (r .status) 0 ≡ b → rowOk a (cond b r (f r)) ≡ true

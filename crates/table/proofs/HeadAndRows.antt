@@ -1,17 +1,20 @@
 -- Laws of the head and the rows in the octets of a table: with these no caller looks at an octet. Assumes nothing.
-use Prim.Native.Nat.{ℕ, _+_, _*_, _≤_, _<_}
+use Prim.Native.Nat.{ℕ, _+_, _*_, _^_, _≤_, _<_}
 use mathlib.Core.Path.{_≡_, refl, sym, ap, _∙_}
 use mathlib.Core.List.{List, [], _∷_}
 use mathlib.Core.Logic.{inl, inr}
 use lib.ListN.{length}
-use native.Mathlib.Nat.{add-zero}
+use lib.Dec.{eqb}
+use mathlib.Core.Bool.{Bool, true, false, _&&_, and-eq-true-iff}
+use borrow.Author.Tests.{eqb-true, eq-eqb}
+use native.Mathlib.Nat.{add-zero, add-assoc}
 use native.Mathlib.Omega.{arith, ne-cases}
 use Rattle.octets.specs.LittleEndian.{numberAt, fieldsAt, total, zeros, Octets}
-use Rattle.octets.proofs.Laws.{length-fields, fields-same, fields-other, fields-back, fields-fit, fields-zero, octets-fields}
+use Rattle.octets.proofs.Laws.{split, length-fields, fields-same, fields-other, fields-back, fields-fit, fields-zero, octets-fields}
 use Rattle.table.specs.declared.row.Head.{Head}
 use Rattle.table.specs.declared.row.Row.{Row}
-use Rattle.table.specs.Row.{freeRow}
-use Rattle.table.specs.Layout.{rows, place, rowWidths, headWidths, rowOf, headOf, rowNumbers, headNumbers, rowAt, headAt, putRow, putHead, FitRow, FitHead}
+use Rattle.table.specs.Row.{freeRow, isFree}
+use Rattle.table.specs.Layout.{allZero, place, rowWidths, headWidths, rowOf, headOf, rowNumbers, headNumbers, rowAt, headAt, putRow, putHead, FitRow, FitHead}
 
 -- the row at i, field by field
 pub read : (t : List ℕ) (i : ℕ) {a b c d e f g h k : ℕ}
@@ -88,3 +91,89 @@ head-fits t o = fields-fit headWidths t 0 0 o
 pub row-zero : (n i : ℕ) → rowAt (zeros n) i ≡ freeRow
 unfolding rowAt
 row-zero n i = ap rowOf (fields-zero rowWidths n (place i) 0)
+
+-- ---- a row that is zero, eight octets at a time
+
+both-ways : (x y : Bool) → (x ≡ true → y ≡ true) → (y ≡ true → x ≡ true) → x ≡ y
+both-ways true y f g = sym (f refl)
+both-ways false true f g = g refl
+both-ways false false f g = refl
+
+zero-nil : allZero [] ≡ true
+unfolding allZero
+zero-nil = refl
+
+zero-cons : (x : ℕ) (xs : List ℕ) → x ≡ 0 → allZero xs ≡ true → allZero (x ∷ xs) ≡ true
+unfolding allZero
+zero-cons x xs z h = rw (eq-eqb x 0 z) h
+
+zero-parts : (x : ℕ) (xs : List ℕ) → allZero (x ∷ xs) ≡ true → (x ≡ 0) × (allZero xs ≡ true)
+unfolding allZero
+zero-parts x xs e = let both = and-eq-true-iff (eqb x 0) (allZero xs) .0 e in (eqb-true x 0 (both .0), both .1)
+
+-- `split`, with the offset apart from the place
+split-from : (m n : ℕ) (t : List ℕ) (p o : ℕ) → numberAt (m + n) t (p + o) ≡ numberAt m t (p + o) + 256 ^ m * numberAt n t (p + (o + m))
+split-from m n t p o = split m n t (p + o) ∙ ap (λ (q : ℕ). numberAt m t (p + o) + 256 ^ m * numberAt n t q) (add-assoc p o m)
+
+module _ (t : List ℕ) (i : ℕ) {a b c d : ℕ} (ae : a ≡ numberAt 8 t (place i)) (be : b ≡ numberAt 8 t (place i + 8))
+    (ce : c ≡ numberAt 8 t (place i + 16)) (de : d ≡ numberAt 8 t (place i + 24)) where
+  -- the field of n octets at offset o
+  part : ℕ → ℕ → ℕ
+  part n o = numberAt n t (place i + o)
+
+  -- the four numbers by the row's fields, where the destination spans two of them
+  first-eight : a ≡ part 1 0 + 256 * part 1 1 + 65536 * part 1 2 + 16777216 * part 1 3 + 4294967296 * part 4 4
+  unfolding part
+  first-eight =
+      let start : a ≡ numberAt 8 t (place i + 0) = rw (add-zero (place i)) ae in
+      omega (arith, split-from 4 4 t (place i) 0, split-from 2 2 t (place i) 0, split-from 1 1 t (place i) 0, split-from 1 1 t (place i) 2)
+
+  second-eight : b ≡ part 2 8 + 65536 * part 6 10
+  unfolding part
+  second-eight = omega (arith, split-from 2 6 t (place i) 8)
+
+  third-eight : c ≡ part 4 16 + 4294967296 * part 4 20
+  unfolding part
+  third-eight = omega (arith, split-from 4 4 t (place i) 16)
+
+  destination : part 6 4 ≡ part 4 4 + 4294967296 * part 2 8
+  unfolding part
+  destination = omega (arith, split-from 4 2 t (place i) 4)
+
+  free-of : a ≡ 0 → b ≡ 0 → c ≡ 0 → d ≡ 0 → isFree (rowAt t i) ≡ true
+  unfolding isFree rowAt fieldsAt part
+  free-of a0 b0 c0 d0 =
+      let p = first-eight in
+      let q = second-eight in
+      let r = third-eight in
+      let s = destination in
+      zero-cons _ _ (omega arith) (zero-cons _ _ (omega arith) (zero-cons _ _ (omega arith) (zero-cons _ _ (omega arith) (zero-cons _ _ (omega arith)
+      (zero-cons _ _ (omega arith) (zero-cons _ _ (omega arith) (zero-cons _ _ (omega arith) (zero-cons _ _ (omega arith) zero-nil))))))))
+
+  zero-of : isFree (rowAt t i) ≡ true → (a ≡ 0) × (b ≡ 0) × (c ≡ 0) × (d ≡ 0)
+  unfolding isFree rowAt fieldsAt part
+  zero-of e =
+      let f₁ = zero-parts _ _ e in
+      let f₂ = zero-parts _ _ (f₁ .1) in
+      let f₃ = zero-parts _ _ (f₂ .1) in
+      let f₄ = zero-parts _ _ (f₃ .1) in
+      let f₅ = zero-parts _ _ (f₄ .1) in
+      let f₆ = zero-parts _ _ (f₅ .1) in
+      let f₇ = zero-parts _ _ (f₆ .1) in
+      let f₈ = zero-parts _ _ (f₇ .1) in
+      let f₉ = zero-parts _ _ (f₈ .1) in
+      let p = first-eight in
+      let q = second-eight in
+      let r = third-eight in
+      let s = destination in
+      (omega arith, omega arith, omega arith, omega arith)
+
+  pub blank : (eqb a 0 && eqb b 0 && eqb c 0 && eqb d 0) ≡ isFree (rowAt t i)
+  blank =
+      both-ways (eqb a 0 && eqb b 0 && eqb c 0 && eqb d 0) (isFree (rowAt t i))
+      (λ e.
+      let f₃ = and-eq-true-iff (eqb a 0 && eqb b 0 && eqb c 0) (eqb d 0) .0 e in
+      let f₂ = and-eq-true-iff (eqb a 0 && eqb b 0) (eqb c 0) .0 (f₃ .0) in
+      let f₁ = and-eq-true-iff (eqb a 0) (eqb b 0) .0 (f₂ .0) in
+      free-of (eqb-true a 0 (f₁ .0)) (eqb-true b 0 (f₁ .1)) (eqb-true c 0 (f₂ .1)) (eqb-true d 0 (f₃ .1)))
+      (λ e. let z = zero-of e in rw (eq-eqb a 0 (z .0), eq-eqb b 0 (z .1), eq-eqb c 0 (z .2), eq-eqb d 0 (z .3)))

@@ -1,7 +1,7 @@
 -- A table after its head is put, and a fresh table. Assumes nothing.
 use Prim.Native.Nat.{ℕ, _^_, _<_, _≤_}
 use mathlib.Core.Path.{_≡_, refl, sym, ap, _∙_}
-use mathlib.Core.Bool.{Bool, true, false, _&&_, not}
+use mathlib.Core.Bool.{Bool, true, false, _&&_, not, and-false}
 use mathlib.Core.List.{List}
 use mathlib.Core.Option.{Option, none, some}
 use lib.ListN.{length, length-replicate}
@@ -17,7 +17,7 @@ use Rattle.table.specs.declared.search.Found.{Found}
 use Rattle.table.specs.declared.search.Found.the-variants.{At, Nothing}
 use Rattle.table.specs.Address.{individual, same}
 use Rattle.table.specs.Row.{freshHead, freeRow, headOk, isFree, rowOk}
-use Rattle.table.specs.Layout.{rows, headAt, putHead, rowAt, FitHead}
+use Rattle.table.specs.Layout.{rows, allZero, headAt, putHead, rowAt, FitHead}
 use Rattle.table.specs.Table.{own, vacant, holds, findRow, rowIn, rowFor, freeRows, isTable, fresh}
 use Rattle.table.proofs.HeadAndRows.{length-head, head-same, row-stays, head-octets, row-zero}
 use Rattle.table.proofs.Places.{first-cong, first-nowhere, count-cong, count-all}
@@ -87,7 +87,7 @@ module _ (n : ℕ) (a : Address) (s : SequenceNumber) where
 
   fresh-holds : (d : Address) (k : ℕ) → holds (fresh n a s) d k ≡ false
   unfolding holds
-  fresh-holds d k = rw (fresh-vacant k)
+  fresh-holds d k = rw (fresh-vacant k) (and-false (same (rowAt (fresh n a s) k .destination) d))
 
   pub fresh-none : (d : Address) → rowFor (fresh n a s) d ≡ none
   unfolding rowFor findRow
@@ -104,7 +104,7 @@ module _ (n : ℕ) (a : Address) (s : SequenceNumber) where
 
     -- a fresh table passes refusal 21
     pub fresh-legal : individual a ≡ true → Legal (fresh n a s)
-    unfolding headOk rowOk isFree
+    unfolding headOk rowOk isFree allZero
     fresh-legal one =
         record {
           head = rw (fresh-head, one);

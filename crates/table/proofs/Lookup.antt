@@ -16,8 +16,8 @@ use Rattle.table.specs.declared.search.Found.{Found}
 use Rattle.table.specs.declared.search.Found.the-variants.{At, Nothing}
 use Rattle.octets.specs.LittleEndian.{FitFields, Octets}
 use Rattle.table.specs.Address.{same}
-use Rattle.table.specs.Row.{freeRow, isFree, isHeld, rowOk}
-use Rattle.table.specs.Layout.{rows, place, headAt, rowAt, putRow, FitRow}
+use Rattle.table.specs.Row.{freeRow, isFree, isMarked, isHeld, rowOk}
+use Rattle.table.specs.Layout.{rows, allZero, place, headAt, rowAt, putRow, FitRow}
 use Rattle.table.specs.Places.{first, count}
 use Rattle.table.specs.Table.{own, vacant, holds, findRow, firstFree, rowIn, rowFor, newRows, freeRows, placeFor, putAt, store, freed}
 use Rattle.table.proofs.HeadAndRows.{length-row, row-same, row-other, head-stays, row-octets}
@@ -45,7 +45,7 @@ module _ (t : List ℕ) (d : Address) where
 
 module _ (t : List ℕ) (i : ℕ) (r : Row) (within : place i + 32 ≤ length t) (fit : FitRow r) where
   -- what row i now says
-  here : (d : Address) → holds (putRow t i r) d i ≡ (not (eqb (r .status) 0) && same (r .destination) d)
+  here : (d : Address) → holds (putRow t i r) d i ≡ (same (r .destination) d && not (eqb (r .status) 0))
   unfolding holds vacant
   here d = rw (row-same t i r within fit)
 
@@ -175,7 +175,7 @@ record Spot (t : List ℕ) (d : Address) : Type 0 where
 -- a free row is held for nobody
 vacant-holds : (t : List ℕ) (d : Address) (i : ℕ) → vacant t i ≡ true → holds t d i ≡ false
 unfolding holds
-vacant-holds t d i v = rw v
+vacant-holds t d i v = rw v (and-false (same (rowAt t i .destination) d))
 
 -- a held row is held for one destination
 held-for-one : (t : List ℕ) (d e : Address) (i : ℕ) → holds t d i ≡ true → same d e ≡ false → holds t e i ≡ false
@@ -222,7 +222,7 @@ spot t d legal room = go (findRow t d) refl (firstFree t) refl
 -- ---- a row that is stored
 
 pub held-status : (a : Address) (r : Row) → isHeld a r ≡ true → eqb (r .status) 0 ≡ false
-unfolding isHeld
+unfolding isHeld isMarked
 held-status a r e = false-of (eqb (r .status) 0) (λ z. true-not-false (rw (eqb-true (r .status) 0 z) at e) refl)
 
 held-ok : (a : Address) (r : Row) → isHeld a r ≡ true → rowOk a r ≡ true
@@ -258,7 +258,7 @@ module _ (t : List ℕ) (r : Row) (legal : Legal t) (held : isHeld (own t) r ≡
   store-other d n =
       rw stored
       (put-other t (place-of .at) r inside fit d (place-of .apart d n)
-      (here t (place-of .at) r inside fit d ∙ rw n (and-false (not (eqb (r .status) 0)))))
+      (here t (place-of .at) r inside fit d ∙ rw n))
 
   -- a new row takes one of the free rows
   pub store-free : freeRows (store t r) + newRows (rowFor t (r .destination)) ≡ freeRows t
@@ -360,12 +360,12 @@ unfolding FitRow FitFields
 free-fits = omega arith
 
 free-ok : (a : Address) → rowOk a freeRow ≡ true
-unfolding rowOk isFree
+unfolding rowOk isFree allZero
 free-ok a = refl
 
 -- a free row is held for nobody
 free-holds : (t : List ℕ) (i : ℕ) → place i + 32 ≤ length t → (d : Address) → holds (putRow t i freeRow) d i ≡ false
-free-holds t i within d = here t i freeRow within free-fits d
+free-holds t i within d = here t i freeRow within free-fits d ∙ and-false (same (freeRow .destination) d)
 
 module _ (t : List ℕ) (d : Address) (legal : Legal t) where
   -- its destination has no row

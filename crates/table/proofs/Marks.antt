@@ -1,7 +1,7 @@
 -- A row whose destination is not marked stands alone. Assumes nothing.
 use Prim.Native.Nat.{ℕ, _+_, _%_, _<_}
 use mathlib.Core.Path.{_≡_, refl, sym, ap, _∙_}
-use mathlib.Core.Bool.{Bool, true, false, _&&_, _||_, not, and-false, or-true}
+use mathlib.Core.Bool.{Bool, true, false, _&&_, _||_, not, or-true}
 use mathlib.Core.List.{List}
 use lib.ListN.{length, getD, set}
 use lib.Dec.{eqb}
@@ -13,7 +13,9 @@ use borrow.Author.Count.{below-more}
 use borrow.Author.Tests.{eqb-true, ne-eqb}
 use Rattle.table.specs.Layout.{rowAt}
 use Rattle.table.specs.Places.{first}
-use Rattle.table.specs.Table.{vacant, holds, alone}
+use Rattle.table.specs.Table.{vacant, holds, alone, passes}
+use Rattle.table.specs.Row.{rowOk}
+use Rattle.table.specs.declared.address.Address.{Address}
 use Rattle.table.specs.Marks.{slot}
 use Rattle.table.proofs.Places.{first-nowhere}
 
@@ -29,15 +31,9 @@ pub marked-none : (t seen : List ℕ) → Marked t seen 0
 marked-none t seen = record { marks = λ k l. absurd (not-suc-le-zero l) }
 
 -- a test may be spared where another implies it
-spared : (x a b : Bool) → b ≡ (x || a) → (x ≡ true → a ≡ true) → b ≡ a
-spared true a b e f = e ∙ sym (f refl)
-spared false a b e f = e
-
-pub by-mark : (m : ℕ) (a : Bool) → m ≡ 0 → true ≡ (eqb m 0 || a)
-by-mark m a e = rw e
-
-pub by-row : (m : ℕ) (a b : Bool) → (m ≡ 0 → ⊥) → b ≡ a → b ≡ (eqb m 0 || a)
-by-row m a b n e = rw (ne-eqb m 0 n) e
+spared : (x a : Bool) → (x ≡ true → a ≡ true) → (x || a) ≡ a
+spared true a f = sym (f refl)
+spared false a f = refl
 
 -- a mark that is set is set, and the others stay
 set-mark : (seen : List ℕ) (h : ℕ) → h < length seen → getD (set seen h 1) h 0 ≡ 0 → ⊥
@@ -66,12 +62,13 @@ module _ (t seen : List ℕ) (i h : ℕ) (he : h ≡ slot t i) (m : Marked t see
   unfolding holds slot
   other e k l =
       let apart = ne-eqb (rowAt t k .destination .0) (rowAt t i .destination .0) (λ q. m .marks k l (rw (q, ← he) e)) in
-      rw apart (and-false (not (vacant t k)))
+      rw apart
 
   unmarked : getD seen h 0 ≡ 0 → alone t i ≡ true
   unfolding alone
   unmarked e = rw (first-nowhere (holds t (rowAt t i .destination)) i (other e)) (or-true (vacant t i))
 
-  -- so a test of the mark, and then of the row, says whether it does
-  pub alone-by : (b : Bool) → b ≡ (eqb (getD seen h 0) 0 || alone t i) → b ≡ alone t i
-  alone-by b be = spared (eqb (getD seen h 0) 0) (alone t i) b be (λ q. unmarked (eqb-true (getD seen h 0) 0 q))
+  -- so a test of the mark spares that of the rows before
+  pub passes-by : (a : Address) (b : Bool) → b ≡ (rowOk a (rowAt t i) && (eqb (getD seen h 0) 0 || alone t i)) → b ≡ passes t a i
+  passes-by a b be =
+      be ∙ ap (_&&_ (rowOk a (rowAt t i))) (spared (eqb (getD seen h 0) 0) (alone t i) (λ q. unmarked (eqb-true (getD seen h 0) 0 q)))

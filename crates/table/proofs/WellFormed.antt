@@ -17,7 +17,7 @@ use Rattle.table.specs.Address.{addressOf, octetsOf, same}
 use Rattle.table.specs.Row.{headOk, rowOk}
 use Rattle.table.specs.Layout.{rows, rowAt, headAt}
 use Rattle.table.specs.Places.{first, every, isNothing}
-use Rattle.table.specs.Table.{own, fits, vacant, holds, alone, isTable}
+use Rattle.table.specs.Table.{own, vacant, holds, alone, passes, isTable}
 use Rattle.table.proofs.Places.{every-at, every-of, first-not, first-nowhere}
 
 -- ---- tests
@@ -50,12 +50,12 @@ module _ (t : List ℕ) (d : Address) (k : ℕ) where
   pub held-row : holds t d k ≡ true → (vacant t k ≡ false) × (rowAt t k .destination ≡ d)
   unfolding holds
   held-row e =
-      let both = and-eq-true-iff (not (vacant t k)) (same (rowAt t k .destination) d) .0 e in
-      (not-true (vacant t k) (both .0), same-is (rowAt t k .destination) d (both .1))
+      let both = and-eq-true-iff (same (rowAt t k .destination) d) (not (vacant t k)) .0 e in
+      (not-true (vacant t k) (both .1), same-is (rowAt t k .destination) d (both .0))
 
   pub holds-of : vacant t k ≡ false → rowAt t k .destination ≡ d → holds t d k ≡ true
   unfolding holds
-  holds-of v e = rw (v, e) (same-itself d)
+  holds-of v e = rw (v, e, same-itself d)
 
 -- ---- a table
 
@@ -82,7 +82,11 @@ not-before t d j k a l hj hk =
     let none = first-not (holds t (rowAt t k .destination)) k j (alone-first t k a (row .0)) l in
     true-not-false hj (rw (row .1) at none)
 
-once-of : (t : List ℕ) → every (alone t) (rows t) ≡ true → (d : Address) (j k : ℕ) → j < rows t → k < rows t
+-- what passes at a place
+row-passes : (t : List ℕ) (k : ℕ) → every (passes t (own t)) (rows t) ≡ true → k < rows t → (rowOk (own t) (rowAt t k) ≡ true) × (alone t k ≡ true)
+row-passes t k e l = and-eq-true-iff (rowOk (own t) (rowAt t k)) (alone t k) .0 (every-at (passes t (own t)) (rows t) k e l)
+
+once-of : (t : List ℕ) → every (passes t (own t)) (rows t) ≡ true → (d : Address) (j k : ℕ) → j < rows t → k < rows t
     → holds t d j ≡ true → holds t d k ≡ true → j ≡ k
 once-of t e d j k lj lk hj hk = by (ℕ-discrete j k)
   where
@@ -90,31 +94,25 @@ once-of t e d j k lj lk hj hk = by (ℕ-discrete j k)
     by (yes q) = q
     by (no q) =
         ne-cases j k (j ≡ k) q
-        (λ l. absurd (not-before t d j k (every-at (alone t) (rows t) k e lk) l hj hk))
-        (λ l. absurd (not-before t d k j (every-at (alone t) (rows t) j e lj) l hk hj))
+        (λ l. absurd (not-before t d j k (row-passes t k e lk .1) l hj hk))
+        (λ l. absurd (not-before t d k j (row-passes t j e lj .1) l hk hj))
 
 pub legal-of : (t : List ℕ) → isTable t ≡ true → Legal t
 unfolding isTable
 legal-of t e =
-    let two = and-eq-true-iff (headOk (headAt t) && every (fits t (own t)) (rows t)) (every (alone t) (rows t)) .0 e in
-    let one = and-eq-true-iff (headOk (headAt t)) (every (fits t (own t)) (rows t)) .0 (two .0) in
-    record {
-      head = one .0;
-      row = λ k l. every-at (fits t (own t)) (rows t) k (one .1) l;
-      once = once-of t (two .1);
-    }
+    let both = and-eq-true-iff (headOk (headAt t)) (every (passes t (own t)) (rows t)) .0 e in
+    record { head = both .0; row = λ k l. row-passes t k (both .1) l .0; once = once-of t (both .1) }
 
 pub legal-is : (t : List ℕ) → Legal t → isTable t ≡ true
 unfolding isTable alone
-legal-is t h =
-    rw (h .head, every-of (fits t (own t)) (rows t) (h .row), every-of (alone t) (rows t) (λ k l. by k l (vacant t k) refl))
+legal-is t h = rw (h .head, every-of (passes t (own t)) (rows t) (λ k l. rw (h .row k l) (by k l (vacant t k) refl)))
   where
     by : (k : ℕ) → k < rows t → (b : Bool) → vacant t k ≡ b → alone t k ≡ true
     by k l true e = rw e
     by k l false e =
+        let d = rowAt t k .destination in
         rw (
           e,
-          first-nowhere (holds t (rowAt t k .destination)) k
-              (λ j g. false-of (holds t (rowAt t k .destination) j)
-              (λ hj. let q = h .once (rowAt t k .destination) j k (omega arith) l hj (holds-of t (rowAt t k .destination) k e refl) in omega arith)),
+          first-nowhere (holds t d) k
+              (λ j g. false-of (holds t d j) (λ hj. let q = h .once d j k (omega arith) l hj (holds-of t d k e refl) in omega arith)),
         )

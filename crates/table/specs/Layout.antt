@@ -1,6 +1,6 @@
 -- Where the head and the rows stand in the octets of a table. Assumes nothing.
 use Prim.Native.Nat.{ℕ, _+_, _-_, _*_, _/_, _%_}
-use mathlib.Core.Bool.{Bool, _&&_}
+use mathlib.Core.Bool.{Bool, true, _&&_}
 use mathlib.Core.List.{List, [], _∷_}
 use lib.ListN.{length, getD}
 use lib.Dec.{eqb, leb}
@@ -63,6 +63,10 @@ rowOf xs =
 abbrev pub rowNumbers : Row → List ℕ
 rowNumbers r =
     r .status ∷ r .known ∷ r .hops .0 ∷ r .zero ∷ r .destination .0 ∷ r .next .0 ∷ r .number .0 ∷ r .metric .0 ∷ r .expiry ∷ []
+
+unfoldable pub allZero : List ℕ → Bool
+allZero [] = true
+allZero (x ∷ xs) = eqb x 0 && allZero xs
 
 -- where row i begins
 abbrev pub place : ℕ → ℕ

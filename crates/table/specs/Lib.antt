@@ -1,6 +1,6 @@
 pub mod Address
-pub mod Row
 pub mod Layout
+pub mod Row
 pub mod Places
 pub mod Table
 pub mod Marks

@@ -10,6 +10,7 @@ use Rattle.table.specs.declared.address.Address.{Address}
 use Rattle.table.specs.declared.row.Head.{Head}
 use Rattle.table.specs.declared.row.Row.{Row}
 use Rattle.table.specs.Address.{individual, same}
+use Rattle.table.specs.Layout.{allZero, rowNumbers}
 
 -- ---- the head
 
@@ -18,7 +19,7 @@ abbrev pub freshHead : Address → SequenceNumber → Head
 freshHead own number = record { own = own; zero2 = 0; number = number; request = record { 0 = 0 }; clock = 0; zero8 = 0 }
 
 unfoldable pub headOk : Head → Bool
-headOk h = individual (h .own) && eqb (h .zero2) 0 && leb (h .clock) (2 ^ 48 - 1) && eqb (h .zero8) 0
+headOk h = individual (h .own) && (eqb (h .zero2) 0 && leb (h .clock) (2 ^ 48 - 1) && eqb (h .zero8) 0)
 
 -- ---- rows
 
@@ -38,21 +39,28 @@ freeRow =
 
 -- a free row is all zero
 unfoldable pub isFree : Row → Bool
-isFree r =
-    eqb (r .status) 0 && eqb (r .known) 0 && eqb (r .hops .0) 0 && eqb (r .zero) 0 && eqb (r .destination .0) 0
-    && eqb (r .next .0) 0 && eqb (r .number .0) 0 && eqb (r .metric .0) 0 && eqb (r .expiry) 0
+isFree r = allZero (rowNumbers r)
 
 -- with number known 0: number 0, hop count 1, next hop equal to destination
 unfoldable pub isUnnumbered : Row → Bool
 isUnnumbered r = eqb (r .number .0) 0 && eqb (r .hops .0) 1 && same (r .next) (r .destination)
 
+-- an individual address other than the own one
+unfoldable pub isOther : Address → Address → Bool
+isOther own a = individual a && not (same a own)
+
+-- status 1 or 2, number known 0 or 1, and zero
+unfoldable pub isMarked : Row → Bool
+isMarked r = leb 1 (r .status) && leb (r .status) 2 && leb (r .known) 1 && eqb (r .zero) 0
+
+-- metric at least 1, and expiry at most 2^48 + 2^32
+unfoldable pub isBounded : Row → Bool
+isBounded r = leb 1 (r .metric .0) && leb (r .expiry) (2 ^ 48 + 2 ^ 32)
+
 -- a held row of the point with address own
 unfoldable pub isHeld : Address → Row → Bool
 isHeld own r =
-    leb 1 (r .status) && leb (r .status) 2 && leb (r .known) 1 && eqb (r .zero) 0
-    && individual (r .destination) && not (same (r .destination) own)
-    && individual (r .next) && not (same (r .next) own)
-    && leb 1 (r .metric .0) && leb (r .expiry) (2 ^ 48 + 2 ^ 32)
+    isMarked r && isOther own (r .destination) && isOther own (r .next) && isBounded r
     && (eqb (r .known) 1 || isUnnumbered r)
 
 unfoldable pub rowOk : Address → Row → Bool

@@ -38,7 +38,7 @@ vacant t i = eqb (rowAt t i .status) 0
 
 -- row i is held for d
 unfoldable pub holds : List ℕ → Address → ℕ → Bool
-holds t d i = not (vacant t i) && same (rowAt t i .destination) d
+holds t d i = same (rowAt t i .destination) d && not (vacant t i)
 
 -- the place of the row that is held for d
 unfoldable pub findRow : List ℕ → Address → Found
@@ -70,12 +70,13 @@ firstFree t = first (vacant t) (rows t)
 unfoldable pub alone : List ℕ → ℕ → Bool
 alone t i = vacant t i || isNothing (first (holds t (rowAt t i .destination)) i)
 
-abbrev pub fits : List ℕ → Address → ℕ → Bool
-fits t a i = rowOk a (rowAt t i)
+-- row i is as it should be in the table of the point with address a
+abbrev pub passes : List ℕ → Address → ℕ → Bool
+passes t a i = rowOk a (rowAt t i) && alone t i
 
 -- the head and each row are as they should be, and no destination stands twice
 unfoldable pub isTable : List ℕ → Bool
-isTable t = headOk (headAt t) && every (fits t (own t)) (rows t) && every (alone t) (rows t)
+isTable t = headOk (headAt t) && every (passes t (own t)) (rows t)
 
 -- ---- what calls do to a table
 

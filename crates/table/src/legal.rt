@@ -5,14 +5,14 @@ use crate::row::Head;
 use crate::row::Row;
 use crate::search;
 ghost use mathlib.Core.Path.{_≡_};
-ghost use mathlib.Core.Bool.{_||_};
+ghost use mathlib.Core.Bool.{_&&_, _||_};
 ghost use Prim.Native.Nat.{_+_, _*_, _≤_};
 ghost use lib.ListN.{length};
 ghost use lib.Dec.{eqb};
-ghost use Rattle.table.specs.Row.{headOk, isFree, isHeld, isUnnumbered, rowOk};
-ghost use Rattle.table.specs.Layout.{place, sized};
+ghost use Rattle.table.specs.Row.{headOk, isBounded, isFree, isHeld, isMarked, isOther, isUnnumbered, rowOk};
+ghost use Rattle.table.specs.Layout.{place, rowAt, sized};
 ghost use Rattle.table.specs.Places.{every};
-ghost use Rattle.table.specs.Table.{alone, fits, isTable};
+ghost use Rattle.table.specs.Table.{alone, isTable, passes};
 ghost use Rattle.table.specs.Marks.{slot};
 
 pub fn is_sized(table: &[u8]) -> bool
@@ -21,80 +21,89 @@ pub fn is_sized(table: &[u8]) -> bool
     (table.len() % 32 == 0) & (64 <= table.len()) & (table.len() <= 4128)
 }
 
+impl Address {
+    fn is_other(self, own: Address) -> bool
+        ensures { λ r. ⌜ r ≡ isOther own self ⌝ }
+    {
+        self.is_individual() & (self.0 != own.0)
+    }
+}
+
 impl Head {
     fn is_ok(self) -> bool
         ensures { λ r. ⌜ r ≡ headOk self ⌝ }
     {
-        self.own.is_individual()
-            & (self.zero2 == 0)
-            & (self.clock <= 281474976710655)
-            & (self.zero8 == 0)
+        let own = self.own;
+        if !own.is_individual() {
+            return false;
+        }
+        (self.zero2 == 0) & (self.clock <= 281474976710655) & (self.zero8 == 0)
     }
 }
 
 impl Row {
-    fn is_free(self) -> bool
-        ensures { λ r. ⌜ r ≡ isFree self ⌝ }
-    {
-        (self.status == 0)
-            & (self.known == 0)
-            & (self.hops.0 == 0)
-            & (self.zero == 0)
-            & (self.destination.0 == 0)
-            & (self.next.0 == 0)
-            & (self.number.0 == 0)
-            & (self.metric.0 == 0)
-            & (self.expiry == 0)
-    }
-
     fn is_unnumbered(self) -> bool
         ensures { λ r. ⌜ r ≡ isUnnumbered self ⌝ }
     {
         (self.number.0 == 0) & (self.hops.0 == 1) & (self.next.0 == self.destination.0)
     }
 
+    fn is_marked(self) -> bool
+        ensures { λ r. ⌜ r ≡ isMarked self ⌝ }
+    {
+        (1 <= self.status) & (self.status <= 2) & (self.known <= 1) & (self.zero == 0)
+    }
+
+    fn is_bounded(self) -> bool
+        ensures { λ r. ⌜ r ≡ isBounded self ⌝ }
+    {
+        (1 <= self.metric.0) & (self.expiry <= 281479271677952)
+    }
+
     fn is_held(self, own: Address) -> bool
         ensures { λ r. ⌜ r ≡ isHeld own self ⌝ }
     {
-        (1 <= self.status)
-            & (self.status <= 2)
-            & (self.known <= 1)
-            & (self.zero == 0)
-            & self.destination.is_individual()
-            & (self.destination.0 != own.0)
-            & self.next.is_individual()
-            & (self.next.0 != own.0)
-            & (1 <= self.metric.0)
-            & (self.expiry <= 281479271677952)
-            & ((self.known == 1) | self.is_unnumbered())
-    }
-
-    fn is_ok(self, own: Address) -> bool
-        ensures { λ r. ⌜ r ≡ rowOk own self ⌝ }
-    {
-        self.is_free() | self.is_held(own)
-    }
-}
-
-fn row_fits(table: &[u8], own: Address, i: usize) -> bool
-    requires { ⌜ place i + 32 ≤ length (now table) ⌝ }
-    ensures { λ r. ⌜ r ≡ fits (now (table .entry)) own i ⌝ }
-{
-    row::read_row(table, i).is_ok(own)
-}
-
-fn rows_fit(table: &[u8], own: Address, n: usize) -> bool
-    requires { ⌜ place n ≤ length (now table) ⌝ }
-    ensures { λ r. ⌜ r ≡ every (fits (now (table .entry)) own) n ⌝ }
-{
-    let mut i = 0;
-    while i < n {
-        if !row_fits(table, own, i) {
+        if !self.is_marked() {
             return false;
         }
-        i += 1;
+        let destination = self.destination;
+        if !destination.is_other(own) {
+            return false;
+        }
+        let next = self.next;
+        if !next.is_other(own) {
+            return false;
+        }
+        if !self.is_bounded() {
+            return false;
+        }
+        if self.known == 1 {
+            return true;
+        }
+        self.is_unnumbered()
     }
-    true
+}
+
+// Whether row i is all zero, eight octets at a time.
+fn is_blank(table: &[u8], i: usize) -> bool
+    requires { ⌜ place i + 32 ≤ length (now table) ⌝ }
+    ensures { λ r. ⌜ r ≡ isFree (rowAt (now (table .entry)) i) ⌝ }
+{
+    let at = 32 + 32 * i;
+    (octets::read_u64(table, at) == 0)
+        & (octets::read_u64(table, at + 8) == 0)
+        & (octets::read_u64(table, at + 16) == 0)
+        & (octets::read_u64(table, at + 24) == 0)
+}
+
+fn is_row(table: &[u8], own: Address, i: usize) -> bool
+    requires { ⌜ place i + 32 ≤ length (now table) ⌝ }
+    ensures { λ r. ⌜ r ≡ rowOk own (rowAt (now (table .entry)) i) ⌝ }
+{
+    if search::is_vacant(table, i) {
+        return is_blank(table, i);
+    }
+    row::read_row(table, i).is_held(own)
 }
 
 // Whether row i is free, or no row before it is held for its destination.
@@ -109,11 +118,14 @@ fn is_alone(table: &[u8], i: usize) -> bool
     search::is_nothing(search::find_below(table, i, d))
 }
 
-// As is_alone, where mark 0 says that no row before i has its destination.
-fn is_alone_by(table: &[u8], i: usize, mark: u8) -> bool
+// Whether row i passes, where mark 0 says that no row before i has its destination.
+fn passes_by(table: &[u8], own: Address, i: usize, mark: u8) -> bool
     requires { ⌜ place i + 32 ≤ length (now table) ⌝ }
-    ensures { λ r. ⌜ r ≡ (eqb mark 0 || alone (now (table .entry)) i) ⌝ }
+    ensures { λ r. ⌜ r ≡ (rowOk own (rowAt (now (table .entry)) i) && (eqb mark 0 || alone (now (table .entry)) i)) ⌝ }
 {
+    if !is_row(table, own, i) {
+        return false;
+    }
     if mark == 0 {
         return true;
     }
@@ -129,15 +141,15 @@ fn slot_of(table: &[u8], i: usize) -> usize
 }
 
 // Marks the destination of each row passed in seen, so that few rows are searched for. A false mark does no harm.
-fn all_alone_by(table: &[u8], n: usize, seen: &mut [u8]) -> bool
+fn rows_pass_by(table: &[u8], own: Address, n: usize, seen: &mut [u8]) -> bool
     requires { ⌜ place n ≤ length (now table) ⌝ }
     requires { ⌜ length (now seen) ≡ 1021 ⌝ }
-    ensures { λ r. ⌜ r ≡ every (alone (now (table .entry))) n ⌝ }
+    ensures { λ r. ⌜ r ≡ every (passes (now (table .entry)) own) n ⌝ }
 {
     let mut i = 0;
     while i < n {
         let h = slot_of(table, i);
-        if !is_alone_by(table, i, seen[h]) {
+        if !passes_by(table, own, i, seen[h]) {
             return false;
         }
         seen[h] = 1;
@@ -146,12 +158,12 @@ fn all_alone_by(table: &[u8], n: usize, seen: &mut [u8]) -> bool
     true
 }
 
-fn all_alone(table: &[u8], n: usize) -> bool
+fn rows_pass(table: &[u8], own: Address, n: usize) -> bool
     requires { ⌜ place n ≤ length (now table) ⌝ }
-    ensures { λ r. ⌜ r ≡ every (alone (now (table .entry))) n ⌝ }
+    ensures { λ r. ⌜ r ≡ every (passes (now (table .entry)) own) n ⌝ }
 {
     let mut seen = [0u8; 1021];
-    all_alone_by(table, n, &mut seen)
+    rows_pass_by(table, own, n, &mut seen)
 }
 
 pub fn is_table(table: &[u8]) -> bool
@@ -162,9 +174,5 @@ pub fn is_table(table: &[u8]) -> bool
     if !head.is_ok() {
         return false;
     }
-    let n = search::rows_of(table);
-    if !rows_fit(table, head.own, n) {
-        return false;
-    }
-    all_alone(table, n)
+    rows_pass(table, head.own, search::rows_of(table))
 }

@@ -44,7 +44,10 @@ pub fn is_held_for(table: &[u8], i: usize, d: Address) -> bool
     requires { ⌜ place i + 32 ≤ length (now table) ⌝ }
     ensures { λ r. ⌜ r ≡ holds (now (table .entry)) d i ⌝ }
 {
-    !is_vacant(table, i) & (row::destination_at(table, i).0 == d.0)
+    if row::destination_at(table, i).0 != d.0 {
+        return false;
+    }
+    !is_vacant(table, i)
 }
 
 // The first of the n first rows that is held for d.

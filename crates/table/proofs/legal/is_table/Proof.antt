@@ -1,7 +1,7 @@
--- `table::legal::is_table` meets its contract: the first part of `isTable` that fails decides. Assumes nothing.
+-- `table::legal::is_table` meets its contract: by its head, and then its rows. Assumes nothing.
 use borrow.Author.Needs.{needs}
 use borrow.Author.Tests.{not-true, not-false}
-use Rattle.table.proofs.Cases.{bad-head, bad-row, table-is}
+use Rattle.table.proofs.Cases.{bad-head, table-is}
 use Rattle.table.proofs.legal.is_table.Statement.{statement}
 use Rattle.table.proofs.legal.is_table.Tie as tie
 
@@ -13,7 +13,5 @@ is-table-spec =
     (λ c κs. search needs)
     (λ c. search (bad-head, not-true))
     (λ c κs. search needs)
-    (λ c κs. search needs)
-    (λ c. search (bad-row, not-true, not-false))
     (λ c κs. search needs)
     (λ c. search (table-is, not-false)))

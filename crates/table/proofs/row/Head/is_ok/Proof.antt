@@ -1,13 +1,14 @@
--- `table::row::Head::is_ok` meets its contract: by what its definition unfolds to. Assumes nothing.
+-- `table::row::Head::is_ok` meets its contract: the own address decides, and then the rest. Assumes nothing.
 use borrow.Author.Needs.{needs}
-use Rattle.table.specs.Row.{headOk}
+use borrow.Author.Tests.{not-true, not-false}
+use Rattle.table.proofs.Cases.{head-stranger, head-rest}
 use Rattle.table.proofs.row.Head.is_ok.Statement.{statement}
 use Rattle.table.proofs.row.Head.is_ok.Tie as tie
 
 pub is-ok-spec : {M : Type 1} → statement M
-unfolding headOk
 is-ok-spec =
     tie.close
     (tie.spec
     (λ c κs. search needs)
-    (λ c. cc))
+    (λ c. search (head-stranger, not-true))
+    (λ c. search (head-rest, not-false)))

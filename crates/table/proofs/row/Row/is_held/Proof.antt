@@ -1,9 +1,22 @@
--- `table::row::Row::is_held` meets its contract: by what its definition unfolds to. Assumes nothing.
+-- `table::row::Row::is_held` meets its contract: the first part of `isHeld` that fails decides. Assumes nothing.
 use borrow.Author.Needs.{needs}
-use Rattle.table.specs.Row.{isHeld}
+use borrow.Author.Tests.{not-true, not-false}
+use Rattle.table.proofs.Cases.{held-unmarked, held-destination, held-next, held-unbounded, held-numbered, held-unnumbered}
 use Rattle.table.proofs.row.Row.is_held.Statement.{statement}
 use Rattle.table.proofs.row.Row.is_held.Tie as tie
 
 pub is-held-spec : {M : Type 1} → statement M
-unfolding isHeld
-is-held-spec = tie.close (tie.spec (λ c κs. search needs) (λ c κs. search needs) (λ c κs. search needs) (λ c. cc))
+is-held-spec =
+    tie.close
+    (tie.spec
+    (λ c κs. search needs)
+    (λ c. search (held-unmarked, not-true))
+    (λ c κs. search needs)
+    (λ c. search (held-destination, not-true, not-false))
+    (λ c κs. search needs)
+    (λ c. search (held-next, not-true, not-false))
+    (λ c κs. search needs)
+    (λ c. search (held-unbounded, not-true, not-false))
+    (λ c. search (held-numbered, not-false))
+    (λ c κs. search needs)
+    (λ c. search (held-unnumbered, not-false)))

@@ -1,0 +1,20 @@
+-- `table::legal::is_blank` meets its contract: the fields of the row are zero where the octets are. Assumes nothing.
+use borrow.Author.Needs.{needs}
+use Rattle.table.proofs.HeadAndRows.{blank}
+use Rattle.table.proofs.legal.is_blank.Statement.{statement}
+use Rattle.table.proofs.legal.is_blank.Tie as tie
+
+pub is-blank-spec : {M : Type 1} → statement M
+is-blank-spec =
+    tie.close
+    (tie.spec
+    (λ c. search needs)
+    (λ c. search needs)
+    (λ c κs. search needs)
+    (λ c. search needs)
+    (λ c κs. search needs)
+    (λ c. search needs)
+    (λ c κs. search needs)
+    (λ c. search needs)
+    (λ c κs. search needs)
+    (λ c. search blank))
