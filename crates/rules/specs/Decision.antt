@@ -1,0 +1,48 @@
+-- What a call comes to: a refusal by its number, or what it makes of what it was lent. Assumes nothing.
+use Prim.Native.Nat.{ℕ}
+use mathlib.Core.Bool.{Bool, cond}
+use mathlib.Core.List.{List, [], _∷_}
+
+pub data Decision (A : Type 0) : Type 0 where
+  refused : ℕ → Decision A
+  accepted : A → Decision A
+
+-- a refusal's number, and whether it applies
+pub record Check : Type 0 where
+  pub number : ℕ
+  pub applies : Bool
+
+-- the checks of a call in their order, and what it comes to where none applies
+pub record Ruling (A : Type 0) : Type 0 where
+  pub checks : List Check
+  pub otherwise : A
+
+-- A ruling is written as a `do` block: a line `refuse n when test` for each check, and `accept` with the outcome.
+infix 6 refuse_when_
+abbrev pub refuse_when_ : ℕ → Bool → Check
+refuse_when_ n b = record { number = n; applies = b }
+
+abbrev pub accept : {A : Type 0} → A → Ruling A
+accept a = record { checks = []; otherwise = a }
+
+abbrev pub _>>_ : {A : Type 0} → Check → Ruling A → Ruling A
+_>>_ k r = record { checks = k ∷ r .checks; otherwise = r .otherwise }
+
+-- the first check that applies refuses the call
+abbrev pub judged : {A : Type 0} → List Check → A → Decision A
+judged [] a = accepted a
+judged (k ∷ checks) a = cond (k .applies) (refused (k .number)) (judged checks a)
+
+abbrev pub decide : {A : Type 0} → Ruling A → Decision A
+decide r = judged (r .checks) (r .otherwise)
+
+-- ---- what a call answers and leaves, of a call that may change the table and writes no frame
+
+pub record Left : Type 0 where
+  pub answer : ℕ
+  pub table : List ℕ
+
+-- an acceptance answers 0; a refusal answers its number and leaves the table t as it was
+abbrev pub left : List ℕ → Decision (List ℕ) → Left
+left t (refused n) = record { answer = n; table = t }
+left t (accepted u) = record { answer = 0; table = u }

@@ -1,0 +1,24 @@
+-- Forget a destination. Assumes nothing.
+use Prim.Native.Nat.{ℕ}
+use mathlib.Core.Bool.{Bool, true, false, not}
+use mathlib.Core.List.{List}
+use mathlib.Core.Option.{Option, none, some}
+use Rattle.table.specs.declared.address.Address.{Address}
+use Rattle.table.specs.declared.row.Row.{Row}
+use Rattle.table.specs.Address.{individual}
+use Rattle.table.specs.Layout.{sized}
+use Rattle.table.specs.Table.{isTable, rowFor, freed}
+use Rattle.rules.specs.Decision.{Decision, decide, refuse_when_, accept, _>>_}
+
+abbrev pub absent : Option Row → Bool
+absent (some r) = false
+absent none = true
+
+-- forgetting frees a row for use
+unfoldable pub forget : List ℕ → Address → Decision (List ℕ)
+forget t destination = decide do
+  refuse 1 when not (sized t)
+  refuse 9 when not (individual destination)
+  refuse 21 when not (isTable t)
+  refuse 29 when absent (rowFor t destination)
+  accept (freed t destination)

@@ -1,0 +1,18 @@
+-- Make a fresh table. Assumes nothing.
+use Prim.Native.Nat.{ℕ}
+use mathlib.Core.Bool.{not}
+use mathlib.Core.List.{List}
+use lib.ListN.{length}
+use Rattle.counters.specs.declared.SequenceNumber.{SequenceNumber}
+use Rattle.table.specs.declared.address.Address.{Address}
+use Rattle.table.specs.Address.{individual}
+use Rattle.table.specs.Layout.{sized}
+use Rattle.table.specs.Table.{fresh}
+use Rattle.rules.specs.Decision.{Decision, decide, refuse_when_, accept, _>>_}
+
+-- of the octets t, with this own address and number: what stood there plays no part
+unfoldable pub makeFresh : List ℕ → Address → SequenceNumber → Decision (List ℕ)
+makeFresh t own number = decide do
+  refuse 1 when not (sized t)
+  refuse 9 when not (individual own)
+  accept (fresh (length t) own number)

@@ -1,0 +1,4 @@
+pub mod Decision
+pub mod Fresh
+pub mod Forget
+pub mod NextHop

@@ -1,0 +1,38 @@
+-- Find a next hop. Assumes nothing.
+use Prim.Native.Nat.{ℕ, _-_, _^_}
+use mathlib.Core.Bool.{Bool, false, not}
+use mathlib.Core.List.{List}
+use mathlib.Core.Option.{Option, none, some}
+use lib.Dec.{ltb}
+use Rattle.table.specs.declared.address.Address.{Address}
+use Rattle.table.specs.declared.row.Row.{Row}
+use Rattle.table.specs.Address.{individual}
+use Rattle.table.specs.Row.{active}
+use Rattle.table.specs.Layout.{sized}
+use Rattle.table.specs.Table.{clock, isTable, rowFor}
+use Rattle.rules.specs.Decision.{Decision, Ruling, decide, refuse_when_, accept, _>>_}
+
+-- the row is there and active at clock c
+abbrev pub activeAt : ℕ → Option Row → Bool
+activeAt c (some r) = active c r
+activeAt c none = false
+
+-- the next hop of a row that is there
+abbrev pub nextOf : Option Row → Address
+nextOf (some r) = r .next
+nextOf none = record { 0 = 0 }
+
+-- what the row of a destination says
+unfoldable pub alongRow : ℕ → Option Row → Ruling Address
+alongRow c row = do
+  refuse 28 when not (activeAt c row)
+  accept (nextOf row)
+
+unfoldable pub nextHop : List ℕ → ℕ → Address → Decision Address
+nextHop t c destination = decide do
+  refuse 1 when not (sized t)
+  refuse 3 when ltb (2 ^ 48 - 1) c
+  refuse 9 when not (individual destination)
+  refuse 21 when not (isTable t)
+  refuse 22 when ltb c (clock t)
+  alongRow c (rowFor t destination)
