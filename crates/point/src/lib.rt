@@ -1,0 +1,23 @@
+// The calls of a mesh point.
+pub mod forget;
+pub mod fresh;
+pub mod next_hop;
+
+ghost use mathlib.Core.Path.{_≡_};
+ghost use Rattle.point.specs.Answers.{answerOf};
+
+// The answer of a call that writes no frame.
+pub enum Answer {
+    Accepted,
+    Refused(u32),
+}
+
+// The answer as document 01 numbers it.
+pub fn number_of(a: Answer) -> u32
+    ensures { λ r. ⌜ r ≡ answerOf a ⌝ }
+{
+    match a {
+        Answer::Accepted => 0,
+        Answer::Refused(n) => n,
+    }
+}
