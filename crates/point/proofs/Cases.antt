@@ -1,12 +1,10 @@
 -- The definitions of the calls by cases, each as a `return` asks it. Each section adds the test that was passed.
 -- Assumes nothing.
 use Prim.Native.Nat.{ℕ, _+_, _≤_, _<_}
-use mathlib.Core.Path.{_≡_, refl, sym, _∙_}
+use mathlib.Core.Path.{_≡_}
 use mathlib.Core.Bool.{Bool, true, false, not}
 use mathlib.Core.List.{List}
-use mathlib.Core.Option.{none, some}
 use lib.ListN.{length}
-use lib.Dec.{ltb}
 use borrow.Author.Tests.{not-false, lt-ltb, le-ltb}
 use Rattle.counters.specs.declared.SequenceNumber.{SequenceNumber}
 use Rattle.table.specs.declared.address.Address.{Address}
@@ -19,7 +17,7 @@ use Rattle.table.specs.Row.{freeRow, active}
 use Rattle.table.specs.Layout.{sized, place, headAt, rowAt, putRow}
 use Rattle.table.specs.Table.{isTable, findRow, rowFor, fresh, freed}
 use Rattle.table.proofs.Cases.{sized-long, found-within}
-use Rattle.rules.specs.Decision.{Decision, refused, accepted, decide, left}
+use Rattle.rules.specs.Decision.{decide, left}
 use Rattle.rules.specs.Fresh.{makeFresh}
 use Rattle.rules.specs.Forget.{forget}
 use Rattle.rules.specs.NextHop.{alongRow, nextHop}

@@ -13,7 +13,7 @@ use Rattle.table.specs.declared.row.Head.{Head}
 use Rattle.table.specs.declared.row.Row.{Row}
 use Rattle.table.specs.declared.search.Found.{Found}
 use Rattle.table.specs.Address.{individual}
-use Rattle.table.specs.Row.{freeRow, headOk, isFree, isUnnumbered, isOther, isMarked, isBounded, isHeld, rowOk}
+use Rattle.table.specs.Row.{freeRow, headOk, isFree, isUnnumbered, isOther, statusOk, boundsOk, isHeld, rowOk}
 use Rattle.table.specs.Layout.{sized, rows, allZero, place, rowAt, headAt, putRow}
 use Rattle.table.specs.declared.search.Found.the-variants.{At, Nothing}
 use Rattle.table.proofs.Places.{first-below}
@@ -127,7 +127,7 @@ module _ (h : Head) (a : Bool) (ae : a ≡ individual (h .own)) where
 -- row i is free or held
 module _ (t : List ℕ) (own : Address) (i : ℕ) (a b : Bool) (ae : a ≡ vacant t i) where
   pub row-free : a ≡ true → b ≡ isFree (rowAt t i) → b ≡ rowOk own (rowAt t i)
-  unfolding rowOk isHeld isMarked vacant
+  unfolding rowOk isHeld statusOk vacant
   row-free v e = rw e (sym (by (isFree (rowAt t i))))
     where
       by : (c : Bool) → (c || isHeld own (rowAt t i)) ≡ c
@@ -139,10 +139,10 @@ module _ (t : List ℕ) (own : Address) (i : ℕ) (a b : Bool) (ae : a ≡ vacan
   row-held r re v e = rw (sym ae ∙ v, ← re) e
 
 -- a held row by its parts, the first that fails deciding
-module _ (own : Address) (r : Row) (a : Bool) (ae : a ≡ isMarked r) where
-  pub held-unmarked : a ≡ false → false ≡ isHeld own r
+module _ (own : Address) (r : Row) (a : Bool) (ae : a ≡ statusOk r) where
+  pub held-status-bad : a ≡ false → false ≡ isHeld own r
   unfolding isHeld
-  held-unmarked no-a = cc
+  held-status-bad no-a = cc
 
   module _ (yes-a : a ≡ true) (b : Bool) (be : b ≡ isOther own (r .destination)) where
     pub held-destination : b ≡ false → false ≡ isHeld own r
@@ -154,10 +154,10 @@ module _ (own : Address) (r : Row) (a : Bool) (ae : a ≡ isMarked r) where
       unfolding isHeld
       held-next no-c = cc
 
-      module _ (yes-c : c ≡ true) (e : Bool) (ee : e ≡ isBounded r) where
-        pub held-unbounded : e ≡ false → false ≡ isHeld own r
+      module _ (yes-c : c ≡ true) (e : Bool) (ee : e ≡ boundsOk r) where
+        pub held-bounds-bad : e ≡ false → false ≡ isHeld own r
         unfolding isHeld
-        held-unbounded no-e = cc
+        held-bounds-bad no-e = cc
 
         module _ (yes-e : e ≡ true) where
           pub held-numbered : r .known ≡ 1 → true ≡ isHeld own r

@@ -1,18 +1,16 @@
 -- A table after its head is put, and a fresh table. Assumes nothing.
 use Prim.Native.Nat.{ℕ, _^_, _<_, _≤_}
 use mathlib.Core.Path.{_≡_, refl, sym, ap, _∙_}
-use mathlib.Core.Bool.{Bool, true, false, _&&_, not, and-false}
+use mathlib.Core.Bool.{true, false, and-false}
 use mathlib.Core.List.{List}
-use mathlib.Core.Option.{Option, none, some}
+use mathlib.Core.Option.{none}
 use lib.ListN.{length, length-replicate}
-use lib.Dec.{eqb, leb}
 use native.Mathlib.Omega.{arith}
 use Rattle.octets.specs.LittleEndian.{zeros, FitFields, Octets}
 use Rattle.octets.proofs.Laws.{octets-zero}
 use Rattle.counters.specs.declared.SequenceNumber.{SequenceNumber}
 use Rattle.table.specs.declared.address.Address.{Address}
 use Rattle.table.specs.declared.row.Head.{Head}
-use Rattle.table.specs.declared.row.Row.{Row}
 use Rattle.table.specs.declared.search.Found.{Found}
 use Rattle.table.specs.declared.search.Found.the-variants.{At, Nothing}
 use Rattle.table.specs.Address.{individual, same}

@@ -1,9 +1,9 @@
 -- The row of a destination and the free rows, after a row is stored or freed. Assumes nothing.
-use Prim.Native.Nat.{ℕ, zero, suc, _+_, _<_, _≤_}
+use Prim.Native.Nat.{ℕ, suc, _+_, _<_, _≤_}
 use mathlib.Core.Path.{_≡_, refl, sym, ap, _∙_}
-use mathlib.Core.Bool.{Bool, true, false, _&&_, _||_, not, cond, and-eq-true-iff, and-false, or-true}
+use mathlib.Core.Bool.{Bool, true, false, _&&_, not, cond, and-false, or-true}
 use mathlib.Core.List.{List}
-use mathlib.Core.Option.{Option, none, some}
+use mathlib.Core.Option.{none, some}
 use lib.ListN.{length}
 use lib.Dec.{eqb}
 use native.Mathlib.Decide.{ℕ-discrete}
@@ -16,13 +16,12 @@ use Rattle.table.specs.declared.search.Found.{Found}
 use Rattle.table.specs.declared.search.Found.the-variants.{At, Nothing}
 use Rattle.octets.specs.LittleEndian.{FitFields, Octets}
 use Rattle.table.specs.Address.{same}
-use Rattle.table.specs.Row.{freeRow, isFree, isMarked, isHeld, rowOk}
+use Rattle.table.specs.Row.{freeRow, isFree, statusOk, isHeld, rowOk}
 use Rattle.table.specs.Layout.{rows, allZero, place, headAt, rowAt, putRow, FitRow}
-use Rattle.table.specs.Places.{first, count}
 use Rattle.table.specs.Table.{own, vacant, holds, findRow, firstFree, rowIn, rowFor, newRows, freeRows, placeFor, putAt, store, freed}
 use Rattle.table.proofs.HeadAndRows.{length-row, row-same, row-other, head-stays, row-octets}
 use Rattle.table.proofs.Places.{first-below, first-true, first-not, first-only, first-nowhere, first-cong, count-cong, count-drop, count-nowhere}
-use Rattle.table.proofs.WellFormed.{Legal, true-not-false, false-of, same-is, same-itself, held-row, holds-of}
+use Rattle.table.proofs.WellFormed.{Legal, true-not-false, false-of, same-is, same-itself, held-row}
 
 -- ---- what a place that was found is
 
@@ -222,7 +221,7 @@ spot t d legal room = go (findRow t d) refl (firstFree t) refl
 -- ---- a row that is stored
 
 pub held-status : (a : Address) (r : Row) → isHeld a r ≡ true → eqb (r .status) 0 ≡ false
-unfolding isHeld isMarked
+unfolding isHeld statusOk
 held-status a r e = false-of (eqb (r .status) 0) (λ z. true-not-false (rw (eqb-true (r .status) 0 z) at e) refl)
 
 held-ok : (a : Address) (r : Row) → isHeld a r ≡ true → rowOk a r ≡ true

@@ -1,7 +1,7 @@
 -- A row whose destination is not marked stands alone. Assumes nothing.
-use Prim.Native.Nat.{ℕ, _+_, _%_, _<_}
+use Prim.Native.Nat.{ℕ, _+_, _<_}
 use mathlib.Core.Path.{_≡_, refl, sym, ap, _∙_}
-use mathlib.Core.Bool.{Bool, true, false, _&&_, _||_, not, or-true}
+use mathlib.Core.Bool.{Bool, true, false, _&&_, _||_, or-true}
 use mathlib.Core.List.{List}
 use lib.ListN.{length, getD, set}
 use lib.Dec.{eqb}
@@ -12,7 +12,6 @@ use native.Mathlib.Omega.{arith}
 use borrow.Author.Count.{below-more}
 use borrow.Author.Tests.{eqb-true, ne-eqb}
 use Rattle.table.specs.Layout.{rowAt}
-use Rattle.table.specs.Places.{first}
 use Rattle.table.specs.Table.{vacant, holds, alone, passes}
 use Rattle.table.specs.Row.{rowOk}
 use Rattle.table.specs.declared.address.Address.{Address}

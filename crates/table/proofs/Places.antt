@@ -1,15 +1,15 @@
 -- Laws of `first`, `count` and `every`: what a loop that tests the places below n in turn knows at place i, where b is what
 -- the test said there. Each is stated as a loop's proof asks it, so that `search` applies it. Assumes nothing.
 use Prim.Native.Nat.{ℕ, zero, suc, _+_, _<_, _≤_}
-use mathlib.Core.Path.{_≡_, refl, _∙_, ap, sym}
-use mathlib.Core.Bool.{Bool, true, false, _&&_, cond, and-eq-true-iff}
+use mathlib.Core.Path.{_≡_, refl, sym}
+use mathlib.Core.Bool.{Bool, true, false, cond, and-eq-true-iff}
 use mathlib.Core.Logic.{⊎-elim}
 use native.Mathlib.Nat.{eq-or-lt-of-le, le-of-suc-le-suc, not-suc-le-zero, le-antisymm}
 use native.Mathlib.Numerals.{add-one}
 use native.Mathlib.Omega.{arith}
 use Rattle.table.specs.declared.search.Found.{Found}
 use Rattle.table.specs.declared.search.Found.the-variants.{At, Nothing}
-use Rattle.table.specs.Places.{orElse, first, count, every}
+use Rattle.table.specs.Places.{first, count, every}
 
 pub counted-le : (i found next : ℕ) (b : Bool) → next ≡ found + cond b 1 0 → found ≤ i → next ≤ i + 1
 counted-le i found next true e h = omega arith

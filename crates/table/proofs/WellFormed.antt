@@ -1,10 +1,8 @@
 -- A table by its parts, and the row of a destination by its place. Assumes nothing.
-use Prim.Native.Nat.{ℕ, _+_, _^_, _<_, _≤_}
-use mathlib.Core.Path.{_≡_, refl, sym, ap, _∙_}
-use mathlib.Core.Bool.{Bool, true, false, _&&_, _||_, not, and-eq-true-iff}
+use Prim.Native.Nat.{ℕ, _^_, _<_}
+use mathlib.Core.Path.{_≡_, refl, ap}
+use mathlib.Core.Bool.{Bool, true, false, not, and-eq-true-iff}
 use mathlib.Core.List.{List}
-use lib.ListN.{length}
-use lib.Dec.{eqb}
 use native.Mathlib.Decide.{ℕ-discrete}
 use native.Mathlib.Omega.{arith, ne-cases}
 use borrow.Author.Tests.{eqb-true, eq-eqb, not-true}
@@ -16,7 +14,7 @@ use Rattle.table.specs.declared.search.Found.the-variants.{At, Nothing}
 use Rattle.table.specs.Address.{addressOf, octetsOf, same}
 use Rattle.table.specs.Row.{headOk, rowOk}
 use Rattle.table.specs.Layout.{rows, rowAt, headAt}
-use Rattle.table.specs.Places.{first, every, isNothing}
+use Rattle.table.specs.Places.{first, every}
 use Rattle.table.specs.Table.{own, vacant, holds, alone, passes, isTable}
 use Rattle.table.proofs.Places.{every-at, every-of, first-not, first-nowhere}
 

@@ -1,6 +1,5 @@
 -- Addresses of six octets, as little-endian numbers: the first octet is the lowest. Assumes nothing.
-use Prim.Native.Nat.{_%_}
-use Prim.Native.Nat.{ℕ}
+use Prim.Native.Nat.{ℕ, _%_}
 use mathlib.Core.Bool.{Bool, _&&_, not}
 use mathlib.Core.List.{List}
 use lib.Dec.{eqb}

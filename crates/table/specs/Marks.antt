@@ -1,9 +1,7 @@
 -- How the search for a destination that stands twice is kept short: the destinations of the rows passed are marked.
 -- No part of what a table is. Assumes nothing.
-use Prim.Native.Nat.{ℕ, _%_, _<_}
-use mathlib.Core.Path.{_≡_}
+use Prim.Native.Nat.{ℕ, _%_}
 use mathlib.Core.List.{List}
-use lib.ListN.{getD}
 use Rattle.table.specs.Layout.{rowAt}
 
 -- where the destination of row i is marked, one of 1021 places

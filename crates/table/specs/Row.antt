@@ -50,17 +50,17 @@ unfoldable pub isOther : Address → Address → Bool
 isOther own a = individual a && not (same a own)
 
 -- status 1 or 2, number known 0 or 1, and zero
-unfoldable pub isMarked : Row → Bool
-isMarked r = leb 1 (r .status) && leb (r .status) 2 && leb (r .known) 1 && eqb (r .zero) 0
+unfoldable pub statusOk : Row → Bool
+statusOk r = leb 1 (r .status) && leb (r .status) 2 && leb (r .known) 1 && eqb (r .zero) 0
 
 -- metric at least 1, and expiry at most 2^48 + 2^32
-unfoldable pub isBounded : Row → Bool
-isBounded r = leb 1 (r .metric .0) && leb (r .expiry) (2 ^ 48 + 2 ^ 32)
+unfoldable pub boundsOk : Row → Bool
+boundsOk r = leb 1 (r .metric .0) && leb (r .expiry) (2 ^ 48 + 2 ^ 32)
 
 -- a held row of the point with address own
 unfoldable pub isHeld : Address → Row → Bool
 isHeld own r =
-    isMarked r && isOther own (r .destination) && isOther own (r .next) && isBounded r
+    statusOk r && isOther own (r .destination) && isOther own (r .next) && boundsOk r
     && (eqb (r .known) 1 || isUnnumbered r)
 
 unfoldable pub rowOk : Address → Row → Bool

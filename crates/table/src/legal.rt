@@ -9,7 +9,7 @@ ghost use mathlib.Core.Bool.{_&&_, _||_};
 ghost use Prim.Native.Nat.{_+_, _*_, _≤_};
 ghost use lib.ListN.{length};
 ghost use lib.Dec.{eqb};
-ghost use Rattle.table.specs.Row.{headOk, isBounded, isFree, isHeld, isMarked, isOther, isUnnumbered, rowOk};
+ghost use Rattle.table.specs.Row.{headOk, boundsOk, isFree, isHeld, statusOk, isOther, isUnnumbered, rowOk};
 ghost use Rattle.table.specs.Layout.{place, rowAt, sized};
 ghost use Rattle.table.specs.Places.{every};
 ghost use Rattle.table.specs.Table.{alone, isTable, passes};
@@ -48,14 +48,14 @@ impl Row {
         (self.number.0 == 0) & (self.hops.0 == 1) & (self.next.0 == self.destination.0)
     }
 
-    fn is_marked(self) -> bool
-        ensures { λ r. ⌜ r ≡ isMarked self ⌝ }
+    fn status_ok(self) -> bool
+        ensures { λ r. ⌜ r ≡ statusOk self ⌝ }
     {
         (1 <= self.status) & (self.status <= 2) & (self.known <= 1) & (self.zero == 0)
     }
 
-    fn is_bounded(self) -> bool
-        ensures { λ r. ⌜ r ≡ isBounded self ⌝ }
+    fn bounds_ok(self) -> bool
+        ensures { λ r. ⌜ r ≡ boundsOk self ⌝ }
     {
         (1 <= self.metric.0) & (self.expiry <= 281479271677952)
     }
@@ -63,7 +63,7 @@ impl Row {
     fn is_held(self, own: Address) -> bool
         ensures { λ r. ⌜ r ≡ isHeld own self ⌝ }
     {
-        if !self.is_marked() {
+        if !self.status_ok() {
             return false;
         }
         let destination = self.destination;
@@ -74,7 +74,7 @@ impl Row {
         if !next.is_other(own) {
             return false;
         }
-        if !self.is_bounded() {
+        if !self.bounds_ok() {
             return false;
         }
         if self.known == 1 {

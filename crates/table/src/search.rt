@@ -3,7 +3,7 @@ use crate::address::Address;
 use crate::row;
 ghost use mathlib.Core.Path.{_≡_};
 ghost use mathlib.Core.Bool.{cond};
-ghost use Prim.Native.Nat.{_+_, _*_, _≤_, _<_};
+ghost use Prim.Native.Nat.{_+_, _≤_, _<_};
 ghost use lib.ListN.{length};
 ghost use Rattle.table.specs.Layout.{place, rows};
 ghost use Rattle.table.specs.Places.{count, first, isNothing};

@@ -3,7 +3,7 @@ use borrow.Author.Needs.{needs}
 use Prim.Native.Nat.{_≤_, _-_}
 use mathlib.Core.Path.{_≡_}
 use mathlib.Core.Bool.{true}
-use lib.ListN.{length, length-set}
+use lib.ListN.{length}
 use borrow.Author.Tests.{not-true, not-false}
 use Rattle.table.specs.Places.{every}
 use Rattle.table.specs.Table.{passes}

@@ -1,6 +1,5 @@
 -- `table::row::read_head` meets its contract: by what its definition unfolds to. Assumes nothing.
 use borrow.Author.Needs.{needs}
-use native.Mathlib.Nat.{add-zero}
 use Rattle.octets.specs.LittleEndian.{fieldsAt}
 use Rattle.table.specs.Layout.{headAt}
 use Rattle.table.proofs.row.read_head.Statement.{statement}

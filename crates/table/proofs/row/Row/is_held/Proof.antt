@@ -1,7 +1,7 @@
 -- `table::row::Row::is_held` meets its contract: the first part of `isHeld` that fails decides. Assumes nothing.
 use borrow.Author.Needs.{needs}
 use borrow.Author.Tests.{not-true, not-false}
-use Rattle.table.proofs.Cases.{held-unmarked, held-destination, held-next, held-unbounded, held-numbered, held-unnumbered}
+use Rattle.table.proofs.Cases.{held-status-bad, held-destination, held-next, held-bounds-bad, held-numbered, held-unnumbered}
 use Rattle.table.proofs.row.Row.is_held.Statement.{statement}
 use Rattle.table.proofs.row.Row.is_held.Tie as tie
 
@@ -10,13 +10,13 @@ is-held-spec =
     tie.close
     (tie.spec
     (λ c κs. search needs)
-    (λ c. search (held-unmarked, not-true))
+    (λ c. search (held-status-bad, not-true))
     (λ c κs. search needs)
     (λ c. search (held-destination, not-true, not-false))
     (λ c κs. search needs)
     (λ c. search (held-next, not-true, not-false))
     (λ c κs. search needs)
-    (λ c. search (held-unbounded, not-true, not-false))
+    (λ c. search (held-bounds-bad, not-true, not-false))
     (λ c. search (held-numbered, not-false))
     (λ c κs. search needs)
     (λ c. search (held-unnumbered, not-false)))
