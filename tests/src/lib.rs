@@ -1,0 +1,8 @@
+//! What the tests and benchmarks share: the library behind safe functions, a separately
+//! written implementation of document 01 to compare it with, and random tables.
+
+pub mod implementation;
+pub mod library;
+pub mod random;
+pub mod reference;
+pub mod tables;
