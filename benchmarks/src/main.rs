@@ -1,0 +1,89 @@
+//! What the checked library costs beside plain Rust and beside Rust by the same method.
+
+mod cases;
+mod same_method;
+mod stack;
+mod timing;
+
+use hwmp_tests::implementation::{Implementation, LIBRARY, REFERENCE};
+use hwmp_tests::random::Random;
+
+use cases::{CASES, Case};
+use same_method::SAME_METHOD;
+
+fn main() {
+    println!("machine: {}", machine());
+    println!("nanoseconds per call, median of interleaved rounds; all are release builds");
+    let random = &mut Random::announced("tables", 2026);
+    println!("plain: the separately written reference; same: Rust by the library's method");
+    println!();
+    compare(random);
+    println!();
+    growth(random);
+    println!();
+    for (entry, octets) in stack::depths(random) {
+        println!("stack of {entry}: {octets} octets");
+    }
+}
+
+fn machine() -> String {
+    let info = std::fs::read_to_string("/proc/cpuinfo").unwrap_or_default();
+    let model = info
+        .lines()
+        .find_map(|line| line.strip_prefix("model name"));
+    model.map_or("unknown".into(), |name| {
+        name.trim_start_matches(['\t', ' ', ':']).into()
+    })
+}
+
+fn measure(case: &Case, rows: usize, bys: &[&Implementation], random: &mut Random) -> Vec<f64> {
+    let mut inputs = cases::inputs(case, rows, random);
+    cases::confirm(case, &mut inputs, bys);
+    timing::nanoseconds(case, &mut inputs, bys)
+}
+
+fn compare(random: &mut Random) {
+    println!(
+        "{:<30} {:>4} {:>9} {:>9} {:>9} {:>14} {:>13}",
+        "full tables", "R", "library", "plain", "same", "library/plain", "library/same"
+    );
+    for case in &CASES {
+        for rows in [16, 128] {
+            let times = measure(case, rows, &[&LIBRARY, &REFERENCE, &SAME_METHOD], random);
+            let [library, plain, same] = times[..] else {
+                unreachable!("one time for each implementation")
+            };
+            println!(
+                "{:<30} {rows:>4} {library:>9.1} {plain:>9.1} {same:>9.1} {:>14.2} {:>13.2}",
+                format!("{} ({})", case.name, case.answer),
+                library / plain,
+                library / same
+            );
+        }
+    }
+}
+
+fn growth(random: &mut Random) {
+    let case = &CASES[0];
+    println!(
+        "{:<30} {:>4} {:>9} {:>9} {:>13} {:>16}",
+        format!("{} ({})", case.name, case.answer),
+        "R",
+        "library",
+        "same",
+        "library/same",
+        "library per row"
+    );
+    for rows in (0..8).map(|power| 1 << power) {
+        let times = measure(case, rows, &[&LIBRARY, &SAME_METHOD], random);
+        let [library, same] = times[..] else {
+            unreachable!("one time for each implementation")
+        };
+        println!(
+            "{:<30} {rows:>4} {library:>9.1} {same:>9.1} {:>13.2} {:>16.1}",
+            "",
+            library / same,
+            library / rows as f64
+        );
+    }
+}
