@@ -8,17 +8,20 @@ use Rattle.table.specs.declared.row.Row.{Row}
 use Rattle.table.specs.Address.{individual}
 use Rattle.table.specs.Layout.{sized}
 use Rattle.table.specs.Table.{isTable, rowFor, freed}
-use Rattle.rules.specs.Decision.{Decision, decide, refuse_when_, accept, _>>_}
+use Rattle.rules.specs.Decision.{Decision, Ruling, decide, refuse_when_, accept, _>>_}
 
 abbrev pub absent : Option Row → Bool
 absent (some r) = false
 absent none = true
 
 -- forgetting frees a row for use
-unfoldable pub forget : List ℕ → Address → Decision (List ℕ)
-forget t destination = decide do
+abbrev pub forgetting : List ℕ → Address → Ruling (List ℕ)
+forgetting t destination = do
   refuse 1 when not (sized t)
   refuse 9 when not (individual destination)
   refuse 21 when not (isTable t)
   refuse 29 when absent (rowFor t destination)
   accept (freed t destination)
+
+unfoldable pub forget : List ℕ → Address → Decision (List ℕ)
+forget t destination = decide (forgetting t destination)

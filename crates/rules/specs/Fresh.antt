@@ -8,11 +8,14 @@ use Rattle.table.specs.declared.address.Address.{Address}
 use Rattle.table.specs.Address.{individual}
 use Rattle.table.specs.Layout.{sized}
 use Rattle.table.specs.Table.{fresh}
-use Rattle.rules.specs.Decision.{Decision, decide, refuse_when_, accept, _>>_}
+use Rattle.rules.specs.Decision.{Decision, Ruling, decide, refuse_when_, accept, _>>_}
 
 -- of the octets t, with this own address and number: what stood there plays no part
-unfoldable pub makeFresh : List ℕ → Address → SequenceNumber → Decision (List ℕ)
-makeFresh t own number = decide do
+abbrev pub makingFresh : List ℕ → Address → SequenceNumber → Ruling (List ℕ)
+makingFresh t own number = do
   refuse 1 when not (sized t)
   refuse 9 when not (individual own)
   accept (fresh (length t) own number)
+
+unfoldable pub makeFresh : List ℕ → Address → SequenceNumber → Decision (List ℕ)
+makeFresh t own number = decide (makingFresh t own number)

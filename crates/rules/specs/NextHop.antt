@@ -28,11 +28,14 @@ alongRow c row = do
   refuse 28 when not (activeAt c row)
   accept (nextOf row)
 
-unfoldable pub nextHop : List ℕ → ℕ → Address → Decision Address
-nextHop t c destination = decide do
+abbrev pub findingNextHop : List ℕ → ℕ → Address → Ruling Address
+findingNextHop t c destination = do
   refuse 1 when not (sized t)
   refuse 3 when ltb (2 ^ 48 - 1) c
   refuse 9 when not (individual destination)
   refuse 21 when not (isTable t)
   refuse 22 when ltb c (clock t)
   alongRow c (rowFor t destination)
+
+unfoldable pub nextHop : List ℕ → ℕ → Address → Decision Address
+nextHop t c destination = decide (findingNextHop t c destination)
