@@ -1,5 +1,6 @@
 // Counters that never stand in for one another: each is a struct of one number.
 ghost use mathlib.Core.Path.{_≡_};
+ghost use Prim.Native.Nat.{_+_, _%_, _^_};
 ghost use Rattle.counters.specs.Numbers.{newer, nextNumber, nextRequest, older};
 
 pub struct SequenceNumber(pub u32);
@@ -10,12 +11,18 @@ pub struct Metric(pub u32);
 
 pub struct HopCount(pub u8);
 
+// One more; after 4,294,967,295 comes 0.
+fn one_more(n: u32) -> u32
+    ensures { λ r. ⌜ r ≡ (n + 1) % 2 ^ 32 ⌝ }
+{
+    std::num::wrapping_add_u32(n, 1)
+}
+
 impl SequenceNumber {
-    // The number after this one; after 4,294,967,295 comes 0.
     pub fn next(self) -> Self
         ensures { λ r. ⌜ r ≡ nextNumber self ⌝ }
     {
-        SequenceNumber(std::num::wrapping_add_u32(self.0, 1))
+        SequenceNumber(one_more(self.0))
     }
 
     // Whether the distance from other to this number, read as signed, is above 0.
@@ -37,10 +44,9 @@ impl SequenceNumber {
 }
 
 impl RequestId {
-    // The request ID after this one; after 4,294,967,295 comes 0.
     pub fn next(self) -> Self
         ensures { λ r. ⌜ r ≡ nextRequest self ⌝ }
     {
-        RequestId(std::num::wrapping_add_u32(self.0, 1))
+        RequestId(one_more(self.0))
     }
 }

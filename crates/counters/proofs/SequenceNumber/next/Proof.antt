@@ -1,4 +1,4 @@
--- `counters::SequenceNumber::next` meets its contract: a wrapping sum is the next number. Assumes nothing.
+-- `counters::SequenceNumber::next` meets its contract: one more is the next number. Assumes nothing.
 use borrow.Author.Needs.{needs}
 use Rattle.counters.specs.Numbers.{stepped}
 use Rattle.counters.proofs.SequenceNumber.next.Statement.{statement}
