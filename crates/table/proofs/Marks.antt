@@ -22,7 +22,7 @@ use Rattle.table.proofs.Places.{first-nowhere}
 pub record Marked (t seen : List ℕ) (i : ℕ) : Type 0 where
   pub marks : (k : ℕ) → k < i → getD seen (slot t k) 0 ≡ 0 → ⊥
 
-pub slot-in : (t seen : List ℕ) (i h : ℕ) → h ≡ slot t i → length seen ≡ 1021 → h < length seen
+pub slot-in : (t seen : List ℕ) (i h : ℕ) → h ≡ slot t i → length seen ≡ 1024 → h < length seen
 unfolding slot
 slot-in t seen i h e l = omega arith
 
@@ -46,7 +46,7 @@ kept-mark seen h x l m z = by (ℕ-discrete x h)
     by (no q) = m (sym (getD-set-other seen h x 1 0 q) ∙ z)
 
 module _ (t seen : List ℕ) (i h : ℕ) (he : h ≡ slot t i) (m : Marked t seen i) where
-  pub marked-more : length seen ≡ 1021 → Marked t (set seen h 1) (i + 1)
+  pub marked-more : length seen ≡ 1024 → Marked t (set seen h 1) (i + 1)
   marked-more l =
       let b = slot-in t seen i h he l in
       record {

@@ -143,7 +143,7 @@ fn slot_of(table: &[u8], i: usize) -> usize
 // Marks the destination of each row passed in seen, so that few rows are searched for. A false mark does no harm.
 fn rows_pass_by(table: &[u8], own: Address, n: usize, seen: &mut [u8]) -> bool
     requires { ⌜ place n ≤ length (now table) ⌝ }
-    requires { ⌜ length (now seen) ≡ 1021 ⌝ }
+    requires { ⌜ length (now seen) ≡ 1024 ⌝ }
     ensures { λ r. ⌜ r ≡ every (passes (now (table .entry)) own) n ⌝ }
 {
     let mut i = 0;
@@ -158,11 +158,12 @@ fn rows_pass_by(table: &[u8], own: Address, n: usize, seen: &mut [u8]) -> bool
     true
 }
 
+// A few octets more than there are slots: a round number of them is cleared faster.
 fn rows_pass(table: &[u8], own: Address, n: usize) -> bool
     requires { ⌜ place n ≤ length (now table) ⌝ }
     ensures { λ r. ⌜ r ≡ every (passes (now (table .entry)) own) n ⌝ }
 {
-    let mut seen = [0u8; 1021];
+    let mut seen = [0u8; 1024];
     rows_pass_by(table, own, n, &mut seen)
 }
 

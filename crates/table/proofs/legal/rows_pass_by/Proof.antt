@@ -14,7 +14,7 @@ use Rattle.table.proofs.legal.rows_pass_by.Tie as tie
 
 abbrev Inv-loop : tie.InvT-loop
 Inv-loop table own n seen₀ i₀ seen i =
-    (i ≤ n) × (length seen ≡ 1021) × Marked table seen i × (every (passes table own) i ≡ true)
+    (i ≤ n) × (length seen ≡ 1024) × Marked table seen i × (every (passes table own) i ≡ true)
 
 abbrev μ-loop : tie.MeasureT-loop
 μ-loop table own n seen₀ i₀ seen i = n - i
