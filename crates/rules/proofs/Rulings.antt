@@ -4,7 +4,7 @@ use mathlib.Core.Bool.{Bool, true, false, cond}
 use mathlib.Core.List.{List, [], _∷_}
 use Prim.Native.Nat.{ℕ}
 use native.Mathlib.Omega.{arith}
-use Rattle.rules.specs.Decision.{Decision, refused, accepted, Check, Ruling, judged, decide}
+use Rattle.rules.specs.Decision.{refused, accepted, Check, Ruling, judged, decide}
 
 -- no check applies
 abbrev pub Passed : List Check → Type 0

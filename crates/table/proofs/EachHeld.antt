@@ -17,12 +17,12 @@ use Rattle.table.specs.declared.row.Row.{Row}
 use Rattle.table.specs.declared.search.Found.{Found}
 use Rattle.table.specs.declared.search.Found.the-variants.{At, Nothing}
 use Rattle.table.specs.Row.{isFree, isHeld, rowOk}
-use Rattle.table.specs.Layout.{rows, allZero, place, headAt, rowAt, putRow, FitRow}
+use Rattle.table.specs.Layout.{rows, place, headAt, rowAt, putRow, FitRow}
 use Rattle.table.specs.Table.{own, vacant, holds, findRow, rowIn, rowFor, freeRows, changeAt, changeBelow, eachHeld}
 use Rattle.table.proofs.HeadAndRows.{length-row, row-same, row-other, head-stays, row-octets, row-fits}
 use Rattle.table.proofs.Places.{first-cong, count-cong}
 use Rattle.table.proofs.WellFormed.{Legal, held-row}
-use Rattle.table.proofs.Lookup.{found-here}
+use Rattle.table.proofs.Lookup.{found-here, held-of}
 
 -- a change that leaves a held row held for its destination, in values that its octets can hold
 pub record KeepsRow (f : Row → Row) : Type 0 where
@@ -115,12 +115,12 @@ module _ (f : Row → Row) where
         by false = keeps .destination r
 
     changed-ok : (a : Address) (r : Row) → (isHeld a r ≡ true → isHeld a (f r) ≡ true) → rowOk a r ≡ true → rowOk a (changed f r) ≡ true
-    unfolding rowOk isFree allZero
+    unfolding rowOk
     changed-ok a r h ok = by (eqb (r .status) 0) refl
       where
         by : (b : Bool) → eqb (r .status) 0 ≡ b → rowOk a (cond b r (f r)) ≡ true
         by true e = ok
-        by false e = rw (h (rw e at ok)) (or-true (isFree (f r)))
+        by false e = rw (h (held-of a r ok e)) (or-true (isFree (f r)))
 
     module _ (t : List ℕ) (octets : Octets t) where
       pub each-at : (k : ℕ) → k < rows t → rowAt (eachHeld f t) k ≡ changed f (rowAt t k)

@@ -19,7 +19,7 @@ use Rattle.table.specs.Address.{same}
 use Rattle.table.specs.Row.{freeRow, isFree, statusOk, isHeld, rowOk}
 use Rattle.table.specs.Layout.{rows, allZero, place, headAt, rowAt, putRow, FitRow}
 use Rattle.table.specs.Table.{own, vacant, holds, findRow, firstFree, rowIn, rowFor, newRows, freeRows, placeFor, putAt, store, freed}
-use Rattle.table.proofs.HeadAndRows.{length-row, row-same, row-other, head-stays, row-octets}
+use Rattle.table.proofs.HeadAndRows.{length-row, row-same, row-other, head-stays, row-octets, row-fits}
 use Rattle.table.proofs.Places.{first-below, first-true, first-not, first-only, first-nowhere, first-cong, count-cong, count-drop, count-nowhere}
 use Rattle.table.proofs.WellFormed.{Legal, true-not-false, false-of, same-is, same-itself, held-row}
 
@@ -39,6 +39,37 @@ module _ (t : List ℕ) (d : Address) where
   found-only legal i e k l n =
       let here = found-here i e in
       false-of (holds t d k) (λ h. n (legal .once d k i l (here .0) h (here .1)))
+
+-- a row of another status than 0 is held
+pub held-of : (a : Address) (r : Row) → rowOk a r ≡ true → eqb (r .status) 0 ≡ false → isHeld a r ≡ true
+unfolding rowOk isFree allZero
+held-of a r ok e = rw e at ok
+
+module _ (t : List ℕ) (d : Address) (r : Row) (e : rowFor t d ≡ some r) where
+  -- where the row of a destination stands
+  row-place : (i : ℕ) × (findRow t d ≡ At i) × (rowAt t i ≡ r)
+  unfolding rowFor
+  row-place = by (findRow t d) refl
+    where
+      by : (f : Found) → findRow t d ≡ f → (i : ℕ) × (findRow t d ≡ At i) × (rowAt t i ≡ r)
+      by (At i) q = (i, q, cc)
+      by Nothing q = let z : _≡_ {A = ℕ} 0 1 = cc in absurd (omega arith)
+
+  -- it has that destination, and in a table it is as a held row should be
+  pub row-destination : r .destination ≡ d
+  row-destination =
+      let p = row-place in
+      ap (λ (q : Row). q .destination) (sym (p .2)) ∙ held-row t d (p .0) (found-here t d (p .0) (p .1) .1) .1
+
+  pub row-is-held : Legal t → isHeld (own t) r ≡ true
+  unfolding vacant
+  row-is-held legal =
+      let p = row-place in
+      let found = found-here t d (p .0) (p .1) in
+      rw (← p .2) (held-of (own t) (rowAt t (p .0)) (legal .row (p .0) (found .0)) (held-row t d (p .0) (found .1) .0))
+
+  pub row-fits-its-octets : Octets t → FitRow r
+  row-fits-its-octets o = let p = row-place in rw (← p .2) (row-fits t (p .0) o)
 
 -- ---- a row that is put
 
