@@ -2,8 +2,9 @@
  * The forwarding table of one HWMP mesh point, held in octets that the caller lends.
  *
  * A lent buffer is a pointer and its length in octets. It must be real memory of that
- * length (not NULL), and the buffers of one call must not overlap. An address is 6 octets.
- * The library allocates nothing and keeps no memory: no pointer outlives its call.
+ * length (not NULL), at any alignment, and the buffers of one call must not overlap. An
+ * address is 6 octets. The library allocates nothing and keeps no memory: no pointer
+ * outlives its call, and calls on different tables may run at the same time.
  *
  * Every call gives an answer: 0 is acceptance, any other number a refusal. If several
  * refusals apply, the lowest number is given. A refused call changes no octet, and what
