@@ -8,7 +8,7 @@ use lib.Seq.{getD-set-same, getD-set-other, set-getD, drop-cons, ext-getD, set-o
 use native.Mathlib.Decide.{ℕ-discrete}
 use native.Mathlib.Omega.{arith}
 use native.Mathlib.Numerals.{add-one}
-use native.Mathlib.Nat.{zero-add, suc-add, add-zero, add-suc, pow-suc, sub-zero, not-suc-le-zero}
+use native.Mathlib.Nat.{zero-add, suc-add, add-zero, add-suc, pow-suc, sub-zero, not-suc-le-zero, eq-or-lt-of-le}
 use borrow.Author.Count.{below-more}
 use borrow.Author.Tests.{ltb-true, ltb-false}
 use lib.Dec.{ltb}
@@ -46,6 +46,20 @@ octet-other zero s at x k h = refl
 octet-other (suc n) s at x k h =
     octet-other n (set s at (x % 256)) (suc at) (x / 256) k (⊎-elim (λ l. inl (omega arith)) (λ l. inr (omega arith)) h)
     ∙ getD-set-other s at k (x % 256) 0 (⊎-elim (λ l. omega arith) (λ l. omega arith) h)
+
+-- one inside does not depend on what stood there
+octet-over : (n : ℕ) (s u : List ℕ) (at x k : ℕ) → length s ≡ length u → at + n ≤ length s → at ≤ k → k < at + n
+    → getD (withNumber n s at x) k 0 ≡ getD (withNumber n u at x) k 0
+unfolding withNumber
+octet-over zero s u at x k e l h g = absurd (omega arith)
+octet-over (suc n) s u at x k e l h g =
+    ⊎-elim
+    (λ q. rw (← q) (first s (omega arith) ∙ sym (first u (omega arith))))
+    (λ m. octet-over n (set s at (x % 256)) (set u at (x % 256)) (suc at) (x / 256) k (simp length-set e) (rw length-set (omega arith)) m (omega arith))
+    (eq-or-lt-of-le h)
+  where
+    first : (v : List ℕ) → at < length v → getD (withNumber n (set v at (x % 256)) (suc at) (x / 256)) at 0 ≡ x % 256
+    first v m = octet-other n (set v at (x % 256)) (suc at) (x / 256) at (inl (omega arith)) ∙ getD-set-same v at (x % 256) 0 m
 
 -- numbers that lie in octets that agree are equal
 agree : (n : ℕ) (s t : List ℕ) (at : ℕ) → ((k : ℕ) → at ≤ k → k < at + n → getD s k 0 ≡ getD t k 0) → numberAt n s at ≡ numberAt n t at
@@ -94,16 +108,16 @@ number-bound (suc n) s at o =
 
 -- ---- octets that are all zero
 
-zero-at : (n k : ℕ) → getD (zeros n) k 0 ≡ 0
-zero-at zero k = refl
-zero-at (suc n) zero = refl
-zero-at (suc n) (suc k) = zero-at n k
+pub octet-zero : (n k : ℕ) → getD (zeros n) k 0 ≡ 0
+octet-zero zero k = refl
+octet-zero (suc n) zero = refl
+octet-zero (suc n) (suc k) = octet-zero n k
 
 -- every number in them is zero
 pub number-zero : (w n at : ℕ) → numberAt w (zeros n) at ≡ 0
 unfolding numberAt
 number-zero zero n at = refl
-number-zero (suc w) n at = rw (zero-at n at, number-zero w n (suc at))
+number-zero (suc w) n at = rw (octet-zero n at, number-zero w n (suc at))
 
 -- ---- octets stay octets
 
@@ -124,7 +138,7 @@ octets-number (suc n) s at x o =
 
 pub octets-zero : (n : ℕ) → Octets (zeros n)
 unfolding Octets
-octets-zero n k = rw (zero-at n k) (omega arith)
+octets-zero n k = rw (octet-zero n k) (omega arith)
 
 -- ---- the same of fields
 
@@ -134,14 +148,43 @@ length-fields [] s at o xs = refl
 length-fields (w ∷ ws) s at o [] = refl
 length-fields (w ∷ ws) s at o (x ∷ xs) = length-fields ws (withNumber w s (at + o) x) at (o + w) xs ∙ length-number w s (at + o) x
 
+-- an octet outside of the fields that are written stays
+pub octet-apart : (ws s : List ℕ) (k at o : ℕ) (xs : List ℕ) → (k < at + o) ⊎ (at + o + total ws ≤ k) → getD (withFields ws s at o xs) k 0 ≡ getD s k 0
+unfolding withFields total
+octet-apart [] s k at o xs h = refl
+octet-apart (w ∷ ws) s k at o [] h = refl
+octet-apart (w ∷ ws) s k at o (x ∷ xs) h =
+    octet-apart ws (withNumber w s (at + o) x) k at (o + w) xs (⊎-elim (λ a. inl (omega arith)) (λ b. inr (omega arith)) h)
+    ∙ octet-other w s (at + o) x k (⊎-elim (λ a. inl (omega arith)) (λ b. inr (omega arith)) h)
+
+-- an octet inside them does not depend on what stood there
+pub octet-inside : (ws s u : List ℕ) (k at o : ℕ) (xs : List ℕ) → length s ≡ length u → length ws ≡ length xs → at + o + total ws ≤ length s
+    → at + o ≤ k → k < at + o + total ws → getD (withFields ws s at o xs) k 0 ≡ getD (withFields ws u at o xs) k 0
+unfolding withFields total
+octet-inside [] s u k at o xs e f l h g = absurd (omega arith)
+octet-inside (w ∷ ws) s u k at o [] e f l h g = absurd (omega arith)
+octet-inside (w ∷ ws) s u k at o (x ∷ xs) e f l h g =
+    by (ltb k (at + o + w)) refl
+    (λ m. octet-inside ws (withNumber w s (at + o) x) (withNumber w u (at + o) x) k at (o + w) xs
+    (length-number w s (at + o) x ∙ e ∙ sym (length-number w u (at + o) x)) (omega arith)
+    (rw length-number (omega arith)) (omega arith) (omega arith))
+  where
+    Same : Type 0
+    Same = getD (withFields ws (withNumber w s (at + o) x) at (o + w) xs) k 0 ≡ getD (withFields ws (withNumber w u (at + o) x) at (o + w) xs) k 0
+
+    by : (b : Bool) → ltb k (at + o + w) ≡ b → (at + o + w ≤ k → Same) → Same
+    by true q rest =
+        let m = ltb-true k (at + o + w) q in
+        octet-apart ws (withNumber w s (at + o) x) k at (o + w) xs (inl (omega arith))
+        ∙ octet-over w s u (at + o) x k e (omega arith) h m
+        ∙ sym (octet-apart ws (withNumber w u (at + o) x) k at (o + w) xs (inl (omega arith)))
+    by false q rest = rest (ltb-false k (at + o + w) q)
+
 -- a number that stands apart from fields that are written stays
 pub apart : (m : ℕ) (ws s : List ℕ) (p at o : ℕ) (xs : List ℕ) → (p + m ≤ at + o) ⊎ (at + o + total ws ≤ p) → numberAt m (withFields ws s at o xs) p ≡ numberAt m s p
-unfolding withFields total
-apart m [] s p at o xs h = refl
-apart m (w ∷ ws) s p at o [] h = refl
-apart m (w ∷ ws) s p at o (x ∷ xs) h =
-    apart m ws (withNumber w s (at + o) x) p at (o + w) xs (⊎-elim (λ a. inl (omega arith)) (λ b. inr (omega arith)) h)
-    ∙ number-other m w s p (at + o) x (⊎-elim (λ a. inl (omega arith)) (λ b. inr (omega arith)) h)
+apart m ws s p at o xs h =
+    agree m (withFields ws s at o xs) s p
+    (λ k l g. octet-apart ws s k at o xs (⊎-elim (λ a. inl (omega arith)) (λ b. inr (omega arith)) h))
 
 -- and so do fields that stand apart
 pub fields-other : (vs ws s : List ℕ) (p q at o : ℕ) (xs : List ℕ) → (p + q + total vs ≤ at + o) ⊎ (at + o + total ws ≤ p + q) → fieldsAt vs (withFields ws s at o xs) p q ≡ fieldsAt vs s p q

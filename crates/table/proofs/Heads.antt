@@ -1,13 +1,18 @@
 -- A table after its head is put, and a fresh table. Assumes nothing.
-use Prim.Native.Nat.{ℕ, _^_, _<_, _≤_}
+use Prim.Native.Nat.{ℕ, _+_, _-_, _^_, _<_, _≤_}
 use mathlib.Core.Path.{_≡_, refl, sym, ap, _∙_}
-use mathlib.Core.Bool.{true, false, and-false}
+use mathlib.Core.Bool.{Bool, true, false, and-false}
 use mathlib.Core.List.{List}
 use mathlib.Core.Option.{none}
-use lib.ListN.{length, length-replicate}
+use lib.ListN.{length, take, drop, getD, length-replicate, length-drop, List·getD-append}
+use lib.Seq.{length-take-le, getD-take, getD-append-add, ext-getD}
+use lib.Dec.{ltb}
+use borrow.Author.Tests.{ltb-true, ltb-false}
+use mathlib.Core.Logic.{inr}
 use native.Mathlib.Omega.{arith}
-use Rattle.octets.specs.LittleEndian.{zeros, FitFields, Octets}
-use Rattle.octets.proofs.Laws.{octets-zero}
+use borrow.Rule.Slice.PartMut.{midOf, putMid, same-len-mid}
+use Rattle.octets.specs.LittleEndian.{zeros, total, FitFields, Octets}
+use Rattle.octets.proofs.Laws.{octet-zero, octet-apart, octet-inside, octets-zero}
 use Rattle.counters.specs.declared.SequenceNumber.{SequenceNumber}
 use Rattle.table.specs.declared.address.Address.{Address}
 use Rattle.table.specs.declared.row.Head.{Head}
@@ -15,7 +20,7 @@ use Rattle.table.specs.declared.search.Found.{Found}
 use Rattle.table.specs.declared.search.Found.the-variants.{At, Nothing}
 use Rattle.table.specs.Address.{individual, same}
 use Rattle.table.specs.Row.{freshHead, freeRow, headOk, isFree, rowOk}
-use Rattle.table.specs.Layout.{rows, allZero, headAt, putHead, rowAt, FitHead}
+use Rattle.table.specs.Layout.{rows, allZero, headWidths, headNumbers, headAt, putHead, rowAt, FitHead}
 use Rattle.table.specs.Table.{own, vacant, holds, findRow, rowIn, rowFor, freeRows, isTable, fresh}
 use Rattle.table.proofs.HeadAndRows.{length-head, head-same, row-stays, head-octets, row-zero}
 use Rattle.table.proofs.Places.{first-cong, first-nowhere, count-cong, count-all}
@@ -64,6 +69,60 @@ module _ (t : List ℕ) (h : Head) where
       }
 
 -- ---- a fresh table
+
+-- a head that is put over any octets, with zeros after it, is that head on zeros
+module _ (t u y : List ℕ) (h : Head) (long : 32 ≤ length t) (ue : u ≡ putHead t h) (ye : y ≡ zeros (length (midOf 32 (length u - 32) u))) where
+  same-length : length u ≡ length t
+  same-length = ap length ue ∙ length-head t h
+
+  head-length : length (take 32 u) ≡ 32
+  head-length = length-take-le 32 u (omega (arith, same-length))
+
+  zeros-length : length y ≡ length u - 32
+  zeros-length =
+      ap length ye ∙ length-replicate {A = ℕ} _ 0 ∙ length-take-le (length u - 32) (drop 32 u) (rw length-drop (omega arith))
+
+  whole : List ℕ
+  whole = putMid 32 (length u - 32) u y
+
+  whole-length : length whole ≡ length (putHead (zeros (length t)) h)
+  unfolding whole
+  whole-length =
+      same-len-mid 32 (length u - 32) u y (ap length ye ∙ length-replicate {A = ℕ} _ 0) ∙ same-length
+      ∙ sym (length-head (zeros (length t)) h ∙ length-replicate {A = ℕ} _ 0)
+
+  in-head : (k : ℕ) → k < 32 → getD whole k 0 ≡ getD (putHead (zeros (length t)) h) k 0
+  unfolding whole putHead total
+  in-head k l =
+      List·getD-append (take 32 u) _ 0 k (rw head-length l)
+      ∙ getD-take 32 u k 0 l
+      ∙ ap (λ (v : List ℕ). getD v k 0) ue
+      ∙ octet-inside headWidths t (zeros (length t)) k 0 0 (headNumbers h) (sym (length-replicate {A = ℕ} _ 0)) refl (omega arith) (omega arith)
+      (omega arith)
+
+  in-rows : (k : ℕ) → 32 ≤ k → k < length u → getD whole k 0 ≡ getD (putHead (zeros (length t)) h) k 0
+  unfolding whole putHead total
+  in-rows k l g =
+      let place-in : k ≡ length (take 32 u) + (k - 32) = omega (arith, head-length) in
+      ap (λ (i : ℕ). getD whole i 0) place-in
+      ∙ getD-append-add (take 32 u) _ (k - 32) 0
+      ∙ List·getD-append y _ 0 (k - 32) (omega (arith, zeros-length))
+      ∙ ap (λ (v : List ℕ). getD v (k - 32) 0) ye
+      ∙ octet-zero (length (midOf 32 (length u - 32) u)) (k - 32)
+      ∙ sym (octet-apart headWidths (zeros (length t)) k 0 0 (headNumbers h) (inr (omega arith)) ∙ octet-zero (length t) k)
+
+  over-zeros : putMid 32 (length u - 32) u y ≡ putHead (zeros (length t)) h
+  unfolding whole
+  over-zeros = ext-getD 0 whole (putHead (zeros (length t)) h) whole-length (λ k l. by k l (ltb k 32) refl)
+    where
+      by : (k : ℕ) → k < length whole → (b : Bool) → ltb k 32 ≡ b → getD whole k 0 ≡ getD (putHead (zeros (length t)) h) k 0
+      by k l true e = in-head k (ltb-true k 32 e)
+      by k l false e = in-rows k (ltb-false k 32 e) (omega (arith, same-len-mid 32 (length u - 32) u y (ap length ye ∙ length-replicate {A = ℕ} _ 0)))
+
+pub fresh-written : (t u y : List ℕ) (h : Head) (a : Address) (s : SequenceNumber) → 32 ≤ length t → h ≡ freshHead a s → u ≡ putHead t h
+    → y ≡ zeros (length (midOf 32 (length u - 32) u)) → putMid 32 (length u - 32) u y ≡ fresh (length t) a s
+unfolding fresh
+fresh-written t u y h a s long he ue ye = over-zeros t u y h long ue ye ∙ ap (putHead (zeros (length t))) he
 
 module _ (n : ℕ) (a : Address) (s : SequenceNumber) where
   pub fresh-length : length (fresh n a s) ≡ n

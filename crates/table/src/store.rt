@@ -16,8 +16,8 @@ pub fn make_fresh(table: &mut [u8], own: Address, number: SequenceNumber)
     requires { ⌜ 32 ≤ length (now table) ⌝ }
     ensures { λ _. ⌜ now (table .exit) ≡ fresh (length (now (table .entry))) own number ⌝ }
 {
-    octets::clear(table);
     row::write_head(table, Head::fresh(own, number));
+    octets::clear(&mut table[32..]);
 }
 
 // Puts a row in the place of its destination's row, else in the free row of lowest place; where there is none, nothing
