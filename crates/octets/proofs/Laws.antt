@@ -68,12 +68,6 @@ agree zero s t at h = refl
 agree (suc n) s t at h =
     ap₂ (λ (b x : ℕ). b + 256 * x) (h at (omega arith) (omega arith)) (agree n s t (suc at) (λ k l g. h k (omega arith) (omega arith)))
 
--- what stands apart from a number that is written stays
-pub number-other : (m n : ℕ) (s : List ℕ) (p at x : ℕ) → (p + m ≤ at) ⊎ (at + n ≤ p) → numberAt m (withNumber n s at x) p ≡ numberAt m s p
-number-other m n s p at x h =
-    agree m (withNumber n s at x) s p
-    (λ k l g. octet-other n s at x k (⊎-elim (λ a. inl (omega arith)) (λ b. inr (omega arith)) h))
-
 -- a number that is written is read back
 pub number-same : (n : ℕ) (s : List ℕ) (at x : ℕ) → at + n ≤ length s → x < 256 ^ n → numberAt n (withNumber n s at x) at ≡ x
 unfolding numberAt withNumber
