@@ -13,12 +13,12 @@ use Rattle.table.specs.declared.row.Head.{Head}
 use Rattle.table.specs.declared.row.Row.{Row}
 use Rattle.table.specs.declared.search.Found.{Found}
 use Rattle.table.specs.Address.{individual}
-use Rattle.table.specs.Row.{freeRow, headOk, isFree, isUnnumbered, isOther, statusOk, boundsOk, isHeld, rowOk}
+use Rattle.table.specs.Row.{headOk, isFree, isUnnumbered, isOther, statusOk, boundsOk, isHeld, rowOk}
 use Rattle.table.specs.Layout.{sized, rows, allZero, place, rowAt, headAt, putRow}
 use Rattle.table.specs.declared.search.Found.the-variants.{At, Nothing}
 use Rattle.table.proofs.Places.{first-below}
 use Rattle.table.specs.Places.{first, every, isNothing}
-use Rattle.table.specs.Table.{vacant, holds, findRow, firstFree, placeFor, store, freed, alone, passes, isTable}
+use Rattle.table.specs.Table.{vacant, holds, findRow, firstFree, placeFor, store, alone, passes, isTable}
 
 both : (a b : Bool) → (a && b) ≡ true → (a ≡ true) × (b ≡ true)
 both a b = and-eq-true-iff a b .0
@@ -63,15 +63,6 @@ module _ (t : List ℕ) where
   pub stored-none : (r : Row) (f : Found) → f ≡ placeFor t (r .destination) → f ≡ Nothing → t ≡ store t r
   unfolding store
   stored-none r f e none = cc
-
-  pub freed-row : (d : Address) (r : Row) (f : Found) (i : ℕ) (u : List ℕ) → f ≡ findRow t d → f ≡ At i → r ≡ freeRow → u ≡ putRow t i r
-      → u ≡ freed t d
-  unfolding freed
-  freed-row d r f i u e at-i re ue = cc
-
-  pub freed-none : (d : Address) (f : Found) → f ≡ findRow t d → f ≡ Nothing → t ≡ freed t d
-  unfolding freed
-  freed-none d f e none = cc
 
   pub alone-free : (i : ℕ) (b : Bool) → b ≡ vacant t i → b ≡ true → true ≡ alone t i
   unfolding alone

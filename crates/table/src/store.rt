@@ -9,7 +9,7 @@ use counters::SequenceNumber;
 ghost use mathlib.Core.Path.{_≡_};
 ghost use Prim.Native.Nat.{_≤_};
 ghost use lib.ListN.{length};
-ghost use Rattle.table.specs.Table.{fresh, freed, store};
+ghost use Rattle.table.specs.Table.{fresh, store};
 
 // Makes a fresh table of whatever stood there.
 pub fn make_fresh(table: &mut [u8], own: Address, number: SequenceNumber)
@@ -29,17 +29,6 @@ pub fn put_row(table: &mut [u8], r: Row)
     let d = r.destination;
     match search::place_for(table, d) {
         Found::At(i) => row::write_row(table, i, r),
-        Found::Nothing => {}
-    }
-}
-
-// Frees the row of a destination, if it has one.
-pub fn free_row(table: &mut [u8], d: Address)
-    requires { ⌜ 32 ≤ length (now table) ⌝ }
-    ensures { λ _. ⌜ now (table .exit) ≡ freed (now (table .entry)) d ⌝ }
-{
-    match search::find_row(table, d) {
-        Found::At(i) => row::write_row(table, i, Row::free()),
         Found::Nothing => {}
     }
 }
