@@ -75,12 +75,14 @@ module _ (t u y : List ℕ) (h : Head) (long : 32 ≤ length t) (ue : u ≡ putH
   same-length : length u ≡ length t
   same-length = ap length ue ∙ length-head t h
 
-  head-length : length (take 32 u) ≡ 32
-  head-length = length-take-le 32 u (omega (arith, same-length))
+  head-part : length (take 32 u) ≡ 32
+  head-part = length-take-le 32 u (omega (arith, same-length))
 
-  zeros-length : length y ≡ length u - 32
-  zeros-length =
-      ap length ye ∙ length-replicate {A = ℕ} _ 0 ∙ length-take-le (length u - 32) (drop 32 u) (rw length-drop (omega arith))
+  rows-part : length y ≡ length (midOf 32 (length u - 32) u)
+  rows-part = ap length ye ∙ length-replicate {A = ℕ} _ 0
+
+  rows-length : length y ≡ length u - 32
+  rows-length = rows-part ∙ length-take-le (length u - 32) (drop 32 u) (rw length-drop (omega arith))
 
   whole : List ℕ
   whole = putMid 32 (length u - 32) u y
@@ -88,13 +90,13 @@ module _ (t u y : List ℕ) (h : Head) (long : 32 ≤ length t) (ue : u ≡ putH
   whole-length : length whole ≡ length (putHead (zeros (length t)) h)
   unfolding whole
   whole-length =
-      same-len-mid 32 (length u - 32) u y (ap length ye ∙ length-replicate {A = ℕ} _ 0) ∙ same-length
+      same-len-mid 32 (length u - 32) u y rows-part ∙ same-length
       ∙ sym (length-head (zeros (length t)) h ∙ length-replicate {A = ℕ} _ 0)
 
   in-head : (k : ℕ) → k < 32 → getD whole k 0 ≡ getD (putHead (zeros (length t)) h) k 0
   unfolding whole putHead total
   in-head k l =
-      List·getD-append (take 32 u) _ 0 k (rw head-length l)
+      List·getD-append (take 32 u) _ 0 k (rw head-part l)
       ∙ getD-take 32 u k 0 l
       ∙ ap (λ (v : List ℕ). getD v k 0) ue
       ∙ octet-inside headWidths t (zeros (length t)) k 0 0 (headNumbers h) (sym (length-replicate {A = ℕ} _ 0)) refl (omega arith) (omega arith)
@@ -103,10 +105,10 @@ module _ (t u y : List ℕ) (h : Head) (long : 32 ≤ length t) (ue : u ≡ putH
   in-rows : (k : ℕ) → 32 ≤ k → k < length u → getD whole k 0 ≡ getD (putHead (zeros (length t)) h) k 0
   unfolding whole putHead total
   in-rows k l g =
-      let place-in : k ≡ length (take 32 u) + (k - 32) = omega (arith, head-length) in
+      let place-in : k ≡ length (take 32 u) + (k - 32) = omega (arith, head-part) in
       ap (λ (i : ℕ). getD whole i 0) place-in
       ∙ getD-append-add (take 32 u) _ (k - 32) 0
-      ∙ List·getD-append y _ 0 (k - 32) (omega (arith, zeros-length))
+      ∙ List·getD-append y _ 0 (k - 32) (omega (arith, rows-length))
       ∙ ap (λ (v : List ℕ). getD v (k - 32) 0) ye
       ∙ octet-zero (length (midOf 32 (length u - 32) u)) (k - 32)
       ∙ sym (octet-apart headWidths (zeros (length t)) k 0 0 (headNumbers h) (inr (omega arith)) ∙ octet-zero (length t) k)
@@ -117,7 +119,7 @@ module _ (t u y : List ℕ) (h : Head) (long : 32 ≤ length t) (ue : u ≡ putH
     where
       by : (k : ℕ) → k < length whole → (b : Bool) → ltb k 32 ≡ b → getD whole k 0 ≡ getD (putHead (zeros (length t)) h) k 0
       by k l true e = in-head k (ltb-true k 32 e)
-      by k l false e = in-rows k (ltb-false k 32 e) (omega (arith, same-len-mid 32 (length u - 32) u y (ap length ye ∙ length-replicate {A = ℕ} _ 0)))
+      by k l false e = in-rows k (ltb-false k 32 e) (omega (arith, same-len-mid 32 (length u - 32) u y rows-part))
 
 pub fresh-written : (t u y : List ℕ) (h : Head) (a : Address) (s : SequenceNumber) → 32 ≤ length t → h ≡ freshHead a s → u ≡ putHead t h
     → y ≡ zeros (length (midOf 32 (length u - 32) u)) → putMid 32 (length u - 32) u y ≡ fresh (length t) a s

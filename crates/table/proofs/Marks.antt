@@ -1,5 +1,6 @@
--- A row whose destination is not marked stands alone. Assumes nothing.
-use Prim.Native.Nat.{ℕ, _+_, _<_}
+-- The search for a destination that stands twice: the destinations of the rows passed are marked, and a row whose
+-- destination is not marked stands alone. Assumes nothing.
+use Prim.Native.Nat.{ℕ, _+_, _%_, _<_}
 use mathlib.Core.Path.{_≡_, refl, sym, ap, _∙_}
 use mathlib.Core.Bool.{Bool, true, false, _&&_, _||_, or-true}
 use mathlib.Core.List.{List}
@@ -15,15 +16,17 @@ use Rattle.table.specs.Layout.{rowAt}
 use Rattle.table.specs.Table.{vacant, holds, alone, passes}
 use Rattle.table.specs.Row.{rowOk}
 use Rattle.table.specs.declared.address.Address.{Address}
-use Rattle.table.specs.Marks.{slot}
 use Rattle.table.proofs.Places.{first-nowhere}
+
+-- where the destination of row i is marked
+abbrev slot : List ℕ → ℕ → ℕ
+slot t i = rowAt t i .destination .0 % 1021
 
 -- the destinations of the rows below i are marked
 pub record Marked (t seen : List ℕ) (i : ℕ) : Type 0 where
   pub marks : (k : ℕ) → k < i → getD seen (slot t k) 0 ≡ 0 → ⊥
 
 pub slot-in : (t seen : List ℕ) (i h : ℕ) → h ≡ slot t i → length seen ≡ 1024 → h < length seen
-unfolding slot
 slot-in t seen i h e l = omega arith
 
 pub marked-none : (t seen : List ℕ) → Marked t seen 0
@@ -58,7 +61,7 @@ module _ (t seen : List ℕ) (i h : ℕ) (he : h ≡ slot t i) (m : Marked t see
 
   -- a row whose destination is not marked has another one than each row below it, and so stands alone
   other : getD seen h 0 ≡ 0 → (k : ℕ) → k < i → holds t (rowAt t i .destination) k ≡ false
-  unfolding holds slot
+  unfolding holds
   other e k l =
       let apart = ne-eqb (rowAt t k .destination .0) (rowAt t i .destination .0) (λ q. m .marks k l (rw (q, ← he) e)) in
       rw apart

@@ -3,4 +3,3 @@ pub mod Layout
 pub mod Row
 pub mod Places
 pub mod Table
-pub mod Marks

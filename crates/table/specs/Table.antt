@@ -52,7 +52,7 @@ rowIn t Nothing = none
 unfoldable pub rowFor : List ℕ → Address → Option Row
 rowFor t d = rowIn t (findRow t d)
 
--- how many new rows a destination needs whose row this is
+-- how many new rows a destination needs that has this row, or none
 abbrev pub newRows : Option Row → ℕ
 newRows (some r) = 0
 newRows none = 1

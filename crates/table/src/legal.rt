@@ -6,14 +6,13 @@ use crate::row::Row;
 use crate::search;
 ghost use mathlib.Core.Path.{_≡_};
 ghost use mathlib.Core.Bool.{_&&_, _||_};
-ghost use Prim.Native.Nat.{_+_, _*_, _≤_};
+ghost use Prim.Native.Nat.{_+_, _*_, _%_, _≤_};
 ghost use lib.ListN.{length};
 ghost use lib.Dec.{eqb};
 ghost use Rattle.table.specs.Row.{headOk, boundsOk, isFree, isHeld, statusOk, isOther, isUnnumbered, rowOk};
 ghost use Rattle.table.specs.Layout.{place, rowAt, sized};
 ghost use Rattle.table.specs.Places.{every};
 ghost use Rattle.table.specs.Table.{alone, isTable, passes};
-ghost use Rattle.table.specs.Marks.{slot};
 
 pub fn is_sized(table: &[u8]) -> bool
     ensures { λ r. ⌜ r ≡ sized (now (table .entry)) ⌝ }
@@ -132,10 +131,10 @@ fn passes_by(table: &[u8], own: Address, i: usize, mark: u8) -> bool
     is_alone(table, i)
 }
 
-// Where the destination of row i is marked.
+// Where the destination of row i is marked, one of 1021 slots.
 fn slot_of(table: &[u8], i: usize) -> usize
     requires { ⌜ place i + 32 ≤ length (now table) ⌝ }
-    ensures { λ r. ⌜ r ≡ slot (now (table .entry)) i ⌝ }
+    ensures { λ r. ⌜ r ≡ rowAt (now (table .entry)) i .destination .0 % 1021 ⌝ }
 {
     (row::destination_at(table, i).0 % 1021) as usize
 }
