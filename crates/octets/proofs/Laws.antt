@@ -55,7 +55,7 @@ octet-over zero s u at x k e l h g = absurd (omega arith)
 octet-over (suc n) s u at x k e l h g =
     ⊎-elim
     (λ q. rw (← q) (first s (omega arith) ∙ sym (first u (omega arith))))
-    (λ m. octet-over n (set s at (x % 256)) (set u at (x % 256)) (suc at) (x / 256) k (simp length-set e) (rw length-set (omega arith)) m (omega arith))
+    (λ (m : at < k). octet-over n (set s at (x % 256)) (set u at (x % 256)) (suc at) (x / 256) k (simp length-set e) (rw length-set (omega arith)) m (omega arith))
     (eq-or-lt-of-le h)
   where
     first : (v : List ℕ) → at < length v → getD (withNumber n (set v at (x % 256)) (suc at) (x / 256)) at 0 ≡ x % 256

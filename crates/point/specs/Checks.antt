@@ -1,4 +1,5 @@
--- What a check says of the call that it decides. Assumes nothing.
+-- What a check says of the call that it decides: for the code's own functions, no part of what a call is.
+-- Assumes nothing.
 use Prim.Native.Nat.{ℕ, _+_, _≤_}
 use mathlib.Core.Path.{_≡_}
 use mathlib.Core.List.{List}
