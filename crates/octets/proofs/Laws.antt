@@ -13,7 +13,7 @@ use borrow.Author.Count.{below-more}
 use borrow.Author.Tests.{ltb-true, ltb-false}
 use lib.Dec.{ltb}
 use mathlib.Core.Bool.{Bool, true, false}
-use Rattle.octets.specs.LittleEndian.{numberAt, withNumber, fieldsAt, withFields, total, FitFields, zeros, Octets}
+use Rattle.octets.specs.LittleEndian.{numberAt, numberOctets, over, withNumber, fieldsAt, withFields, total, FitFields, zeros, Octets}
 
 -- ---- one number
 
@@ -25,15 +25,15 @@ split (suc m) n s at = rw (suc-add, add-suc, ← suc-add, pow-suc) (omega (arith
 
 -- the clauses of `withNumber` as equations: `rw` sees a call only where the definition is shut
 with-zero : (s : List ℕ) (at x : ℕ) → withNumber zero s at x ≡ s
-unfolding withNumber
+unfolding withNumber over numberOctets
 with-zero s at x = refl
 
 with-suc : (n : ℕ) (s : List ℕ) (at x : ℕ) → withNumber (suc n) s at x ≡ withNumber n (set s at (x % 256)) (suc at) (x / 256)
-unfolding withNumber
+unfolding withNumber over numberOctets
 with-suc n s at x = refl
 
 pub length-number : (n : ℕ) (s : List ℕ) (at x : ℕ) → length (withNumber n s at x) ≡ length s
-unfolding withNumber
+unfolding withNumber over numberOctets
 length-number zero s at x = refl
 length-number (suc n) s at x = length-number n (set s at (x % 256)) (suc at) (x / 256) ∙ length-set s at (x % 256)
 
@@ -41,7 +41,7 @@ length-number (suc n) s at x = length-number n (set s at (x % 256)) (suc at) (x 
 
 -- an octet outside of what is written stays
 octet-other : (n : ℕ) (s : List ℕ) (at x k : ℕ) → (k < at) ⊎ (at + n ≤ k) → getD (withNumber n s at x) k 0 ≡ getD s k 0
-unfolding withNumber
+unfolding withNumber over numberOctets
 octet-other zero s at x k h = refl
 octet-other (suc n) s at x k h =
     octet-other n (set s at (x % 256)) (suc at) (x / 256) k (⊎-elim (λ l. inl (omega arith)) (λ l. inr (omega arith)) h)
@@ -50,7 +50,7 @@ octet-other (suc n) s at x k h =
 -- one inside does not depend on what stood there
 octet-over : (n : ℕ) (s u : List ℕ) (at x k : ℕ) → length s ≡ length u → at + n ≤ length s → at ≤ k → k < at + n
     → getD (withNumber n s at x) k 0 ≡ getD (withNumber n u at x) k 0
-unfolding withNumber
+unfolding withNumber over numberOctets
 octet-over zero s u at x k e l h g = absurd (omega arith)
 octet-over (suc n) s u at x k e l h g =
     ⊎-elim
@@ -70,7 +70,7 @@ agree (suc n) s t at h =
 
 -- a number that is written is read back
 pub number-same : (n : ℕ) (s : List ℕ) (at x : ℕ) → at + n ≤ length s → x < 256 ^ n → numberAt n (withNumber n s at x) at ≡ x
-unfolding numberAt withNumber
+unfolding numberAt withNumber over numberOctets
 number-same zero s at x h b = omega arith
 number-same (suc n) s at x h b =
     let t : List ℕ = set s at (x % 256) in
@@ -81,7 +81,7 @@ number-same (suc n) s at x h b =
 
 -- to write what is read changes nothing
 pub number-back : (n : ℕ) (s : List ℕ) (at : ℕ) → Octets s → withNumber n s at (numberAt n s at) ≡ s
-unfolding numberAt withNumber Octets
+unfolding numberAt withNumber over numberOctets Octets
 number-back zero s at o = refl
 number-back (suc n) s at o =
     let x : ℕ = numberAt n s (suc at) in
@@ -125,7 +125,7 @@ octets-set s at v l o k = by (ℕ-discrete k at) (ltb at (length s)) refl
     by (yes q) false e = rw (set-out s at v (ltb-false at (length s) e)) (o k)
 
 pub octets-number : (n : ℕ) (s : List ℕ) (at x : ℕ) → Octets s → Octets (withNumber n s at x)
-unfolding withNumber
+unfolding withNumber over numberOctets
 octets-number zero s at x o = o
 octets-number (suc n) s at x o =
     octets-number n (set s at (x % 256)) (suc at) (x / 256) (octets-set s at (x % 256) (omega arith) o)

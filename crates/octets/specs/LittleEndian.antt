@@ -1,17 +1,25 @@
 -- Little-endian numbers in a list of octets, and runs of them: the fields of a layout. Assumes nothing.
 use Prim.Native.Nat.{ℕ, zero, suc, _+_, _*_, _/_, _%_, _^_, _<_}
-use mathlib.Core.List.{List, [], _∷_}
-use lib.ListN.{getD, set, replicate}
+use mathlib.Core.List.{List, [], _∷_, _++_}
+use lib.ListN.{getD, replicate}
+use lib.Seq.{sets}
 
 -- the number in the n octets of s from place at, the least significant octet first
 unfoldable pub numberAt : ℕ → List ℕ → ℕ → ℕ
 numberAt zero s at = 0
 numberAt (suc n) s at = getD s at 0 + 256 * numberAt n s (suc at)
 
--- s with x in the n octets from place at
+-- x as n octets, the least significant octet first
+unfoldable pub numberOctets : ℕ → ℕ → List ℕ
+numberOctets zero x = []
+numberOctets (suc n) x = x % 256 ∷ numberOctets n (x / 256)
+
+-- s with the octets p from place at on, and with x in the n octets there
+unfoldable pub over : List ℕ → ℕ → List ℕ → List ℕ
+over s at p = sets s at p
+
 unfoldable pub withNumber : ℕ → List ℕ → ℕ → ℕ → List ℕ
-withNumber zero s at x = s
-withNumber (suc n) s at x = withNumber n (set s at (x % 256)) (suc at) (x / 256)
+withNumber n s at x = over s at (numberOctets n x)
 
 -- the numbers in the fields of widths ws that stand side by side from offset o after place at
 -- (offsets apart from the place, so that those of a given layout are numerals)
@@ -24,6 +32,12 @@ unfoldable pub withFields : List ℕ → List ℕ → ℕ → ℕ → List ℕ �
 withFields [] s at o xs = s
 withFields (w ∷ ws) s at o [] = s
 withFields (w ∷ ws) s at o (x ∷ xs) = withFields ws (withNumber w s (at + o) x) at (o + w) xs
+
+-- the numbers xs as fields of widths ws, side by side
+unfoldable pub fieldOctets : List ℕ → List ℕ → List ℕ
+fieldOctets [] xs = []
+fieldOctets (w ∷ ws) [] = []
+fieldOctets (w ∷ ws) (x ∷ xs) = numberOctets w x ++ fieldOctets ws xs
 
 -- how many octets the fields of widths ws take
 unfoldable pub total : List ℕ → ℕ

@@ -1,8 +1,9 @@
-// Little-endian numbers in lent octets: read at the widths that layouts have, written at any width, alone or side by side.
+// Little-endian numbers in lent octets: read at the widths that layouts have, written at any width, alone or side by side;
+// and octets written as they are.
 ghost use mathlib.Core.Path.{_≡_};
 ghost use Prim.Native.Nat.{_+_, _≤_};
 ghost use lib.ListN.{length};
-ghost use Rattle.octets.specs.LittleEndian.{numberAt, total, withFields, withNumber, zeros};
+ghost use Rattle.octets.specs.LittleEndian.{numberAt, over, total, withFields, withNumber, zeros};
 
 pub fn read_u8(s: &[u8], at: usize) -> u8
     requires { ⌜ at + 1 ≤ length (now s) ⌝ }
@@ -66,6 +67,18 @@ pub fn write_fields(s: &mut [u8], at: usize, widths: &[u8], values: &[u64])
         write_number(s, at + o, w, values[i]);
         o += w;
         i += 1;
+    }
+}
+
+// The octets p from place at on.
+pub fn write_octets(s: &mut [u8], at: usize, p: &[u8])
+    requires { ⌜ at + length (now p) ≤ length (now s) ⌝ }
+    ensures { λ _. ⌜ now (s .exit) ≡ over (now (s .entry)) at (now (p .entry)) ⌝ }
+{
+    let mut j = 0;
+    while j < p.len() {
+        s[at + j] = p[j];
+        j += 1;
     }
 }
 

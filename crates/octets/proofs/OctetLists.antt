@@ -1,0 +1,163 @@
+-- Laws of numbers and fields as lists of octets: written over others, read from a longer list, and made of what is read.
+-- Assumes nothing.
+use Prim.Native.Nat.{ℕ, zero, suc, _+_, _*_, _/_, _%_, _^_, _<_, _≤_}
+use mathlib.Core.Path.{_≡_, refl, sym, ap, ap₂, _∙_}
+use mathlib.Core.List.{List, [], _∷_, _++_, append-assoc}
+use lib.ListN.{length, getD, set, take, drop, length-append, drop-of-length-le}
+use lib.Seq.{length-sets, drop-cons, take-add, drop-drop, getD-append-add, getD-drop}
+use native.Mathlib.Omega.{arith}
+use native.Mathlib.Numerals.{add-one}
+use native.Mathlib.Nat.{add-zero, pow-suc}
+use Rattle.octets.specs.LittleEndian.{numberAt, numberOctets, over, withNumber, fieldsAt, fieldOctets, withFields, total, FitFields, Octets}
+
+-- ---- written over other octets
+
+pub length-over : (s : List ℕ) (at : ℕ) (p : List ℕ) → length (over s at p) ≡ length s
+unfolding over
+length-over s at p = length-sets s at p
+
+-- the clauses of `over` as equations
+over-nil : (s : List ℕ) (at : ℕ) → over s at [] ≡ s
+unfolding over
+over-nil s at = refl
+
+over-cons : (s : List ℕ) (at x : ℕ) (p : List ℕ) → over s at (x ∷ p) ≡ over (set s at x) (suc at) p
+unfolding over
+over-cons s at x p = refl
+
+-- one after the other
+pub over-append : (s : List ℕ) (at : ℕ) (p q : List ℕ) → over s at (p ++ q) ≡ over (over s at p) (at + length p) q
+over-append s at [] q = rw (over-nil, add-zero at)
+over-append s at (x ∷ p) q =
+    let place : suc at + length p ≡ at + suc (length p) = omega arith in
+    rw (over-cons s at x (p ++ q), over-cons s at x p, over-append (set s at x) (suc at) p q, place)
+
+pub length-number-octets : (n x : ℕ) → length (numberOctets n x) ≡ n
+unfolding numberOctets
+length-number-octets zero x = refl
+length-number-octets (suc n) x = ap suc (length-number-octets n (x / 256))
+
+pub length-field-octets : (ws xs : List ℕ) → length ws ≡ length xs → length (fieldOctets ws xs) ≡ total ws
+unfolding fieldOctets total
+length-field-octets [] xs e = refl
+length-field-octets (w ∷ ws) [] e = absurd (omega arith)
+length-field-octets (w ∷ ws) (x ∷ xs) e =
+    length-append (numberOctets w x) (fieldOctets ws xs) ∙ ap₂ _+_ (length-number-octets w x) (length-field-octets ws xs (omega arith))
+
+-- fields that are written are their octets, written over what stood there
+pub fields-over : (ws s : List ℕ) (at o : ℕ) (xs : List ℕ) → withFields ws s at o xs ≡ over s (at + o) (fieldOctets ws xs)
+unfolding withFields withNumber fieldOctets
+fields-over [] s at o xs = sym (over-nil s (at + o))
+fields-over (w ∷ ws) s at o [] = sym (over-nil s (at + o))
+fields-over (w ∷ ws) s at o (x ∷ xs) =
+    let place : at + (o + w) ≡ at + o + length (numberOctets w x) = omega (arith, length-number-octets w x) in
+    fields-over ws (over s (at + o) (numberOctets w x)) at (o + w) xs
+    ∙ ap (λ (k : ℕ). over (over s (at + o) (numberOctets w x)) k (fieldOctets ws xs)) place
+    ∙ sym (over-append s (at + o) (numberOctets w x) (fieldOctets ws xs))
+
+-- a loop that writes octets, by what is left to write: g is the whole
+pub over-start : (s : List ℕ) (at : ℕ) (p : List ℕ) → over s (at + 0) (drop 0 p) ≡ over s at p
+over-start s at p = rw (add-zero at)
+
+pub over-more : (s p g : List ℕ) (at j : ℕ) → j < length p → over s (at + j) (drop j p) ≡ g
+    → over (set s (at + j) (getD p j 0)) (at + (j + 1)) (drop (j + 1) p) ≡ g
+over-more s p g at j l h =
+    let place : at + (j + 1) ≡ suc (at + j) = omega arith in
+    rw (place, add-one) (rw (drop-cons p j 0 l, over-cons) at h)
+
+pub over-ended : (s p g : List ℕ) (at j : ℕ) → length p ≤ j → over s (at + j) (drop j p) ≡ g → s ≡ g
+over-ended s p g at j l h = rw (drop-of-length-le p l, over-nil) at h
+
+-- ---- read from a longer list
+
+number-after : (n : ℕ) (p s : List ℕ) (at : ℕ) → numberAt n (p ++ s) (length p + at) ≡ numberAt n s at
+unfolding numberAt
+number-after zero p s at = refl
+number-after (suc n) p s at =
+    let place : suc (length p + at) ≡ length p + suc at = omega arith in
+    ap₂ (λ (b x : ℕ). b + 256 * x) (getD-append-add p s at 0) (ap (λ (k : ℕ). numberAt n (p ++ s) k) place ∙ number-after n p s (suc at))
+
+number-read : (n x : ℕ) (q : List ℕ) → x < 256 ^ n → numberAt n (numberOctets n x ++ q) 0 ≡ x
+unfolding numberAt numberOctets
+number-read zero x q b = omega arith
+number-read (suc n) x q b =
+    let b′ : x < 256 ^ n * 256 = rw pow-suc at b in
+    let rest = number-after n (x % 256 ∷ []) (numberOctets n (x / 256) ++ q) 0 ∙ number-read n (x / 256) q (omega arith) in
+    omega arith
+
+-- the octets of fields are read as these fields, whatever stands before and after
+pub fields-read : (ws xs p q : List ℕ) (at o : ℕ) → at + o ≡ length p → FitFields ws xs → fieldsAt ws (p ++ (fieldOctets ws xs ++ q)) at o ≡ xs
+unfolding fieldsAt fieldOctets FitFields
+fields-read [] [] p q at o e f = refl
+fields-read [] (x ∷ xs) p q at o e f = absurd f
+fields-read (w ∷ ws) [] p q at o e f = absurd f
+fields-read (w ∷ ws) (x ∷ xs) p q at o e f =
+    ap₂ _∷_
+    (ap (λ (k : ℕ). numberAt w (p ++ ((numberOctets w x ++ fieldOctets ws xs) ++ q)) k) (e ∙ sym (add-zero (length p)))
+    ∙ number-after w p ((numberOctets w x ++ fieldOctets ws xs) ++ q) 0
+    ∙ ap (λ (l : List ℕ). numberAt w l 0) (append-assoc (numberOctets w x) (fieldOctets ws xs) q)
+    ∙ number-read w x (fieldOctets ws xs ++ q) (f .0))
+    (ap (λ (l : List ℕ). fieldsAt ws l at (o + w)) regroup
+    ∙ fields-read ws xs (p ++ numberOctets w x) q at (o + w) (omega (arith, length-append p (numberOctets w x), length-number-octets w x)) (f .1))
+  where
+    regroup : p ++ ((numberOctets w x ++ fieldOctets ws xs) ++ q) ≡ (p ++ numberOctets w x) ++ (fieldOctets ws xs ++ q)
+    regroup =
+        ap (λ (l : List ℕ). p ++ l) (append-assoc (numberOctets w x) (fieldOctets ws xs) q)
+        ∙ sym (append-assoc p (numberOctets w x) (fieldOctets ws xs ++ q))
+
+-- ---- made of what is read
+
+number-made : (n : ℕ) (s : List ℕ) (at : ℕ) → Octets s → at + n ≤ length s → numberOctets n (numberAt n s at) ≡ take n (drop at s)
+unfolding numberAt numberOctets Octets
+number-made zero s at o h = refl
+number-made (suc n) s at o h =
+    let x : ℕ = numberAt n s (suc at) in
+    let b : getD s at 0 < 256 = o at in
+    let low : (getD s at 0 + 256 * x) % 256 ≡ getD s at 0 = omega arith in
+    let high : (getD s at 0 + 256 * x) / 256 ≡ x = omega arith in
+    ap₂ (λ (v w : ℕ). v ∷ numberOctets n w) low high
+    ∙ ap (λ (l : List ℕ). getD s at 0 ∷ l) (number-made n s (suc at) o (omega arith))
+    ∙ ap (λ (l : List ℕ). take (suc n) l) (sym (drop-cons s at 0 (omega arith)))
+
+-- the fields that are read from octets make these octets again
+pub fields-made : (ws s : List ℕ) (at o : ℕ) → Octets s → at + o + total ws ≤ length s → fieldOctets ws (fieldsAt ws s at o) ≡ take (total ws) (drop (at + o) s)
+unfolding fieldsAt fieldOctets total
+fields-made [] s at o h l = refl
+fields-made (w ∷ ws) s at o h l =
+    let place : at + (o + w) ≡ at + o + w = omega arith in
+    ap₂ _++_ (number-made w s (at + o) h (omega arith)) (fields-made ws s at (o + w) h (omega arith))
+    ∙ ap (λ (k : ℕ). take w (drop (at + o) s) ++ take (total ws) (drop k s)) place
+    ∙ ap (λ (r : List ℕ). take w (drop (at + o) s) ++ take (total ws) r) (sym (drop-drop w (at + o) s))
+    ∙ sym (take-add w (total ws) (drop (at + o) s))
+
+-- ---- octets
+
+pub octets-nil : Octets []
+unfolding Octets
+octets-nil k = omega arith
+
+pub octets-cons : (x : ℕ) (s : List ℕ) → x < 256 → Octets s → Octets (x ∷ s)
+unfolding Octets
+octets-cons x s l o zero = l
+octets-cons x s l o (suc k) = o k
+
+pub octets-append : (p q : List ℕ) → Octets p → Octets q → Octets (p ++ q)
+unfolding Octets
+octets-append [] q o h k = h k
+octets-append (x ∷ p) q o h zero = o zero
+octets-append (x ∷ p) q o h (suc k) = octets-append p q (λ j. o (suc j)) h k
+
+pub octets-drop : (n : ℕ) (s : List ℕ) → Octets s → Octets (drop n s)
+unfolding Octets
+octets-drop n s o k = rw (getD-drop n s k 0) (o (n + k))
+
+octets-of-number : (n x : ℕ) → Octets (numberOctets n x)
+unfolding numberOctets
+octets-of-number zero x = octets-nil
+octets-of-number (suc n) x = octets-cons (x % 256) (numberOctets n (x / 256)) (omega arith) (octets-of-number n (x / 256))
+
+pub octets-of-fields : (ws xs : List ℕ) → Octets (fieldOctets ws xs)
+unfolding fieldOctets
+octets-of-fields [] xs = octets-nil
+octets-of-fields (w ∷ ws) [] = octets-nil
+octets-of-fields (w ∷ ws) (x ∷ xs) = octets-append (numberOctets w x) (fieldOctets ws xs) (octets-of-number w x) (octets-of-fields ws xs)
