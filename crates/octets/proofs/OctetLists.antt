@@ -44,6 +44,24 @@ length-field-octets (w ∷ ws) [] e = absurd (omega arith)
 length-field-octets (w ∷ ws) (x ∷ xs) e =
     length-append (numberOctets w x) (fieldOctets ws xs) ∙ ap₂ _+_ (length-number-octets w x) (length-field-octets ws xs (omega arith))
 
+pub octet-itself : (x : ℕ) → x < 256 → numberOctets 1 x ≡ x ∷ []
+unfolding numberOctets
+octet-itself x l = let e : x % 256 ≡ x = omega arith in ap (λ (v : ℕ). v ∷ []) e
+
+-- the clause of `fieldOctets` as an equation
+pub field-octets-cons : (w : ℕ) (ws : List ℕ) (x : ℕ) (xs : List ℕ) → fieldOctets (w ∷ ws) (x ∷ xs) ≡ numberOctets w x ++ fieldOctets ws xs
+unfolding fieldOctets
+field-octets-cons w ws x xs = refl
+
+pub field-octets-append : (ws vs xs ys : List ℕ) → length ws ≡ length xs → fieldOctets (ws ++ vs) (xs ++ ys) ≡ fieldOctets ws xs ++ fieldOctets vs ys
+unfolding fieldOctets
+field-octets-append [] vs [] ys e = refl
+field-octets-append [] vs (x ∷ xs) ys e = absurd (omega arith)
+field-octets-append (w ∷ ws) vs [] ys e = absurd (omega arith)
+field-octets-append (w ∷ ws) vs (x ∷ xs) ys e =
+    ap (λ (l : List ℕ). numberOctets w x ++ l) (field-octets-append ws vs xs ys (omega arith))
+    ∙ sym (append-assoc (numberOctets w x) (fieldOctets ws xs) (fieldOctets vs ys))
+
 -- fields that are written are their octets, written over what stood there
 pub fields-over : (ws s : List ℕ) (at o : ℕ) (xs : List ℕ) → withFields ws s at o xs ≡ over s (at + o) (fieldOctets ws xs)
 unfolding withFields withNumber fieldOctets
@@ -59,11 +77,11 @@ fields-over (w ∷ ws) s at o (x ∷ xs) =
 pub over-start : (s : List ℕ) (at : ℕ) (p : List ℕ) → over s (at + 0) (drop 0 p) ≡ over s at p
 over-start s at p = rw (add-zero at)
 
-pub over-more : (s p g : List ℕ) (at j : ℕ) → j < length p → over s (at + j) (drop j p) ≡ g
-    → over (set s (at + j) (getD p j 0)) (at + (j + 1)) (drop (j + 1) p) ≡ g
-over-more s p g at j l h =
+pub over-more : (s p g : List ℕ) (at j x : ℕ) → j < length p → x ≡ getD p j 0 → over s (at + j) (drop j p) ≡ g
+    → over (set s (at + j) x) (at + (j + 1)) (drop (j + 1) p) ≡ g
+over-more s p g at j x l e h =
     let place : at + (j + 1) ≡ suc (at + j) = omega arith in
-    rw (place, add-one) (rw (drop-cons p j 0 l, over-cons) at h)
+    rw (place, add-one, e) (rw (drop-cons p j 0 l, over-cons) at h)
 
 pub over-ended : (s p g : List ℕ) (at j : ℕ) → length p ≤ j → over s (at + j) (drop j p) ≡ g → s ≡ g
 over-ended s p g at j l h = rw (drop-of-length-le p l, over-nil) at h
@@ -161,3 +179,17 @@ unfolding fieldOctets
 octets-of-fields [] xs = octets-nil
 octets-of-fields (w ∷ ws) [] = octets-nil
 octets-of-fields (w ∷ ws) (x ∷ xs) = octets-append (numberOctets w x) (fieldOctets ws xs) (octets-of-number w x) (octets-of-fields ws xs)
+
+-- a loop that reads p has seen, once it has read any, that all are octets
+pub record Seen (p : List ℕ) (j : ℕ) : Type 0 where
+  pub octets : 0 < j → Octets p
+
+pub seen-none : (p : List ℕ) → Seen p 0
+seen-none p = record { octets = λ l. absurd (omega arith) }
+
+pub seen-more : (p : List ℕ) (j : ℕ) → Octets p → Seen p (j + 1)
+seen-more p j o = record { octets = λ l. o }
+
+pub seen-all : (p : List ℕ) (j : ℕ) → length p ≤ j → Seen p j → Octets p
+seen-all [] j l h = octets-nil
+seen-all (x ∷ p) j l h = h .octets (omega arith)

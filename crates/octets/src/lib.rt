@@ -1,9 +1,9 @@
 // Little-endian numbers in lent octets: read at the widths that layouts have, written at any width, alone or side by side;
 // and octets written as they are.
 ghost use mathlib.Core.Path.{_≡_};
-ghost use Prim.Native.Nat.{_+_, _≤_};
-ghost use lib.ListN.{length};
-ghost use Rattle.octets.specs.LittleEndian.{numberAt, over, total, withFields, withNumber, zeros};
+ghost use Prim.Native.Nat.{_+_, _<_, _≤_};
+ghost use lib.ListN.{getD, length};
+ghost use Rattle.octets.specs.LittleEndian.{Octets, numberAt, over, total, withFields, withNumber, zeros};
 
 pub fn read_u8(s: &[u8], at: usize) -> u8
     requires { ⌜ at + 1 ≤ length (now s) ⌝ }
@@ -70,14 +70,26 @@ pub fn write_fields(s: &mut [u8], at: usize, widths: &[u8], values: &[u64])
     }
 }
 
-// The octets p from place at on.
+// An octet, and that all are octets.
+fn octet(s: &[u8], at: usize) -> u8
+    requires { ⌜ at < length (now s) ⌝ }
+    ensures { λ r. ⌜ r ≡ getD (now (s .entry)) at 0 ⌝ }
+    ensures { λ _. ⌜ Octets (now (s .entry)) ⌝ }
+{
+    let wide = s[at] as u16;
+    wide as u8
+}
+
+// The octets p from place at on. That they are octets, below 256, is what their type says; it is ensured for callers whose
+// definition has them as the octets of fields.
 pub fn write_octets(s: &mut [u8], at: usize, p: &[u8])
     requires { ⌜ at + length (now p) ≤ length (now s) ⌝ }
+    ensures { λ _. ⌜ Octets (now (p .entry)) ⌝ }
     ensures { λ _. ⌜ now (s .exit) ≡ over (now (s .entry)) at (now (p .entry)) ⌝ }
 {
     let mut j = 0;
     while j < p.len() {
-        s[at + j] = p[j];
+        s[at + j] = octet(p, j);
         j += 1;
     }
 }

@@ -1,0 +1,185 @@
+-- The definitions of `specs/` by cases, each as a `return` asks it: from what the calls before it gave, by `search`.
+-- Assumes nothing.
+use Prim.Native.Nat.{ℕ, _+_, _-_, _<_, _≤_}
+use mathlib.Core.Path.{_≡_, refl, sym, ap, _∙_}
+use mathlib.Core.Bool.{Bool, true, false, _&&_, _||_, not}
+use mathlib.Core.List.{List, [], _∷_, _++_}
+use lib.Dec.{eqb, ltb}
+use lib.ListN.{length, getD, take, drop, length-drop, List·getD-eq-default}
+use lib.Seq.{take-all}
+use native.Mathlib.Omega.{arith}
+use native.Mathlib.Nat.{add-zero}
+use borrow.Author.Tests.{lt-ltb, le-ltb, ltb-false, eqb-true, eq-eqb, ne-eqb, not-false}
+use Rattle.octets.specs.LittleEndian.{numberAt, fieldsAt}
+use Rattle.element.specs.declared.Kind.{Kind}
+use Rattle.element.specs.declared.Kind.the-variants.{Rann, Rreq, Rrep, Rerr}
+use Rattle.element.specs.declared.PathInfo.{PathInfo}
+use Rattle.element.specs.declared.RreqFields.{RreqFields}
+use Rattle.element.specs.declared.RrepFields.{RrepFields}
+use Rattle.element.specs.declared.read.Reading.{Reading}
+use Rattle.element.specs.declared.read.Reading.the-variants.{Announcement, Request, Reply, Error, Refused}
+use Rattle.element.specs.Layout.{kindWith, fits, idOf, lengthWith, countOk}
+use Rattle.element.specs.Octets.{kindIn, countAs, wrongLength, otherId, misfit, pathFrom, rreqFrom, rrepFrom, fieldsAs, fixedFields, readAs, readElement, reading, listPart}
+use Rattle.element.proofs.Lengths.{both, least-length}
+
+-- an octet is a number of one octet
+one-octet : (s : List ℕ) (at : ℕ) → numberAt 1 s at ≡ getD s at 0
+unfolding numberAt
+one-octet s at = omega arith
+
+module _ (s : List ℕ) (at : ℕ) where
+  pub octet-beyond : length s ≤ at → 0 ≡ getD s at 0
+  octet-beyond h = sym (List·getD-eq-default s 0 h)
+
+  pub octet-there : (x : ℕ) → x ≡ numberAt 1 s at → x ≡ getD s at 0
+  octet-there x e = e ∙ one-octet s at
+
+-- ---- types
+
+module _ (id : ℕ) where
+  pub kind-rann : id ≡ 126 → Rann ≡ kindWith id
+  unfolding kindWith
+  kind-rann e = rw e refl
+
+  pub kind-rreq : id ≡ 130 → Rreq ≡ kindWith id
+  unfolding kindWith
+  kind-rreq e = rw e refl
+
+  pub kind-rrep : id ≡ 131 → Rrep ≡ kindWith id
+  unfolding kindWith
+  kind-rrep e = rw e refl
+
+  pub kind-else : (id ≡ 126 → ⊥) → (id ≡ 130 → ⊥) → (id ≡ 131 → ⊥) → Rerr ≡ kindWith id
+  unfolding kindWith
+  kind-else a b c = rw (ne-eqb id 126 a, ne-eqb id 130 b, ne-eqb id 131 c) refl
+
+-- ---- refusals 6, 7 and 8
+
+module _ (s : List ℕ) where
+  pub too-short : length s < 2 → true ≡ wrongLength s
+  unfolding wrongLength
+  too-short h = rw (lt-ltb (length s) 2 h)
+
+  pub long-enough : (x : ℕ) → 2 ≤ length s → x ≡ numberAt 1 s 1 → not (eqb (2 + x) (length s)) ≡ wrongLength s
+  unfolding wrongLength
+  long-enough x h e = rw (le-ltb (length s) 2 h, e, one-octet s 1)
+
+  pub fits-both : (k : Kind) (x n l : ℕ) (b : Bool) → x ≡ numberAt 1 s 1 → n ≡ countAs k s → l ≡ lengthWith k n → b ≡ countOk k n
+      → (eqb x l && b) ≡ fits k (getD s 1 0) (countAs k s)
+  unfolding fits
+  fits-both k x n l b xe ne le be = cc (one-octet s 1)
+
+either-false : (a b : Bool) → (a || b) ≡ false → (a ≡ false) × (b ≡ false)
+either-false true b e = let z : _≡_ {A = ℕ} 0 1 = cc in absurd (omega arith)
+either-false false b e = (refl, e)
+
+module _ (s : List ℕ) where
+  -- octets that pass 6 are as many as Length says
+  pub length-right : wrongLength s ≡ false → (2 ≤ length s) × (2 + getD s 1 0 ≡ length s)
+  unfolding wrongLength
+  length-right e =
+      let f = either-false (ltb (length s) 2) (not (eqb (2 + getD s 1 0) (length s))) e in
+      (ltb-false (length s) 2 (f .0), eqb-true (2 + getD s 1 0) (length s) (not-false (eqb (2 + getD s 1 0) (length s)) (f .1)))
+
+  pub fixed-there : wrongLength s ≡ false → (k : Kind) → fits k (getD s 1 0) (countAs k s) ≡ true → 2 + lengthWith k 0 ≤ length s
+  unfolding fits
+  fixed-there e k f =
+      let n = countAs k s in
+      let long = eqb-true (getD s 1 0) (lengthWith k n) (both (eqb (getD s 1 0) (lengthWith k n)) (countOk k n) f .0) in
+      omega (arith, length-right e .1, least-length k n)
+
+  module _ (a : Bool) (ae : a ≡ wrongLength s) where
+    pub read-6 : a ≡ true → Refused 6 ≡ reading s
+    unfolding reading
+    read-6 yes-a = cc
+
+    module _ (no-a : a ≡ false) where
+      pub two-octets : 2 ≤ length s
+      two-octets = length-right (sym ae ∙ no-a) .0
+
+      pub one-octet-there : 0 + 1 ≤ length s
+      one-octet-there = let h = two-octets in omega arith
+
+      module _ (id : ℕ) (ide : id ≡ numberAt 1 s 0) (k : Kind) (ke : k ≡ kindWith id) (d : ℕ) (de : d ≡ idOf k) where
+        kind-is : k ≡ kindIn s
+        kind-is = ke ∙ ap kindWith (ide ∙ one-octet s 0)
+
+        pub read-7 : (d ≡ id → ⊥) → Refused 7 ≡ reading s
+        unfolding reading otherId
+        read-7 no-d =
+            let other : eqb (idOf (kindIn s)) (getD s 0 0) ≡ false = rw (← kind-is, ← de, ← one-octet s 0, ← ide) (ne-eqb d id no-d) in
+            cc
+
+        module _ (yes-d : d ≡ id) (f : Bool) (fe : f ≡ fits k (getD s 1 0) (countAs k s)) where
+          known : eqb (idOf (kindIn s)) (getD s 0 0) ≡ true
+          known = rw (← kind-is, ← de, ← one-octet s 0, ← ide) (eq-eqb d id yes-d)
+
+          pub read-8 : not f ≡ true → Refused 8 ≡ reading s
+          unfolding reading otherId misfit
+          read-8 no-f = let h = known in let k-is = kind-is in cc
+
+          pub fixed-part-there : not f ≡ false → 2 + lengthWith k 0 ≤ length s
+          fixed-part-there yes-f = fixed-there (sym ae ∙ no-a) k (sym fe ∙ not-false f yes-f)
+
+          pub read-fields : not f ≡ false → (r : Reading) → r ≡ fixedFields (readAs k s) → r ≡ reading s
+          unfolding reading otherId misfit readElement
+          read-fields yes-f r e = let h = known in let k-is = kind-is in cc
+
+-- ---- fields
+
+module _ (s : List ℕ) (k : Kind) (h : 2 + lengthWith k 0 ≤ length s) where
+  pub rann-there : k ≡ Rann → 5 + 18 ≤ length s
+  rann-there e = rw e at h
+
+  pub rreq-there : k ≡ Rreq → 28 ≤ length s
+  rreq-there e = rw e at h
+
+  pub rrep-there : k ≡ Rrep → 34 ≤ length s
+  rrep-there e = rw e at h
+
+  pub rerr-there : k ≡ Rerr → 2 + 1 ≤ length s
+  rerr-there e = let l = rw e at h in omega arith
+
+-- ---- the list part
+
+module _ (s : List ℕ) (h : 2 + lengthWith (kindIn s) 0 ≤ length s) where
+  pub id-there : 0 + 1 ≤ length s
+  id-there = omega arith
+
+  module _ (id : ℕ) (ide : id ≡ numberAt 1 s 0) (k : Kind) (ke : k ≡ kindWith id) (start : ℕ) (se : start ≡ 2 + lengthWith k 0) where
+    start-is : start ≡ 2 + lengthWith (kindIn s) 0
+    start-is = se ∙ ap (λ (j : Kind). 2 + lengthWith j 0) (ke ∙ ap kindWith (ide ∙ one-octet s 0))
+
+    pub start-within : start ≤ length s
+    start-within = rw start-is h
+
+    pub list-left : take (length s - start) (drop start s) ≡ listPart s
+    unfolding listPart
+    list-left =
+        take-all (length s - start) (drop start s) (rw (length-drop start s) (omega arith)) ∙ ap (λ (n : ℕ). drop n s) start-is
+
+module _ (s : List ℕ) where
+  pub path-read : (at : ℕ) {a b c d e f g : ℕ}
+      → a ≡ numberAt 1 s 2 → b ≡ numberAt 1 s 3 → c ≡ numberAt 1 s 4
+      → d ≡ numberAt 6 s at → e ≡ numberAt 4 s (at + 6) → f ≡ numberAt 4 s (at + 10) → g ≡ numberAt 4 s (at + 14)
+      → pathFrom (a ∷ b ∷ c ∷ d ∷ e ∷ f ∷ g ∷ []) 3 ≡ pathFrom (fieldsAt (1 ∷ 1 ∷ 1 ∷ []) s 2 0 ++ fieldsAt (6 ∷ 4 ∷ 4 ∷ 4 ∷ []) s at 0) 3
+  unfolding fieldsAt
+  path-read at p₁ p₂ p₃ p₄ p₅ p₆ p₇ = cc (add-zero at)
+
+  module _ (k : Kind) where
+    pub rann-fields : k ≡ Rann → (p : PathInfo)
+        → p ≡ pathFrom (fieldsAt (1 ∷ 1 ∷ 1 ∷ []) s 2 0 ++ fieldsAt (6 ∷ 4 ∷ 4 ∷ 4 ∷ []) s 5 0) 3 → Announcement p ≡ fixedFields (readAs k s)
+    unfolding readAs fieldsAt
+    rann-fields ke p e = rw (ke, e) refl
+
+    pub rreq-fields : k ≡ Rreq → (f : RreqFields) → f ≡ rreqFrom (fieldsAs Rreq s) → Request f ≡ fixedFields (readAs k s)
+    unfolding readAs
+    rreq-fields ke f e = rw (ke, e) refl
+
+    pub rrep-fields : k ≡ Rrep → (f : RrepFields) → f ≡ rrepFrom (fieldsAs Rrep s) → Reply f ≡ fixedFields (readAs k s)
+    unfolding readAs
+    rrep-fields ke f e = rw (ke, e) refl
+
+    pub rerr-flags : k ≡ Rerr → (x : ℕ) → x ≡ numberAt 1 s 2 → Error x ≡ fixedFields (readAs k s)
+    unfolding readAs fieldsAt
+    rerr-flags ke x e = rw (ke, e) refl

@@ -1,0 +1,106 @@
+-- Lengths and counts: which there are, and that each fits its octet. Assumes nothing.
+use Prim.Native.Nat.{ℕ, _<_, _≤_}
+use mathlib.Core.Path.{_≡_, refl}
+use mathlib.Core.Bool.{Bool, true, false, _&&_, and-eq-true-iff}
+use lib.Dec.{eqb, leb}
+use native.Mathlib.Omega.{arith}
+use borrow.Author.Tests.{leb-true, eqb-true}
+use Rattle.element.specs.declared.Kind.{Kind}
+use Rattle.element.specs.declared.Kind.the-variants.{Rann, Rreq, Rrep, Rerr}
+use Rattle.element.specs.Layout.{idOf, lengthWith, countOk, fits}
+
+pub both : (a b : Bool) → (a && b) ≡ true → (a ≡ true) × (b ≡ true)
+both a b = and-eq-true-iff a b .0
+
+-- ---- how many entries, and how long with these
+
+abbrev fewest : Kind → ℕ
+fewest Rann = 0
+fewest Rreq = 1
+fewest Rrep = 0
+fewest Rerr = 1
+
+abbrev most : Kind → ℕ
+most Rann = 0
+most Rreq = 20
+most Rrep = 22
+most Rerr = 25
+
+count-range : (k : Kind) (n : ℕ) → countOk k n ≡ true → (fewest k ≤ n) × (n ≤ most k)
+count-range Rann n e = let z = eqb-true n 0 e in (omega arith, omega arith)
+count-range Rreq n e = let b = both (leb 1 n) (leb n 20) e in (leb-true 1 n (b .0), leb-true n 20 (b .1))
+count-range Rrep n e = (omega arith, leb-true n 22 e)
+count-range Rerr n e = let b = both (leb 1 n) (leb n 25) e in (leb-true 1 n (b .0), leb-true n 25 (b .1))
+
+abbrev pub shortest : Kind → ℕ
+shortest Rann = 21
+shortest Rreq = 37
+shortest Rrep = 32
+shortest Rerr = 12
+
+abbrev pub longest : Kind → ℕ
+longest Rann = 21
+longest Rreq = 246
+longest Rrep = 252
+longest Rerr = 252
+
+pub length-range : (k : Kind) (n : ℕ) → countOk k n ≡ true → (shortest k ≤ lengthWith k n) × (lengthWith k n ≤ longest k)
+length-range Rann n e = (omega arith, omega arith)
+length-range Rreq n e = let r = count-range Rreq n e in (omega arith, omega arith)
+length-range Rrep n e = let r = count-range Rrep n e in (omega arith, omega arith)
+length-range Rerr n e = let r = count-range Rerr n e in (omega arith, omega arith)
+
+-- ID, Length and N fit their octets
+pub id-octet : (k : Kind) → idOf k < 256
+id-octet Rann = omega arith
+id-octet Rreq = omega arith
+id-octet Rrep = omega arith
+id-octet Rerr = omega arith
+
+pub length-octet : (k : Kind) (n : ℕ) → countOk k n ≡ true → lengthWith k n < 256
+length-octet Rann n e = omega arith
+length-octet Rreq n e = let r = length-range Rreq n e in omega arith
+length-octet Rrep n e = let r = length-range Rrep n e in omega arith
+length-octet Rerr n e = let r = length-range Rerr n e in omega arith
+
+pub count-octet : (k : Kind) (n : ℕ) → countOk k n ≡ true → n < 256
+count-octet Rann n e = let r = count-range Rann n e in omega arith
+count-octet Rreq n e = let r = count-range Rreq n e in omega arith
+count-octet Rrep n e = let r = count-range Rrep n e in omega arith
+count-octet Rerr n e = let r = count-range Rerr n e in omega arith
+
+-- an element with entries is no shorter than one without
+pub least-length : (k : Kind) (n : ℕ) → lengthWith k 0 ≤ lengthWith k n
+least-length Rann n = omega arith
+least-length Rreq n = omega arith
+least-length Rrep n = omega arith
+least-length Rerr n = omega arith
+
+-- ---- edges of document 01
+
+-- P3: RREQ Lengths 37 and 246 fit; 26 and 257 cannot, whatever the count
+pub p3-fit : (fits Rreq 37 1 ≡ true) × (fits Rreq 246 20 ≡ true)
+unfolding fits
+p3-fit = (refl, refl)
+
+-- a Length that would ask for another count fits none
+misfits : (k : Kind) (long n : ℕ) → (countOk k n ≡ true → long ≡ lengthWith k n → ⊥) → fits k long n ≡ false
+unfolding fits
+misfits k long n h = by (eqb long (lengthWith k n)) (countOk k n) refl refl
+  where
+    by : (a b : Bool) → eqb long (lengthWith k n) ≡ a → countOk k n ≡ b → (a && b) ≡ false
+    by false b ae be = refl
+    by true false ae be = refl
+    by true true ae be = absurd (h be (eqb-true long (lengthWith k n) ae))
+
+pub p3-cannot : (n : ℕ) → (fits Rreq 26 n ≡ false) × (fits Rreq 257 n ≡ false)
+p3-cannot n =
+    (misfits Rreq 26 n (λ c e. let r = count-range Rreq n c in omega arith), misfits Rreq 257 n (λ c e. let r = count-range Rreq n c in omega arith))
+
+-- P4: RERR Length 2 is refused, 12 fits
+pub p4-fit : fits Rerr 12 1 ≡ true
+unfolding fits
+p4-fit = refl
+
+pub p4-refused : (n : ℕ) → fits Rerr 2 n ≡ false
+p4-refused n = misfits Rerr 2 n (λ c e. let r = count-range Rerr n c in omega arith)

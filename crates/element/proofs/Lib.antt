@@ -1,0 +1,7 @@
+-- The laws of elements, for this crate's proofs and its callers'.
+pub mod Cases
+pub mod Lengths
+pub mod Scans
+pub mod ListParts
+pub mod Written
+pub mod ReadBack

@@ -1,0 +1,303 @@
+-- Read-back: what is written is read as the same fields and list, and passes 6, 7 and 8; and octets that pass these are
+-- what writing their fields gives. Assumes nothing.
+use Prim.Native.Nat.{ℕ, zero, suc, _+_, _*_, _<_, _≤_}
+use mathlib.Core.Path.{_≡_, refl, sym, ap, ap₂, _∙_}
+use mathlib.Core.Bool.{true, false, _&&_}
+use mathlib.Core.List.{List, [], _∷_, _++_, append-assoc}
+use lib.Dec.{eqb}
+use lib.ListN.{length, getD, take, drop, length-append, length-drop, take-append-drop, drop-of-length-le}
+use lib.Seq.{drop-at, drop-cons, drop-drop}
+use native.Mathlib.Omega.{arith}
+use borrow.Author.Tests.{eq-eqb, eqb-true, le-ltb, not-false}
+use Rattle.octets.specs.LittleEndian.{numberOctets, fieldsAt, fieldOctets, total, FitFields, Octets}
+use Rattle.octets.proofs.Laws.{fields-fit}
+use Rattle.octets.proofs.OctetLists.{length-field-octets, fields-read, fields-made, octets-nil, octets-cons, octets-append, octets-drop, octets-of-fields}
+use Rattle.element.specs.declared.Kind.{Kind}
+use Rattle.element.specs.declared.Kind.the-variants.{Rann, Rreq, Rrep, Rerr}
+use Rattle.element.specs.Element.{Element, rann, rreq, rrep, rerr, kindOf, countOf, fieldNumbers}
+use Rattle.element.specs.Layout.{idOf, kindWith, lengthWith, countOk, fits, fieldWidths, numberedWidths, targetWidths}
+use Rattle.element.specs.Entries.{each, numberedAt, targetAt}
+use Rattle.element.specs.Octets.{kindIn, countAs, wrongLength, otherId, misfit, fieldsAs, listAs, elementAs, readAs, readElement, fixedFields, reading, countOctets, fixedOctets, listOctets, writeElement}
+use Rattle.element.proofs.Lengths.{both, least-length, id-octet, length-octet, count-octet}
+use Rattle.element.proofs.Scans.{each-length}
+use Rattle.element.proofs.ListParts.{All, FitsTarget, FitsNumbered, targets-length, targets-octets, targets-read, targets-made, addresses-length, addresses-octets, addresses-read, addresses-made}
+use Rattle.element.proofs.Cases.{length-right}
+
+-- ---- elements that octets can hold
+
+abbrev pub EntriesFit : Element → Type 0
+EntriesFit (rann p) = Unit {0}
+EntriesFit (rreq f targets) = All FitsTarget targets
+EntriesFit (rrep f dependents) = All FitsNumbered dependents
+EntriesFit (rerr flags lost) = All FitsNumbered lost
+
+-- the fields and the entries fit their widths, and there are as many entries as there may be
+pub record Fits (e : Element) : Type 0 where
+  pub fields : FitFields (fieldWidths (kindOf e)) (fieldNumbers e)
+  pub entries : EntriesFit e
+  pub count : countOk (kindOf e) (countOf e) ≡ true
+
+-- ---- the parts of what is written
+
+as-many : (e : Element) → length (fieldWidths (kindOf e)) ≡ length (fieldNumbers e)
+as-many (rann p) = refl
+as-many (rreq f targets) = refl
+as-many (rrep f dependents) = refl
+as-many (rerr flags lost) = refl
+
+-- the fixed part has as many octets as an element without entries
+fixed-width : (k : Kind) (n : ℕ) → 2 + (total (fieldWidths k) + length (countOctets k n)) ≡ 2 + lengthWith k 0
+unfolding total
+fixed-width Rann n = refl
+fixed-width Rreq n = refl
+fixed-width Rrep n = refl
+fixed-width Rerr n = refl
+
+fixed-length : (e : Element) → length (fixedOctets (kindOf e) (countOf e) (fieldNumbers e)) ≡ 2 + lengthWith (kindOf e) 0
+unfolding fixedOctets
+fixed-length e =
+    let k : Kind = kindOf e in
+    omega (
+      arith,
+      length-append (fieldOctets (fieldWidths k) (fieldNumbers e)) (countOctets k (countOf e)),
+      length-field-octets (fieldWidths k) (fieldNumbers e) (as-many e),
+      fixed-width k (countOf e),
+    )
+
+list-there : (e : Element) → listAs (kindOf e) (writeElement e) ≡ listOctets e
+unfolding writeElement
+list-there e =
+    drop-at (fixedOctets (kindOf e) (countOf e) (fieldNumbers e)) (listOctets e) (2 + lengthWith (kindOf e) 0) (fixed-length e)
+
+fields-there : (e : Element) → FitFields (fieldWidths (kindOf e)) (fieldNumbers e) → fieldsAs (kindOf e) (writeElement e) ≡ fieldNumbers e
+unfolding writeElement fixedOctets
+fields-there e f =
+    let k : Kind = kindOf e in
+    let regroup : (fieldOctets (fieldWidths k) (fieldNumbers e) ++ countOctets k (countOf e)) ++ listOctets e
+    ≡ fieldOctets (fieldWidths k) (fieldNumbers e) ++ (countOctets k (countOf e) ++ listOctets e) =
+    append-assoc (fieldOctets (fieldWidths k) (fieldNumbers e)) (countOctets k (countOf e)) (listOctets e) in
+    ap (λ (l : List ℕ). fieldsAt (fieldWidths k) (idOf k ∷ lengthWith k (countOf e) ∷ l) 2 0) regroup
+    ∙ fields-read (fieldWidths k) (fieldNumbers e) (idOf k ∷ lengthWith k (countOf e) ∷ []) (countOctets k (countOf e) ++ listOctets e) 2 0 refl f
+
+-- with the octets of the fields unfolded, N is found by computation
+count-there : (e : Element) → countAs (kindOf e) (writeElement e) ≡ countOf e
+unfolding writeElement fixedOctets fieldOctets numberOctets
+count-there (rann p) = refl
+count-there (rreq f targets) = refl
+count-there (rrep f dependents) = refl
+count-there (rerr flags lost) = refl
+
+kind-there : (e : Element) → kindIn (writeElement e) ≡ kindOf e
+unfolding writeElement fixedOctets kindWith
+kind-there (rann p) = refl
+kind-there (rreq f targets) = refl
+kind-there (rrep f dependents) = refl
+kind-there (rerr flags lost) = refl
+
+-- ---- what is written is read back
+
+made : (e : Element) → EntriesFit e → elementAs (kindOf e) (fieldNumbers e) (countOf e) (listOctets e) ≡ e
+made (rann p) f = refl
+made (rreq g targets) f = ap (rreq g) (targets-read targets f)
+made (rrep g dependents) f = ap (rrep g) (addresses-read dependents f)
+made (rerr flags lost) f = ap (rerr flags) (addresses-read lost f)
+
+pub read-back : (e : Element) → Fits e → readElement (writeElement e) ≡ e
+unfolding readElement readAs
+read-back e f =
+    ap (λ (k : Kind). elementAs k (fieldsAs k (writeElement e)) (countAs k (writeElement e)) (listAs k (writeElement e))) (kind-there e)
+    ∙ ap (λ (xs : List ℕ). elementAs (kindOf e) xs (countAs (kindOf e) (writeElement e)) (listAs (kindOf e) (writeElement e))) (fields-there e (f .fields))
+    ∙ ap₂ (elementAs (kindOf e) (fieldNumbers e)) (count-there e) (list-there e)
+    ∙ made e (f .entries)
+
+-- ---- and passes 6, 7 and 8
+
+list-length : (e : Element) → 2 + lengthWith (kindOf e) 0 + length (listOctets e) ≡ 2 + lengthWith (kindOf e) (countOf e)
+list-length (rann p) = refl
+list-length (rreq f targets) = omega (arith, targets-length targets)
+list-length (rrep f dependents) = omega (arith, addresses-length dependents)
+list-length (rerr flags lost) = omega (arith, addresses-length lost)
+
+-- an element has as many octets as its Length says, and two
+pub element-length : (e : Element) → length (writeElement e) ≡ 2 + lengthWith (kindOf e) (countOf e)
+unfolding writeElement
+element-length e =
+    length-append (fixedOctets (kindOf e) (countOf e) (fieldNumbers e)) (listOctets e)
+    ∙ ap (λ (n : ℕ). n + length (listOctets e)) (fixed-length e) ∙ list-length e
+
+length-there : (e : Element) → getD (writeElement e) 1 0 ≡ lengthWith (kindOf e) (countOf e)
+unfolding writeElement fixedOctets
+length-there e = refl
+
+id-there : (e : Element) → getD (writeElement e) 0 0 ≡ idOf (kindOf e)
+unfolding writeElement fixedOctets
+id-there e = refl
+
+pub passes-6 : (e : Element) → wrongLength (writeElement e) ≡ false
+unfolding wrongLength
+passes-6 e =
+    let long : 2 ≤ length (writeElement e) = omega (arith, element-length e) in
+    let same : 2 + getD (writeElement e) 1 0 ≡ length (writeElement e) = omega (arith, element-length e, length-there e) in
+    rw (le-ltb (length (writeElement e)) 2 long, eq-eqb (2 + getD (writeElement e) 1 0) (length (writeElement e)) same) refl
+
+pub passes-7 : (e : Element) → otherId (writeElement e) ≡ false
+unfolding otherId
+passes-7 e = rw (kind-there e, id-there e, eq-eqb (idOf (kindOf e)) (idOf (kindOf e)) refl) refl
+
+pub passes-8 : (e : Element) → countOk (kindOf e) (countOf e) ≡ true → misfit (writeElement e) ≡ false
+unfolding misfit fits
+passes-8 e h =
+    rw (kind-there e, count-there e, length-there e, h, eq-eqb (lengthWith (kindOf e) (countOf e)) (lengthWith (kindOf e) (countOf e)) refl) refl
+
+-- the reader answers the fixed fields that were written
+pub reads : (e : Element) → Fits e → reading (writeElement e) ≡ fixedFields e
+unfolding reading
+reads e f = rw (passes-6 e, passes-7 e, passes-8 e (f .count), read-back e f) refl
+
+-- ---- every octet written is one
+
+list-octets : (e : Element) → Octets (listOctets e)
+list-octets (rann p) = octets-nil
+list-octets (rreq f targets) = targets-octets targets
+list-octets (rrep f dependents) = addresses-octets dependents
+list-octets (rerr flags lost) = addresses-octets lost
+
+count-octets : (k : Kind) (n : ℕ) → n < 256 → Octets (countOctets k n)
+count-octets Rann n l = octets-nil
+count-octets Rreq n l = octets-cons n [] l octets-nil
+count-octets Rrep n l = octets-cons n [] l octets-nil
+count-octets Rerr n l = octets-cons n [] l octets-nil
+
+pub octets-written : (e : Element) → countOk (kindOf e) (countOf e) ≡ true → Octets (writeElement e)
+unfolding writeElement fixedOctets
+octets-written e h =
+    let k : Kind = kindOf e in
+    let n : ℕ = countOf e in
+    let fields : List ℕ = fieldOctets (fieldWidths k) (fieldNumbers e) in
+    octets-cons (idOf k) (lengthWith k n ∷ (fields ++ countOctets k n) ++ listOctets e) (id-octet k)
+    (octets-cons (lengthWith k n) ((fields ++ countOctets k n) ++ listOctets e) (length-octet k n h)
+    (octets-append (fields ++ countOctets k n) (listOctets e)
+    (octets-append fields (countOctets k n) (octets-of-fields (fieldWidths k) (fieldNumbers e)) (count-octets k n (count-octet k n h)))
+    (list-octets e)))
+
+-- ---- octets that pass are what writing their fields gives
+
+-- what octets of a type are that pass 6, 7 and 8
+record Passed (s : List ℕ) (k : Kind) : Type 0 where
+  id : idOf k ≡ getD s 0 0
+  long : getD s 1 0 ≡ lengthWith k (countAs k s)
+  count : countOk k (countAs k s) ≡ true
+  size : length s ≡ 2 + lengthWith k (countAs k s)
+
+passed : (s : List ℕ) → wrongLength s ≡ false → otherId s ≡ false → misfit s ≡ false → Passed s (kindIn s)
+unfolding otherId misfit fits
+passed s a b c =
+    let k : Kind = kindIn s in
+    let n : ℕ = countAs k s in
+    let m = both (eqb (getD s 1 0) (lengthWith k n)) (countOk k n) (not-false (eqb (getD s 1 0) (lengthWith k n) && countOk k n) c) in
+    let long = eqb-true (getD s 1 0) (lengthWith k n) (m .0) in
+    record {
+      id = eqb-true (idOf k) (getD s 0 0) (not-false (eqb (idOf k) (getD s 0 0)) b);
+      long = long;
+      count = m .1;
+      size = sym (length-right s a .1) ∙ ap (λ (l : ℕ). 2 + l) long;
+    }
+
+-- octets of a type are the first two, the fields, N, and the list
+after-fields : (s : List ℕ) (k : Kind) → 2 + lengthWith k 0 ≤ length s → drop (2 + total (fieldWidths k)) s ≡ countOctets k (countAs k s) ++ listAs k s
+unfolding total
+after-fields s Rann h = refl
+after-fields s Rreq h = drop-cons s 27 0 h
+after-fields s Rrep h = drop-cons s 33 0 h
+after-fields s Rerr h = drop-cons s 3 0 h
+
+parts : (s : List ℕ) (k : Kind) → 2 + lengthWith k 0 ≤ length s
+    → s ≡ getD s 0 0 ∷ getD s 1 0 ∷ (take (total (fieldWidths k)) (drop 2 s) ++ countOctets k (countAs k s)) ++ listAs k s
+parts s k h =
+    let m : ℕ = total (fieldWidths k) in
+    let rest : drop 2 s ≡ (take m (drop 2 s) ++ countOctets k (countAs k s)) ++ listAs k s =
+    sym (take-append-drop m (drop 2 s)) ∙ ap (λ (l : List ℕ). take m (drop 2 s) ++ l) (drop-drop m 2 s ∙ after-fields s k h)
+    ∙ sym (append-assoc (take m (drop 2 s)) (countOctets k (countAs k s)) (listAs k s)) in
+    drop-cons s 0 0 (omega arith) ∙ ap (λ (l : List ℕ). getD s 0 0 ∷ l) (drop-cons s 1 0 (omega arith) ∙ ap (λ (l : List ℕ). getD s 1 0 ∷ l) rest)
+
+-- the parts of what is read
+kind-read : (k : Kind) (s : List ℕ) → kindOf (readAs k s) ≡ k
+unfolding readAs
+kind-read Rann s = refl
+kind-read Rreq s = refl
+kind-read Rrep s = refl
+kind-read Rerr s = refl
+
+count-read : (k : Kind) (s : List ℕ) → countOf (readAs k s) ≡ countAs k s
+unfolding readAs
+count-read Rann s = refl
+count-read Rreq s = each-length (targetAt (drop 28 s)) 0 (getD s 27 0)
+count-read Rrep s = each-length (numberedAt (drop 34 s)) 0 (getD s 33 0)
+count-read Rerr s = each-length (numberedAt (drop 4 s)) 0 (getD s 3 0)
+
+numbers-read : (k : Kind) (s : List ℕ) → fieldNumbers (readAs k s) ≡ fieldsAs k s
+unfolding readAs fieldsAt
+numbers-read Rann s = refl
+numbers-read Rreq s = refl
+numbers-read Rrep s = refl
+numbers-read Rerr s = refl
+
+list-read : (k : Kind) (s : List ℕ) → Octets s → length s ≡ 2 + lengthWith k (countAs k s) → listOctets (readAs k s) ≡ listAs k s
+unfolding readAs
+list-read Rann s o e = let end : length s ≤ 23 = omega arith in sym (drop-of-length-le s end)
+list-read Rreq s o e = targets-made (drop 28 s) (getD s 27 0) (octets-drop 28 s o) (rw length-drop (omega arith))
+list-read Rrep s o e = addresses-made (drop 34 s) (getD s 33 0) (octets-drop 34 s o) (rw length-drop (omega arith))
+list-read Rerr s o e = addresses-made (drop 4 s) (getD s 3 0) (octets-drop 4 s o) (rw length-drop (omega arith))
+
+fields-room : (k : Kind) → 2 + 0 + total (fieldWidths k) ≤ 2 + lengthWith k 0
+unfolding total
+fields-room Rann = omega arith
+fields-room Rreq = omega arith
+fields-room Rrep = omega arith
+fields-room Rerr = omega arith
+
+written : (s : List ℕ) (k : Kind) → Octets s → Passed s k → writeElement (readAs k s) ≡ s
+unfolding writeElement fixedOctets
+written s k o p =
+    let room : 2 + lengthWith k 0 ≤ length s = omega (arith, p .size, least-length k (countAs k s)) in
+    let fields : fieldOctets (fieldWidths k) (fieldsAs k s) ≡ take (total (fieldWidths k)) (drop 2 s) =
+    fields-made (fieldWidths k) s 2 0 o (omega (arith, fields-room k)) in
+    rw (kind-read k s, count-read k s, numbers-read k s, list-read k s o (p .size), fields, p .id, ← p .long) (sym (parts s k room))
+
+pub write-back : (s : List ℕ) → Octets s → wrongLength s ≡ false → otherId s ≡ false → misfit s ≡ false → writeElement (readElement s) ≡ s
+unfolding readElement
+write-back s o a b c = written s (kindIn s) o (passed s a b c)
+
+-- ---- and these fields fit
+
+all-each : {A : Type 0} (P : A → Type 0) (f : ℕ → A) → ((i : ℕ) → P (f i)) → (i n : ℕ) → All P (each f i n)
+unfolding All each
+all-each P f h i zero = tt
+all-each P f h i (suc n) = (h i, all-each P f h (suc i) n)
+
+target-fits : (part : List ℕ) → Octets part → (i : ℕ) → FitsTarget (targetAt part i)
+unfolding targetAt fieldsAt
+target-fits part o i = fields-fit targetWidths part (11 * i) 0 o
+
+numbered-fits : (part : List ℕ) → Octets part → (i : ℕ) → FitsNumbered (numberedAt part i)
+unfolding numberedAt fieldsAt
+numbered-fits part o i = fields-fit numberedWidths part (10 * i) 0 o
+
+entries-fit : (k : Kind) (s : List ℕ) → Octets s → EntriesFit (readAs k s)
+unfolding readAs
+entries-fit Rann s o = tt
+entries-fit Rreq s o = all-each FitsTarget (targetAt (drop 28 s)) (target-fits (drop 28 s) (octets-drop 28 s o)) 0 (getD s 27 0)
+entries-fit Rrep s o = all-each FitsNumbered (numberedAt (drop 34 s)) (numbered-fits (drop 34 s) (octets-drop 34 s o)) 0 (getD s 33 0)
+entries-fit Rerr s o = all-each FitsNumbered (numberedAt (drop 4 s)) (numbered-fits (drop 4 s) (octets-drop 4 s o)) 0 (getD s 3 0)
+
+fit-as : (s : List ℕ) (k : Kind) → Octets s → Passed s k → Fits (readAs k s)
+fit-as s k o p =
+    record {
+      fields = rw (kind-read k s, numbers-read k s) (fields-fit (fieldWidths k) s 2 0 o);
+      entries = entries-fit k s o;
+      count = rw (kind-read k s, count-read k s) (p .count);
+    }
+
+pub read-fits : (s : List ℕ) → Octets s → wrongLength s ≡ false → otherId s ≡ false → misfit s ≡ false → Fits (readElement s)
+unfolding readElement
+read-fits s o a b c = fit-as s (kindIn s) o (passed s a b c)

@@ -1,0 +1,184 @@
+-- Lists of entries: by index, and the scans over their addresses. Assumes nothing.
+use Prim.Native.Nat.{ℕ, zero, suc, _+_, _-_, _*_, _/_, _<_, _≤_}
+use mathlib.Core.Path.{_≡_, refl, sym, ap, _∙_}
+use mathlib.Core.Bool.{Bool, true, false, _&&_, _||_, not}
+use mathlib.Core.List.{List, [], _∷_, map}
+use lib.Dec.{ltb}
+use lib.ListN.{length, getD}
+use native.Mathlib.Omega.{arith}
+use native.Mathlib.Nat.{add-zero, sub-zero}
+use borrow.Author.Tests.{eq-eqb, ne-eqb}
+use Rattle.octets.specs.LittleEndian.{numberAt, fieldsAt}
+use Rattle.table.specs.declared.address.Address.{Address}
+use Rattle.table.specs.Address.{same}
+use Rattle.element.specs.declared.list.ListKind.{ListKind}
+use Rattle.element.specs.declared.list.ListKind.the-variants.{Targets, NumberedAddresses}
+use Rattle.element.specs.declared.NumberedAddress.{NumberedAddress}
+use Rattle.element.specs.declared.Target.{Target}
+use Rattle.element.specs.Entries.{each, numberedFrom, numberedAt, targetFrom, targetAt}
+use Rattle.element.specs.Lists.{addressIn, entriesIn, addressesFrom, addressesIn, allOnes, allowed, anyForbidden, among, twice, onesBesideOthers}
+
+-- ---- entries one after another
+
+module _ {A : Type 0} (f : ℕ → A) where
+  pub each-length : (i n : ℕ) → length (each f i n) ≡ n
+  unfolding each
+  each-length i zero = refl
+  each-length i (suc n) = ap suc (each-length (suc i) n)
+
+  pub each-at : (i n k : ℕ) (d : A) → k < n → getD (each f i n) k d ≡ f (i + k)
+  unfolding each
+  each-at i zero k d l = absurd (omega arith)
+  each-at i (suc n) zero d l = ap f (omega arith)
+  each-at i (suc n) (suc k) d l = let place : suc i + k ≡ i + suc k = omega arith in each-at (suc i) n k d (omega arith) ∙ ap f place
+
+  each-cons : (i n : ℕ) → each f i (suc n) ≡ f i ∷ each f (suc i) n
+  unfolding each
+  each-cons i n = refl
+
+  each-none : (i : ℕ) → each f i 0 ≡ []
+  unfolding each
+  each-none i = refl
+
+  -- the entries from i on are entry i and those after it
+  pub each-next : (i n : ℕ) → i < n → each f i (n - i) ≡ f i ∷ each f (i + 1) (n - (i + 1))
+  each-next i n l =
+      let more : n - i ≡ suc (n - (i + 1)) = omega arith in
+      let next : suc i ≡ i + 1 = omega arith in
+      ap (λ (m : ℕ). each f i m) more ∙ each-cons i (n - (i + 1)) ∙ ap (λ (m : ℕ). f i ∷ each f m (n - (i + 1))) next
+
+  pub each-end : (i n : ℕ) → n ≤ i → each f i (n - i) ≡ []
+  each-end i n l = let none : n - i ≡ 0 = omega arith in ap (λ (m : ℕ). each f i m) none ∙ each-none i
+
+pub each-map : {A B : Type 0} (g : A → B) (f : ℕ → A) (i n : ℕ) → map g (each f i n) ≡ each (λ (k : ℕ). g (f k)) i n
+unfolding each
+each-map g f i zero = refl
+each-map g f i (suc n) = ap (λ (l : List _). g (f i) ∷ l) (each-map g f (suc i) n)
+
+-- ---- an entry by its octets
+
+module _ (part : List ℕ) (i : ℕ) where
+  pub target-read : {a b c : ℕ} → a ≡ numberAt 1 part (11 * i) → b ≡ numberAt 6 part (11 * i + 1) → c ≡ numberAt 4 part (11 * i + 7)
+      → targetFrom (a ∷ b ∷ c ∷ []) ≡ targetAt part i
+  unfolding targetAt fieldsAt
+  target-read p₁ p₂ p₃ = cc (add-zero (11 * i))
+
+  pub numbered-read : {a b : ℕ} → a ≡ numberAt 6 part (10 * i) → b ≡ numberAt 4 part (10 * i + 6) → numberedFrom (a ∷ b ∷ []) ≡ numberedAt part i
+  unfolding numberedAt fieldsAt
+  numbered-read p₁ p₂ = cc (add-zero (10 * i))
+
+  module _ (k : ListKind) (l : i < entriesIn k part) where
+    pub target-within : k ≡ Targets → 11 * (i + 1) ≤ length part
+    unfolding entriesIn
+    target-within e = let h = rw e at l in omega arith
+
+    pub numbered-within : k ≡ NumberedAddresses → 10 * (i + 1) ≤ length part
+    unfolding entriesIn
+    numbered-within e = let h = rw e at l in omega arith
+
+    pub target-address : k ≡ Targets → (t : Target) → t ≡ targetAt part i → t .address ≡ addressIn k part i
+    target-address ke t e = rw (ke, e)
+
+    pub numbered-address : k ≡ NumberedAddresses → (a : NumberedAddress) → a ≡ numberedAt part i → a .address ≡ addressIn k part i
+    numbered-address ke a e = rw (ke, e)
+
+-- ---- scans: F asks p of each entry and those after it, and ends at the first that passes
+
+module _ (F : List Address → Bool) (p : Address → List Address → Bool) (empty : F [] ≡ false)
+    (more : (a : Address) (rest : List Address) → F (a ∷ rest) ≡ (p a rest || F rest))
+    (k : ListKind) (part : List ℕ) where
+  from-next : (i : ℕ) → i < entriesIn k part → F (addressesFrom k part i) ≡ (p (addressIn k part i) (addressesFrom k part (i + 1)) || F (addressesFrom k part (i + 1)))
+  unfolding addressesFrom
+  from-next i l = ap F (each-next (addressIn k part) i (entriesIn k part) l) ∙ more (addressIn k part i) (addressesFrom k part (i + 1))
+
+  scan-found : (i : ℕ) (g : Bool) → i < entriesIn k part → p (addressIn k part i) (addressesFrom k part (i + 1)) ≡ true → F (addressesFrom k part i) ≡ g → true ≡ g
+  scan-found i g l yes-p e = sym (from-next i l ∙ ap (λ (b : Bool). b || F (addressesFrom k part (i + 1))) yes-p) ∙ e
+
+  scan-more : (i : ℕ) (g : Bool) → i < entriesIn k part → p (addressIn k part i) (addressesFrom k part (i + 1)) ≡ false → F (addressesFrom k part i) ≡ g
+      → F (addressesFrom k part (i + 1)) ≡ g
+  scan-more i g l no-p e = sym (from-next i l ∙ ap (λ (b : Bool). b || F (addressesFrom k part (i + 1))) no-p) ∙ e
+
+  scan-ended : (i : ℕ) (g : Bool) → entriesIn k part ≤ i → F (addressesFrom k part i) ≡ g → false ≡ g
+  unfolding addressesFrom
+  scan-ended i g l e = sym empty ∙ ap F (sym (each-end (addressIn k part) i (entriesIn k part) l)) ∙ e
+
+-- as the loops ask it: n entries, at entry i, and g what the whole scan gives
+module _ (k : ListKind) (part : List ℕ) (n : ℕ) (ne : n ≡ entriesIn k part) (i : ℕ) (g : Bool) where
+  module _ (l : i < n) where
+    pub entry-there : i < entriesIn k part
+    entry-there = rw (← ne) l
+
+    module _ (a : Address) (ae : a ≡ addressIn k part i) where
+      module _ (b : Bool) (be : b ≡ allowed k a) where
+        allowed-is : b ≡ allowed k (addressIn k part i)
+        allowed-is = be ∙ ap (allowed k) ae
+
+        pub forbidden-found : not b ≡ true → anyForbidden k (addressesFrom k part i) ≡ g → true ≡ g
+        unfolding anyForbidden
+        forbidden-found no-b =
+            scan-found (anyForbidden k) (λ c rest. not (allowed k c)) refl (λ c rest. refl) k part i g entry-there (ap not (sym allowed-is) ∙ no-b)
+
+        pub forbidden-more : not b ≡ false → anyForbidden k (addressesFrom k part i) ≡ g → anyForbidden k (addressesFrom k part (i + 1)) ≡ g
+        unfolding anyForbidden
+        forbidden-more yes-b =
+            scan-more (anyForbidden k) (λ c rest. not (allowed k c)) refl (λ c rest. refl) k part i g entry-there (ap not (sym allowed-is) ∙ yes-b)
+
+      module _ (d : Address) where
+        same-is : same a d ≡ same (addressIn k part i) d
+        same-is = ap (λ (c : Address). same c d) ae
+
+        pub among-found : a .0 ≡ d .0 → among d (addressesFrom k part i) ≡ g → true ≡ g
+        unfolding among
+        among-found e =
+            scan-found (among d) (λ c rest. same c d) refl (λ c rest. refl) k part i g entry-there (sym same-is ∙ eq-eqb (a .0) (d .0) e)
+
+        pub among-more : (a .0 ≡ d .0 → ⊥) → among d (addressesFrom k part i) ≡ g → among d (addressesFrom k part (i + 1)) ≡ g
+        unfolding among
+        among-more e =
+            scan-more (among d) (λ c rest. same c d) refl (λ c rest. refl) k part i g entry-there (sym same-is ∙ ne-eqb (a .0) (d .0) e)
+
+      module _ (b : Bool) (be : b ≡ among a (addressesFrom k part (i + 1))) where
+        among-is : b ≡ among (addressIn k part i) (addressesFrom k part (i + 1))
+        among-is = be ∙ ap (λ (c : Address). among c (addressesFrom k part (i + 1))) ae
+
+        pub twice-found : b ≡ true → twice (addressesFrom k part i) ≡ g → true ≡ g
+        unfolding twice
+        twice-found yes-b = scan-found twice among refl (λ c rest. refl) k part i g entry-there (sym among-is ∙ yes-b)
+
+        pub twice-more : b ≡ false → twice (addressesFrom k part i) ≡ g → twice (addressesFrom k part (i + 1)) ≡ g
+        unfolding twice
+        twice-more no-b = scan-more twice among refl (λ c rest. refl) k part i g entry-there (sym among-is ∙ no-b)
+
+  module _ (l : n ≤ i) where
+    pub all-passed : entriesIn k part ≤ i
+    all-passed = rw (← ne) l
+
+    pub forbidden-ended : anyForbidden k (addressesFrom k part i) ≡ g → false ≡ g
+    unfolding anyForbidden
+    forbidden-ended = scan-ended (anyForbidden k) (λ c rest. not (allowed k c)) refl (λ c rest. refl) k part i g all-passed
+
+    pub among-ended : (d : Address) → among d (addressesFrom k part i) ≡ g → false ≡ g
+    unfolding among
+    among-ended d = scan-ended (among d) (λ c rest. same c d) refl (λ c rest. refl) k part i g all-passed
+
+    pub twice-ended : twice (addressesFrom k part i) ≡ g → false ≡ g
+    unfolding twice
+    twice-ended = scan-ended twice among refl (λ c rest. refl) k part i g all-passed
+
+module _ (k : ListKind) (part : List ℕ) where
+  pub ones-beside : (b : Bool) (n : ℕ) → b ≡ among allOnes (addressesIn k part) → n ≡ entriesIn k part
+      → (b && ltb 1 n) ≡ onesBesideOthers (addressesIn k part)
+  unfolding onesBesideOthers addressesFrom
+  ones-beside b n be ne =
+      let long : length (each (addressIn k part) 0 (entriesIn k part - 0)) ≡ n = each-length (addressIn k part) 0 (entriesIn k part - 0) ∙ sub-zero (entriesIn k part) ∙ sym ne in
+      cc
+
+module _ (k : ListKind) (part : List ℕ) (n : ℕ) (ne : n ≡ length part / 11) where
+  pub targets-many : k ≡ Targets → n ≡ entriesIn k part
+  unfolding entriesIn
+  targets-many e = rw e ne
+
+module _ (k : ListKind) (part : List ℕ) (n : ℕ) (ne : n ≡ length part / 10) where
+  pub numbered-many : k ≡ NumberedAddresses → n ≡ entriesIn k part
+  unfolding entriesIn
+  numbered-many e = rw e ne

@@ -1,0 +1,16 @@
+-- `element::list::address_at` meets its contract: kind by kind. Assumes nothing.
+use borrow.Author.Needs.{needs}
+use Rattle.element.proofs.Scans.{target-within, numbered-within, target-address, numbered-address}
+use Rattle.element.proofs.list.address_at.Statement.{statement}
+use Rattle.element.proofs.list.address_at.Tie as tie
+
+pub address-at-spec : {M : Type 1} → statement M
+address-at-spec =
+    tie.close
+    (tie.spec
+    (λ c. search needs)
+    (λ c κs. search target-within)
+    (λ c. search needs)
+    (λ c κs. search numbered-within)
+    (λ c. search target-address)
+    (λ c. search numbered-address))

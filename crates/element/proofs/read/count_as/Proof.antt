@@ -1,0 +1,20 @@
+-- `element::read::count_as` meets its contract: type by type. Assumes nothing.
+use borrow.Author.Needs.{needs}
+use Rattle.element.proofs.read.count_as.Statement.{statement}
+use Rattle.element.proofs.read.count_as.Tie as tie
+
+pub count-as-spec : {M : Type 1} → statement M
+count-as-spec =
+    tie.close
+    (tie.spec
+    (λ c. search needs)
+    (λ c. search needs)
+    (λ c κs. search needs)
+    (λ c. search needs)
+    (λ c κs. search needs)
+    (λ c. search needs)
+    (λ c κs. search needs)
+    (λ c. search needs)
+    (λ c. cc)
+    (λ c. cc)
+    (λ c. cc))

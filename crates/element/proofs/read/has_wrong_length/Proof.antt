@@ -1,0 +1,15 @@
+-- `element::read::has_wrong_length` meets its contract: both ways out of the test. Assumes nothing.
+use borrow.Author.Needs.{needs}
+use Rattle.element.proofs.Cases.{too-short, long-enough}
+use Rattle.element.proofs.read.has_wrong_length.Statement.{statement}
+use Rattle.element.proofs.read.has_wrong_length.Tie as tie
+
+pub has-wrong-length-spec : {M : Type 1} → statement M
+has-wrong-length-spec =
+    tie.close
+    (tie.spec
+    (λ c. search too-short)
+    (λ c κs. search needs)
+    (λ c. search needs)
+    (λ c. search needs)
+    (λ c. search long-enough))

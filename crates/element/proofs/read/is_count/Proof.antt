@@ -1,0 +1,17 @@
+-- `element::read::is_count` meets its contract: type by type. Assumes nothing.
+use borrow.Author.Needs.{needs}
+use Rattle.element.proofs.read.is_count.Statement.{statement}
+use Rattle.element.proofs.read.is_count.Tie as tie
+
+pub is-count-spec : {M : Type 1} → statement M
+is-count-spec =
+    tie.close
+    (tie.spec
+    (λ c. search needs)
+    (λ c. search needs)
+    (λ c. search needs)
+    (λ c. search needs)
+    (λ c. cc)
+    (λ c. cc)
+    (λ c. cc)
+    (λ c. cc))

@@ -1,0 +1,13 @@
+-- `element::read::kind_with` meets its contract: ID by ID. Assumes nothing.
+use Rattle.element.proofs.Cases.{kind-rann, kind-rreq, kind-rrep, kind-else}
+use Rattle.element.proofs.read.kind_with.Statement.{statement}
+use Rattle.element.proofs.read.kind_with.Tie as tie
+
+pub kind-with-spec : {M : Type 1} → statement M
+kind-with-spec =
+    tie.close
+    (tie.spec
+    (λ c. search kind-rann)
+    (λ c. search kind-rreq)
+    (λ c. search kind-rrep)
+    (λ c. search kind-else))

@@ -1,0 +1,23 @@
+-- `element::read::length_with` meets its contract: type by type. Assumes nothing.
+use borrow.Author.Needs.{needs}
+use Rattle.element.proofs.read.length_with.Statement.{statement}
+use Rattle.element.proofs.read.length_with.Tie as tie
+
+pub length-with-spec : {M : Type 1} → statement M
+length-with-spec =
+    tie.close
+    (tie.spec
+    (λ c. search needs)
+    (λ c. search needs)
+    (λ c. search needs)
+    (λ c. search needs)
+    (λ c. search needs)
+    (λ c. search needs)
+    (λ c. search needs)
+    (λ c. search needs)
+    (λ c. search needs)
+    (λ c. search needs)
+    (λ c. search needs)
+    (λ c. cc)
+    (λ c. cc)
+    (λ c. cc))

@@ -1,0 +1,17 @@
+-- `element::read::list_start` meets its contract: type by type. Assumes nothing.
+use borrow.Author.Needs.{needs}
+use Rattle.element.proofs.read.list_start.Statement.{statement}
+use Rattle.element.proofs.read.list_start.Tie as tie
+
+pub list-start-spec : {M : Type 1} → statement M
+list-start-spec =
+    tie.close
+    (tie.spec
+    (λ c. search needs)
+    (λ c. search needs)
+    (λ c. search needs)
+    (λ c. search needs)
+    (λ c. cc)
+    (λ c. cc)
+    (λ c. cc)
+    (λ c. cc))

@@ -1,0 +1,14 @@
+-- `element::read::read_rreq` meets its contract: field by field. Assumes nothing.
+use borrow.Author.Needs.{needs}
+use Rattle.octets.specs.LittleEndian.{fieldsAt}
+use Rattle.element.proofs.read.read_rreq.Statement.{statement}
+use Rattle.element.proofs.read.read_rreq.Tie as tie
+
+pub read-rreq-spec : {M : Type 1} → statement M
+unfolding fieldsAt
+read-rreq-spec =
+    tie.close
+    (tie.spec
+    (λ c κs. search needs)
+    (λ c κs. search needs)
+    (λ c. cc))

@@ -1,0 +1,19 @@
+-- `element::write::start_rreq` meets its contract: its numbers are written side by side. Assumes nothing.
+use borrow.Author.Needs.{needs}
+use Rattle.element.proofs.Written.{rreq-started}
+use Rattle.octets.specs.LittleEndian.{total}
+use Rattle.element.proofs.write.start_rreq.Statement.{statement}
+use Rattle.element.proofs.write.start_rreq.Tie as tie
+
+pub start-rreq-spec : {M : Type 1} → statement M
+unfolding total
+start-rreq-spec =
+    tie.close
+    (tie.spec
+    (λ c κs. search needs)
+    (λ c. search needs)
+    (λ c. search needs)
+    (λ c κs. search needs)
+    (λ c. search needs)
+    (λ c. search needs)
+    (λ c. search (needs, rreq-started)))

@@ -1,0 +1,19 @@
+-- `element::write::write_rann` meets its contract: its numbers are written side by side. Assumes nothing.
+use borrow.Author.Needs.{needs}
+use Rattle.element.proofs.Written.{rann-written}
+use Rattle.octets.specs.LittleEndian.{total}
+use Rattle.element.proofs.write.write_rann.Statement.{statement}
+use Rattle.element.proofs.write.write_rann.Tie as tie
+
+pub write-rann-spec : {M : Type 1} → statement M
+unfolding total
+write-rann-spec =
+    tie.close
+    (tie.spec
+    (λ c κs. search needs)
+    (λ c. search needs)
+    (λ c. search needs)
+    (λ c κs. search needs)
+    (λ c. search needs)
+    (λ c. search needs)
+    (λ c. search (needs, rann-written)))

@@ -1,0 +1,61 @@
+-- The four elements as values, with their lists. Assumes nothing.
+use Prim.Native.Nat.{ℕ}
+use mathlib.Core.List.{List, [], _∷_, _++_}
+use lib.ListN.{length}
+use Rattle.element.specs.declared.Kind.{Kind}
+use Rattle.element.specs.declared.Kind.the-variants.{Rann, Rreq, Rrep, Rerr}
+use Rattle.element.specs.declared.PathInfo.{PathInfo}
+use Rattle.element.specs.declared.NumberedAddress.{NumberedAddress}
+use Rattle.element.specs.declared.Target.{Target}
+use Rattle.element.specs.declared.RreqFields.{RreqFields}
+use Rattle.element.specs.declared.RrepFields.{RrepFields}
+
+pub data Element : Type 0 where
+  rann : PathInfo → Element
+  rreq : RreqFields → (destinations : List Target) → Element
+  rrep : RrepFields → (dependents : List NumberedAddress) → Element
+  rerr : (flags : ℕ) → (destinations : List NumberedAddress) → Element
+
+abbrev pub kindOf : Element → Kind
+kindOf (rann p) = Rann
+kindOf (rreq f targets) = Rreq
+kindOf (rrep f dependents) = Rrep
+kindOf (rerr flags lost) = Rerr
+
+-- N, the number of entries in the list
+abbrev pub countOf : Element → ℕ
+countOf (rann p) = 0
+countOf (rreq f targets) = length targets
+countOf (rrep f dependents) = length dependents
+countOf (rerr flags lost) = length lost
+
+-- ---- the numbers of fields, in the order of the octets
+
+-- flags, hop count and TTL come first
+abbrev pub startNumbers : PathInfo → List ℕ
+startNumbers p = p .flags ∷ p .hops .0 ∷ p .ttl ∷ []
+
+abbrev pub pathNumbers : PathInfo → List ℕ
+pathNumbers p = p .subject .0 ∷ p .number .0 ∷ p .lifetime ∷ p .metric .0 ∷ []
+
+abbrev pub numberedNumbers : NumberedAddress → List ℕ
+numberedNumbers a = a .address .0 ∷ a .number .0 ∷ []
+
+abbrev pub targetNumbers : Target → List ℕ
+targetNumbers t = t .flags ∷ t .address .0 ∷ t .number .0 ∷ []
+
+abbrev pub rannNumbers : PathInfo → List ℕ
+rannNumbers p = startNumbers p ++ pathNumbers p
+
+abbrev pub rreqNumbers : RreqFields → List ℕ
+rreqNumbers f = startNumbers (f .path) ++ f .request .0 ∷ pathNumbers (f .path)
+
+abbrev pub rrepNumbers : RrepFields → List ℕ
+rrepNumbers f = startNumbers (f .path) ++ (pathNumbers (f .path) ++ numberedNumbers (f .source))
+
+-- what stands between Length and N
+abbrev pub fieldNumbers : Element → List ℕ
+fieldNumbers (rann p) = rannNumbers p
+fieldNumbers (rreq f targets) = rreqNumbers f
+fieldNumbers (rrep f dependents) = rrepNumbers f
+fieldNumbers (rerr flags lost) = flags ∷ []

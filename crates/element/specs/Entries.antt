@@ -1,0 +1,42 @@
+-- The entries of a list part, by index and one after another. Assumes nothing.
+use Prim.Native.Nat.{ℕ, zero, suc, _*_}
+use mathlib.Core.List.{List, [], _∷_}
+use lib.ListN.{getD}
+use Rattle.octets.specs.LittleEndian.{fieldsAt, fieldOctets}
+use Rattle.element.specs.declared.NumberedAddress.{NumberedAddress}
+use Rattle.element.specs.declared.Target.{Target}
+use Rattle.element.specs.Element.{numberedNumbers, targetNumbers}
+use Rattle.element.specs.Layout.{numberedWidths, targetWidths}
+
+-- f i, f (i + 1) and so on, n of them
+unfoldable pub each : {A : Type 0} → (ℕ → A) → ℕ → ℕ → List A
+each f i zero = []
+each f i (suc n) = f i ∷ each f (suc i) n
+
+-- ---- address 6, number 4
+
+abbrev pub numberedFrom : List ℕ → NumberedAddress
+numberedFrom xs = record { address = record { 0 = getD xs 0 0 }; number = record { 0 = getD xs 1 0 } }
+
+unfoldable pub numberedAt : List ℕ → ℕ → NumberedAddress
+numberedAt part i = numberedFrom (fieldsAt numberedWidths part (10 * i) 0)
+
+abbrev pub numberedList : ℕ → List ℕ → List NumberedAddress
+numberedList n part = each (numberedAt part) 0 n
+
+unfoldable pub numberedOctets : NumberedAddress → List ℕ
+numberedOctets a = fieldOctets numberedWidths (numberedNumbers a)
+
+-- ---- flags 1, destination 6, number 4
+
+abbrev pub targetFrom : List ℕ → Target
+targetFrom xs = record { flags = getD xs 0 0; address = record { 0 = getD xs 1 0 }; number = record { 0 = getD xs 2 0 } }
+
+unfoldable pub targetAt : List ℕ → ℕ → Target
+targetAt part i = targetFrom (fieldsAt targetWidths part (11 * i) 0)
+
+abbrev pub targetList : ℕ → List ℕ → List Target
+targetList n part = each (targetAt part) 0 n
+
+unfoldable pub targetOctets : Target → List ℕ
+targetOctets t = fieldOctets targetWidths (targetNumbers t)

@@ -1,0 +1,5 @@
+pub mod Element
+pub mod Layout
+pub mod Entries
+pub mod Octets
+pub mod Lists

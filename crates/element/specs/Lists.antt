@@ -1,0 +1,59 @@
+-- The addresses in a list part, and what can be wrong with them: refusals 9 and 10. Assumes nothing.
+use Prim.Native.Nat.{ℕ, _-_, _/_, _^_}
+use mathlib.Core.Bool.{Bool, false, _&&_, _||_, not}
+use mathlib.Core.List.{List, [], _∷_}
+use lib.Dec.{ltb}
+use lib.ListN.{length}
+use Rattle.table.specs.declared.address.Address.{Address}
+use Rattle.table.specs.Address.{individual, same}
+use Rattle.element.specs.declared.list.ListKind.{ListKind}
+use Rattle.element.specs.declared.list.ListKind.the-variants.{Targets, NumberedAddresses}
+use Rattle.element.specs.Entries.{each, numberedAt, targetAt}
+
+-- ---- a list part by the kind of its entries
+
+-- octets of an entry: flags 1, destination 6, number 4; or address 6, number 4
+abbrev pub sizeOf : ListKind → ℕ
+sizeOf Targets = 11
+sizeOf NumberedAddresses = 10
+
+abbrev pub addressIn : ListKind → List ℕ → ℕ → Address
+addressIn Targets part i = targetAt part i .address
+addressIn NumberedAddresses part i = numberedAt part i .address
+
+unfoldable pub entriesIn : ListKind → List ℕ → ℕ
+entriesIn k part = length part / sizeOf k
+
+-- the addresses of entry i and of those after it
+unfoldable pub addressesFrom : ListKind → List ℕ → ℕ → List Address
+addressesFrom k part i = each (addressIn k part) i (entriesIn k part - i)
+
+abbrev pub addressesIn : ListKind → List ℕ → List Address
+addressesIn k part = addressesFrom k part 0
+
+-- ---- what can be wrong
+
+abbrev pub allOnes : Address
+allOnes = record { 0 = 2 ^ 48 - 1 }
+
+-- an address of such a list is individual; as a RREQ destination all ones is allowed too
+unfoldable pub allowed : ListKind → Address → Bool
+allowed Targets a = individual a || same a allOnes
+allowed NumberedAddresses a = individual a
+
+unfoldable pub anyForbidden : ListKind → List Address → Bool
+anyForbidden k [] = false
+anyForbidden k (a ∷ rest) = not (allowed k a) || anyForbidden k rest
+
+unfoldable pub among : Address → List Address → Bool
+among a [] = false
+among a (b ∷ rest) = same b a || among a rest
+
+-- an address twice
+unfoldable pub twice : List Address → Bool
+twice [] = false
+twice (a ∷ rest) = among a rest || twice rest
+
+-- all ones beside others
+unfoldable pub onesBesideOthers : List Address → Bool
+onesBesideOthers l = among allOnes l && ltb 1 (length l)

@@ -1,0 +1,129 @@
+-- Elements as octets: what is turned away (6, 7, 8), what is read, and what is written. Assumes nothing.
+use Prim.Native.Nat.{ℕ, _+_}
+use mathlib.Core.Bool.{Bool, _||_, not, cond}
+use mathlib.Core.List.{List, [], _∷_, _++_, flatMap}
+use lib.Dec.{eqb, ltb}
+use lib.ListN.{length, getD, drop}
+use Rattle.octets.specs.LittleEndian.{numberOctets, fieldsAt, fieldOctets}
+use Rattle.table.specs.declared.address.Address.{Address}
+use Rattle.element.specs.declared.Kind.{Kind}
+use Rattle.element.specs.declared.Kind.the-variants.{Rann, Rreq, Rrep, Rerr}
+use Rattle.element.specs.declared.PathInfo.{PathInfo}
+use Rattle.element.specs.declared.RreqFields.{RreqFields}
+use Rattle.element.specs.declared.RrepFields.{RrepFields}
+use Rattle.element.specs.declared.read.Reading.{Reading}
+use Rattle.element.specs.declared.read.Reading.the-variants.{Announcement, Request, Reply, Error, Refused}
+use Rattle.element.specs.Element.{Element, rann, rreq, rrep, rerr, kindOf, countOf, fieldNumbers}
+use Rattle.element.specs.Layout.{idOf, kindWith, lengthWith, fits, fieldWidths}
+use Rattle.element.specs.Entries.{numberedOctets, numberedList, targetOctets, targetList}
+
+-- ---- turned away
+
+-- the type that the ID says
+abbrev pub kindIn : List ℕ → Kind
+kindIn s = kindWith (getD s 0 0)
+
+-- N, the last octet before the list; octets that end before it have none, and no such Length fits
+abbrev pub countAs : Kind → List ℕ → ℕ
+countAs Rann s = 0
+countAs Rreq s = getD s 27 0
+countAs Rrep s = getD s 33 0
+countAs Rerr s = getD s 3 0
+
+-- 6. element under 2 octets, or Length differs from the octets after it
+unfoldable pub wrongLength : List ℕ → Bool
+wrongLength s = ltb (length s) 2 || not (eqb (2 + getD s 1 0) (length s))
+
+-- 7. another ID
+unfoldable pub otherId : List ℕ → Bool
+otherId s = not (eqb (idOf (kindIn s)) (getD s 0 0))
+
+-- 8. Length doesn't fit type and count
+unfoldable pub misfit : List ℕ → Bool
+misfit s = not (fits (kindIn s) (getD s 1 0) (countAs (kindIn s) s))
+
+-- ---- read
+
+-- flags, hop count and TTL, and the fields of the path, the first of which is number i of xs
+abbrev pub pathFrom : List ℕ → ℕ → PathInfo
+pathFrom xs i =
+    record {
+      flags = getD xs 0 0;
+      hops = record { 0 = getD xs 1 0 };
+      ttl = getD xs 2 0;
+      subject = record { 0 = getD xs i 0 };
+      number = record { 0 = getD xs (i + 1) 0 };
+      lifetime = getD xs (i + 2) 0;
+      metric = record { 0 = getD xs (i + 3) 0 };
+    }
+
+abbrev pub rreqFrom : List ℕ → RreqFields
+rreqFrom xs = record { request = record { 0 = getD xs 3 0 }; path = pathFrom xs 4 }
+
+abbrev pub rrepFrom : List ℕ → RrepFields
+rrepFrom xs =
+    record { path = pathFrom xs 3; source = record { address = record { 0 = getD xs 7 0 }; number = record { 0 = getD xs 8 0 } } }
+
+-- the fields between Length and N
+abbrev pub fieldsAs : Kind → List ℕ → List ℕ
+fieldsAs k s = fieldsAt (fieldWidths k) s 2 0
+
+-- the list part: what follows the octets that an element without entries has (nothing in a RANN)
+abbrev pub listAs : Kind → List ℕ → List ℕ
+listAs k s = drop (2 + lengthWith k 0) s
+
+abbrev pub elementAs : Kind → List ℕ → ℕ → List ℕ → Element
+elementAs Rann xs n part = rann (pathFrom xs 3)
+elementAs Rreq xs n part = rreq (rreqFrom xs) (targetList n part)
+elementAs Rrep xs n part = rrep (rrepFrom xs) (numberedList n part)
+elementAs Rerr xs n part = rerr (getD xs 0 0) (numberedList n part)
+
+unfoldable pub readAs : Kind → List ℕ → Element
+readAs k s = elementAs k (fieldsAs k s) (countAs k s) (listAs k s)
+
+unfoldable pub listPart : List ℕ → List ℕ
+listPart s = listAs (kindIn s) s
+
+unfoldable pub readElement : List ℕ → Element
+readElement s = readAs (kindIn s) s
+
+-- what the reader answers: a refusal, or the fixed fields; the list part stays where it is
+abbrev pub fixedFields : Element → Reading
+fixedFields (rann p) = Announcement p
+fixedFields (rreq f targets) = Request f
+fixedFields (rrep f dependents) = Reply f
+fixedFields (rerr flags lost) = Error flags
+
+unfoldable pub reading : List ℕ → Reading
+reading s =
+    cond (wrongLength s) (Refused 6)
+    (cond (otherId s) (Refused 7)
+    (cond (misfit s) (Refused 8) (fixedFields (readElement s))))
+
+-- ---- written
+
+abbrev pub countOctets : Kind → ℕ → List ℕ
+countOctets Rann n = []
+countOctets Rreq n = n ∷ []
+countOctets Rrep n = n ∷ []
+countOctets Rerr n = n ∷ []
+
+-- an element with n entries, without these: ID, Length, fields and N
+unfoldable pub fixedOctets : Kind → ℕ → List ℕ → List ℕ
+fixedOctets k n xs = idOf k ∷ lengthWith k n ∷ fieldOctets (fieldWidths k) xs ++ countOctets k n
+
+abbrev pub listOctets : Element → List ℕ
+listOctets (rann p) = []
+listOctets (rreq f targets) = flatMap targetOctets targets
+listOctets (rrep f dependents) = flatMap numberedOctets dependents
+listOctets (rerr flags lost) = flatMap numberedOctets lost
+
+unfoldable pub writeElement : Element → List ℕ
+writeElement e = fixedOctets (kindOf e) (countOf e) (fieldNumbers e) ++ listOctets e
+
+-- a frame is receiver address and element; so begins one with n entries
+abbrev pub frameStart : Address → Kind → ℕ → List ℕ → List ℕ
+frameStart to k n xs = numberOctets 6 (to .0) ++ fixedOctets k n xs
+
+unfoldable pub writeFrame : Address → Element → List ℕ
+writeFrame to e = numberOctets 6 (to .0) ++ writeElement e

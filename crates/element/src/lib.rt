@@ -1,0 +1,54 @@
+// The elements RANN, RREQ, RREP and RERR: their fields as values, read from octets and written to them.
+pub mod list;
+pub mod read;
+pub mod write;
+
+use counters::HopCount;
+use counters::Metric;
+use counters::RequestId;
+use counters::SequenceNumber;
+use table::address::Address;
+
+// The four types of element.
+pub enum Kind {
+    Rann,
+    Rreq,
+    Rrep,
+    Rerr,
+}
+
+// What a RANN, a RREQ and a RREP have in common. The subject is the originator of a RANN or a RREQ and the destination of
+// a RREP: the point to which the path leads.
+pub struct PathInfo {
+    pub flags: u8,
+    pub hops: HopCount,
+    pub ttl: u8,
+    pub subject: Address,
+    pub number: SequenceNumber,
+    pub lifetime: u32,
+    pub metric: Metric,
+}
+
+// An address with the number beside it: the source of a RREP, each of its dependents, and a destination of a RERR.
+pub struct NumberedAddress {
+    pub address: Address,
+    pub number: SequenceNumber,
+}
+
+// A destination of a RREQ.
+pub struct Target {
+    pub flags: u8,
+    pub address: Address,
+    pub number: SequenceNumber,
+}
+
+// The fixed fields of a RREQ and of a RREP.
+pub struct RreqFields {
+    pub request: RequestId,
+    pub path: PathInfo,
+}
+
+pub struct RrepFields {
+    pub path: PathInfo,
+    pub source: NumberedAddress,
+}

@@ -1,0 +1,125 @@
+// The list part of an element: its entries by index, and what can be wrong with their addresses. A list has at most 25
+// entries, so all of this is by plain scans.
+use crate::NumberedAddress;
+use crate::Target;
+use counters::SequenceNumber;
+use table::address::Address;
+ghost use mathlib.Core.Path.{_≡_};
+ghost use Prim.Native.Nat.{_+_, _*_, _<_, _≤_};
+ghost use lib.ListN.{length};
+ghost use Rattle.element.specs.Entries.{numberedAt, targetAt};
+ghost use Rattle.element.specs.Lists.{addressIn, addressesFrom, addressesIn, allowed, among, anyForbidden, entriesIn, onesBesideOthers, twice};
+
+// What the entries are: destinations of a RREQ; or dependents of a RREP and destinations of a RERR.
+pub enum ListKind {
+    Targets,
+    NumberedAddresses,
+}
+
+pub fn target_at(part: &[u8], i: usize) -> Target
+    requires { ⌜ 11 * (i + 1) ≤ length (now part) ⌝ }
+    ensures { λ r. ⌜ r ≡ targetAt (now (part .entry)) i ⌝ }
+{
+    let at = 11 * i;
+    Target {
+        flags: octets::read_u8(part, at),
+        address: Address(octets::read_u48(part, at + 1)),
+        number: SequenceNumber(octets::read_u32(part, at + 7)),
+    }
+}
+
+pub fn numbered_at(part: &[u8], i: usize) -> NumberedAddress
+    requires { ⌜ 10 * (i + 1) ≤ length (now part) ⌝ }
+    ensures { λ r. ⌜ r ≡ numberedAt (now (part .entry)) i ⌝ }
+{
+    let at = 10 * i;
+    NumberedAddress {
+        address: Address(octets::read_u48(part, at)),
+        number: SequenceNumber(octets::read_u32(part, at + 6)),
+    }
+}
+
+// How many entries a list part has.
+pub fn entries_in(part: &[u8], kind: ListKind) -> usize
+    ensures { λ r. ⌜ r ≡ entriesIn kind (now (part .entry)) ⌝ }
+{
+    match kind {
+        ListKind::Targets => part.len() / 11,
+        ListKind::NumberedAddresses => part.len() / 10,
+    }
+}
+
+fn address_at(part: &[u8], kind: ListKind, i: usize) -> Address
+    requires { ⌜ i < entriesIn kind (now part) ⌝ }
+    ensures { λ r. ⌜ r ≡ addressIn kind (now (part .entry)) i ⌝ }
+{
+    match kind {
+        ListKind::Targets => target_at(part, i).address,
+        ListKind::NumberedAddresses => numbered_at(part, i).address,
+    }
+}
+
+fn is_allowed(kind: ListKind, address: Address) -> bool
+    ensures { λ r. ⌜ r ≡ allowed kind address ⌝ }
+{
+    match kind {
+        ListKind::Targets => address.is_individual() | (address.0 == 281474976710655),
+        ListKind::NumberedAddresses => address.is_individual(),
+    }
+}
+
+// Whether some address may not stand in such a list.
+pub fn has_forbidden(part: &[u8], kind: ListKind) -> bool
+    ensures { λ r. ⌜ r ≡ anyForbidden kind (addressesIn kind (now (part .entry))) ⌝ }
+{
+    let n = entries_in(part, kind);
+    let mut i = 0;
+    while i < n {
+        if !is_allowed(kind, address_at(part, kind, i)) {
+            return true;
+        }
+        i += 1;
+    }
+    false
+}
+
+// Whether the address stands at entry from or after it.
+fn is_among_from(part: &[u8], kind: ListKind, from: usize, address: Address) -> bool
+    ensures { λ r. ⌜ r ≡ among address (addressesFrom kind (now (part .entry)) from) ⌝ }
+{
+    let n = entries_in(part, kind);
+    let mut i = from;
+    while i < n {
+        if address_at(part, kind, i).0 == address.0 {
+            return true;
+        }
+        i += 1;
+    }
+    false
+}
+
+pub fn is_among(part: &[u8], kind: ListKind, address: Address) -> bool
+    ensures { λ r. ⌜ r ≡ among address (addressesIn kind (now (part .entry))) ⌝ }
+{
+    is_among_from(part, kind, 0, address)
+}
+
+pub fn has_twice(part: &[u8], kind: ListKind) -> bool
+    ensures { λ r. ⌜ r ≡ twice (addressesIn kind (now (part .entry))) ⌝ }
+{
+    let n = entries_in(part, kind);
+    let mut i = 0;
+    while i < n {
+        if is_among_from(part, kind, i + 1, address_at(part, kind, i)) {
+            return true;
+        }
+        i += 1;
+    }
+    false
+}
+
+pub fn has_ones_beside_others(part: &[u8], kind: ListKind) -> bool
+    ensures { λ r. ⌜ r ≡ onesBesideOthers (addressesIn kind (now (part .entry))) ⌝ }
+{
+    is_among(part, kind, Address(281474976710655)) & (1 < entries_in(part, kind))
+}
