@@ -14,19 +14,19 @@ both a b = and-eq-true-iff a b .0
 
 -- ---- how many entries, and how long with these
 
-abbrev fewest : Kind → ℕ
+abbrev pub fewest : Kind → ℕ
 fewest Rann = 0
 fewest Rreq = 1
 fewest Rrep = 0
 fewest Rerr = 1
 
-abbrev most : Kind → ℕ
+abbrev pub most : Kind → ℕ
 most Rann = 0
 most Rreq = 20
 most Rrep = 22
 most Rerr = 25
 
-count-range : (k : Kind) (n : ℕ) → countOk k n ≡ true → (fewest k ≤ n) × (n ≤ most k)
+pub count-range : (k : Kind) (n : ℕ) → countOk k n ≡ true → (fewest k ≤ n) × (n ≤ most k)
 count-range Rann n e = let z = eqb-true n 0 e in (omega arith, omega arith)
 count-range Rreq n e = let b = both (leb 1 n) (leb n 20) e in (leb-true 1 n (b .0), leb-true n 20 (b .1))
 count-range Rrep n e = (omega arith, leb-true n 22 e)

@@ -4,4 +4,5 @@ pub mod Lengths
 pub mod Scans
 pub mod ListParts
 pub mod Written
+pub mod Readings
 pub mod ReadBack

@@ -2,13 +2,12 @@
 -- what writing their fields gives. Assumes nothing.
 use Prim.Native.Nat.{ℕ, zero, suc, _+_, _*_, _<_, _≤_}
 use mathlib.Core.Path.{_≡_, refl, sym, ap, ap₂, _∙_}
-use mathlib.Core.Bool.{true, false, _&&_}
+use mathlib.Core.Bool.{true, false}
 use mathlib.Core.List.{List, [], _∷_, _++_, append-assoc}
-use lib.Dec.{eqb}
 use lib.ListN.{length, getD, take, drop, length-append, length-drop, take-append-drop, drop-of-length-le}
 use lib.Seq.{drop-at, drop-cons, drop-drop}
 use native.Mathlib.Omega.{arith}
-use borrow.Author.Tests.{eq-eqb, eqb-true, le-ltb, not-false}
+use borrow.Author.Tests.{eq-eqb, le-ltb}
 use Rattle.octets.specs.LittleEndian.{numberOctets, fieldsAt, fieldOctets, total, FitFields, Octets}
 use Rattle.octets.proofs.Laws.{fields-fit}
 use Rattle.octets.proofs.OctetLists.{length-field-octets, fields-read, fields-made, octets-nil, octets-cons, octets-append, octets-drop, octets-of-fields}
@@ -17,11 +16,11 @@ use Rattle.element.specs.declared.Kind.the-variants.{Rann, Rreq, Rrep, R
 use Rattle.element.specs.Element.{Element, rann, rreq, rrep, rerr, kindOf, countOf, fieldNumbers}
 use Rattle.element.specs.Layout.{idOf, kindWith, lengthWith, countOk, fits, fieldWidths, numberedWidths, targetWidths}
 use Rattle.element.specs.Entries.{each, numberedAt, targetAt}
-use Rattle.element.specs.Octets.{kindIn, countAs, wrongLength, otherId, misfit, fieldsAs, listAs, elementAs, readAs, readElement, fixedFields, reading, countOctets, fixedOctets, listOctets, writeElement}
-use Rattle.element.proofs.Lengths.{both, least-length, id-octet, length-octet, count-octet}
+use Rattle.element.specs.Octets.{kindIn, countAs, wrongLength, otherId, misfit, fieldsAs, listAs, elementAs, readAs, readElement, fixedFields, reading, countPart, fixedOctets, listOctets, writeElement}
+use Rattle.element.proofs.Lengths.{least-length, id-octet, length-octet, count-octet}
 use Rattle.element.proofs.Scans.{each-length}
 use Rattle.element.proofs.ListParts.{All, FitsTarget, FitsNumbered, targets-length, targets-octets, targets-read, targets-made, addresses-length, addresses-octets, addresses-read, addresses-made}
-use Rattle.element.proofs.Cases.{length-right}
+use Rattle.element.proofs.Readings.{Passed, passed}
 
 -- ---- elements that octets can hold
 
@@ -46,7 +45,7 @@ as-many (rrep f dependents) = refl
 as-many (rerr flags lost) = refl
 
 -- the fixed part has as many octets as an element without entries
-fixed-width : (k : Kind) (n : ℕ) → 2 + (total (fieldWidths k) + length (countOctets k n)) ≡ 2 + lengthWith k 0
+fixed-width : (k : Kind) (n : ℕ) → 2 + (total (fieldWidths k) + length (countPart k n)) ≡ 2 + lengthWith k 0
 unfolding total
 fixed-width Rann n = refl
 fixed-width Rreq n = refl
@@ -59,7 +58,7 @@ fixed-length e =
     let k : Kind = kindOf e in
     omega (
       arith,
-      length-append (fieldOctets (fieldWidths k) (fieldNumbers e)) (countOctets k (countOf e)),
+      length-append (fieldOctets (fieldWidths k) (fieldNumbers e)) (countPart k (countOf e)),
       length-field-octets (fieldWidths k) (fieldNumbers e) (as-many e),
       fixed-width k (countOf e),
     )
@@ -73,11 +72,11 @@ fields-there : (e : Element) → FitFields (fieldWidths (kindOf e)) (fieldNumber
 unfolding writeElement fixedOctets
 fields-there e f =
     let k : Kind = kindOf e in
-    let regroup : (fieldOctets (fieldWidths k) (fieldNumbers e) ++ countOctets k (countOf e)) ++ listOctets e
-    ≡ fieldOctets (fieldWidths k) (fieldNumbers e) ++ (countOctets k (countOf e) ++ listOctets e) =
-    append-assoc (fieldOctets (fieldWidths k) (fieldNumbers e)) (countOctets k (countOf e)) (listOctets e) in
+    let regroup : (fieldOctets (fieldWidths k) (fieldNumbers e) ++ countPart k (countOf e)) ++ listOctets e
+    ≡ fieldOctets (fieldWidths k) (fieldNumbers e) ++ (countPart k (countOf e) ++ listOctets e) =
+    append-assoc (fieldOctets (fieldWidths k) (fieldNumbers e)) (countPart k (countOf e)) (listOctets e) in
     ap (λ (l : List ℕ). fieldsAt (fieldWidths k) (idOf k ∷ lengthWith k (countOf e) ∷ l) 2 0) regroup
-    ∙ fields-read (fieldWidths k) (fieldNumbers e) (idOf k ∷ lengthWith k (countOf e) ∷ []) (countOctets k (countOf e) ++ listOctets e) 2 0 refl f
+    ∙ fields-read (fieldWidths k) (fieldNumbers e) (idOf k ∷ lengthWith k (countOf e) ∷ []) (countPart k (countOf e) ++ listOctets e) 2 0 refl f
 
 -- with the octets of the fields unfolded, N is found by computation
 count-there : (e : Element) → countAs (kindOf e) (writeElement e) ≡ countOf e
@@ -162,7 +161,7 @@ list-octets (rreq f targets) = targets-octets targets
 list-octets (rrep f dependents) = addresses-octets dependents
 list-octets (rerr flags lost) = addresses-octets lost
 
-count-octets : (k : Kind) (n : ℕ) → n < 256 → Octets (countOctets k n)
+count-octets : (k : Kind) (n : ℕ) → n < 256 → Octets (countPart k n)
 count-octets Rann n l = octets-nil
 count-octets Rreq n l = octets-cons n [] l octets-nil
 count-octets Rrep n l = octets-cons n [] l octets-nil
@@ -174,37 +173,16 @@ octets-written e h =
     let k : Kind = kindOf e in
     let n : ℕ = countOf e in
     let fields : List ℕ = fieldOctets (fieldWidths k) (fieldNumbers e) in
-    octets-cons (idOf k) (lengthWith k n ∷ (fields ++ countOctets k n) ++ listOctets e) (id-octet k)
-    (octets-cons (lengthWith k n) ((fields ++ countOctets k n) ++ listOctets e) (length-octet k n h)
-    (octets-append (fields ++ countOctets k n) (listOctets e)
-    (octets-append fields (countOctets k n) (octets-of-fields (fieldWidths k) (fieldNumbers e)) (count-octets k n (count-octet k n h)))
+    octets-cons (idOf k) (lengthWith k n ∷ (fields ++ countPart k n) ++ listOctets e) (id-octet k)
+    (octets-cons (lengthWith k n) ((fields ++ countPart k n) ++ listOctets e) (length-octet k n h)
+    (octets-append (fields ++ countPart k n) (listOctets e)
+    (octets-append fields (countPart k n) (octets-of-fields (fieldWidths k) (fieldNumbers e)) (count-octets k n (count-octet k n h)))
     (list-octets e)))
 
 -- ---- octets that pass are what writing their fields gives
 
--- what octets of a type are that pass 6, 7 and 8
-record Passed (s : List ℕ) (k : Kind) : Type 0 where
-  id : idOf k ≡ getD s 0 0
-  long : getD s 1 0 ≡ lengthWith k (countAs k s)
-  count : countOk k (countAs k s) ≡ true
-  size : length s ≡ 2 + lengthWith k (countAs k s)
-
-passed : (s : List ℕ) → wrongLength s ≡ false → otherId s ≡ false → misfit s ≡ false → Passed s (kindIn s)
-unfolding otherId misfit fits
-passed s a b c =
-    let k : Kind = kindIn s in
-    let n : ℕ = countAs k s in
-    let m = both (eqb (getD s 1 0) (lengthWith k n)) (countOk k n) (not-false (eqb (getD s 1 0) (lengthWith k n) && countOk k n) c) in
-    let long = eqb-true (getD s 1 0) (lengthWith k n) (m .0) in
-    record {
-      id = eqb-true (idOf k) (getD s 0 0) (not-false (eqb (idOf k) (getD s 0 0)) b);
-      long = long;
-      count = m .1;
-      size = sym (length-right s a .1) ∙ ap (λ (l : ℕ). 2 + l) long;
-    }
-
 -- octets of a type are the first two, the fields, N, and the list
-after-fields : (s : List ℕ) (k : Kind) → 2 + lengthWith k 0 ≤ length s → drop (2 + total (fieldWidths k)) s ≡ countOctets k (countAs k s) ++ listAs k s
+after-fields : (s : List ℕ) (k : Kind) → 2 + lengthWith k 0 ≤ length s → drop (2 + total (fieldWidths k)) s ≡ countPart k (countAs k s) ++ listAs k s
 unfolding total
 after-fields s Rann h = refl
 after-fields s Rreq h = drop-cons s 27 0 h
@@ -212,12 +190,12 @@ after-fields s Rrep h = drop-cons s 33 0 h
 after-fields s Rerr h = drop-cons s 3 0 h
 
 parts : (s : List ℕ) (k : Kind) → 2 + lengthWith k 0 ≤ length s
-    → s ≡ getD s 0 0 ∷ getD s 1 0 ∷ (take (total (fieldWidths k)) (drop 2 s) ++ countOctets k (countAs k s)) ++ listAs k s
+    → s ≡ getD s 0 0 ∷ getD s 1 0 ∷ (take (total (fieldWidths k)) (drop 2 s) ++ countPart k (countAs k s)) ++ listAs k s
 parts s k h =
     let m : ℕ = total (fieldWidths k) in
-    let rest : drop 2 s ≡ (take m (drop 2 s) ++ countOctets k (countAs k s)) ++ listAs k s =
+    let rest : drop 2 s ≡ (take m (drop 2 s) ++ countPart k (countAs k s)) ++ listAs k s =
     sym (take-append-drop m (drop 2 s)) ∙ ap (λ (l : List ℕ). take m (drop 2 s) ++ l) (drop-drop m 2 s ∙ after-fields s k h)
-    ∙ sym (append-assoc (take m (drop 2 s)) (countOctets k (countAs k s)) (listAs k s)) in
+    ∙ sym (append-assoc (take m (drop 2 s)) (countPart k (countAs k s)) (listAs k s)) in
     drop-cons s 0 0 (omega arith) ∙ ap (λ (l : List ℕ). getD s 0 0 ∷ l) (drop-cons s 1 0 (omega arith) ∙ ap (λ (l : List ℕ). getD s 1 0 ∷ l) rest)
 
 -- the parts of what is read

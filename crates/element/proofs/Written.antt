@@ -1,11 +1,11 @@
 -- What the writers write: a frame's start as one run of fields, and what follows it. Assumes nothing.
-use Prim.Native.Nat.{ℕ, _+_, _*_, _/_, _%_, _<_, _≤_}
+use Prim.Native.Nat.{ℕ, _+_, _-_, _/_, _%_, _<_, _≤_}
 use mathlib.Core.Path.{_≡_, refl, sym, ap, ap₂, _∙_}
-use mathlib.Core.List.{List, [], _∷_, _++_, append-nil, append-assoc}
+use mathlib.Core.List.{List, [], _∷_, _++_, append-nil, append-assoc, flatMap}
 use lib.ListN.{length, length-append}
 use native.Mathlib.Omega.{arith}
-use native.Mathlib.Nat.{add-zero}
-use Rattle.octets.specs.LittleEndian.{numberOctets, over, fieldOctets, withFields, total, Octets}
+use native.Mathlib.Nat.{add-zero, sub-zero}
+use Rattle.octets.specs.LittleEndian.{numberOctets, over, withNumber, fieldOctets, withFields, total, Octets}
 use Rattle.octets.proofs.OctetLists.{over-append, length-number-octets, length-field-octets, octet-itself, field-octets-cons, field-octets-append, fields-over}
 use Rattle.table.specs.declared.address.Address.{Address}
 use Rattle.element.specs.declared.Kind.{Kind}
@@ -17,10 +17,10 @@ use Rattle.element.specs.declared.RreqFields.{RreqFields}
 use Rattle.element.specs.declared.RrepFields.{RrepFields}
 use Rattle.element.specs.Element.{Element, rann, rreq, rrep, kindOf, countOf, rannNumbers, rreqNumbers, rrepNumbers, fieldNumbers, numberedNumbers, targetNumbers}
 use Rattle.element.specs.Layout.{idOf, lengthWith, fieldWidths, numberedWidths, targetWidths}
-use Rattle.element.specs.Entries.{numberedList, numberedOctets, targetList, targetOctets, numberedAt, targetAt}
-use Rattle.element.specs.Octets.{countOctets, fixedOctets, listOctets, writeElement, frameStart, writeFrame}
+use Rattle.element.specs.Entries.{each, numberedList, numberedOctets, targetList, targetOctets, numberedAt, targetAt}
+use Rattle.element.specs.Octets.{countPart, fixedNumbers, fixedOctets, listOctets, writeElement, frameStart, writeFrame}
 use Rattle.element.proofs.Lengths.{id-octet}
-use Rattle.element.proofs.Scans.{each-length}
+use Rattle.element.proofs.Scans.{each-length, each-next, each-end}
 use Rattle.element.proofs.ListParts.{targets-made, addresses-made}
 
 -- ---- the start of a frame as one run of fields
@@ -31,28 +31,35 @@ countWidths Rreq = 1 ∷ []
 countWidths Rrep = 1 ∷ []
 countWidths Rerr = 1 ∷ []
 
-count-octets : (k : Kind) (n : ℕ) → n < 256 → fieldOctets (countWidths k) (countOctets k n) ≡ countOctets k n
+count-octets : (k : Kind) (n : ℕ) → n < 256 → fieldOctets (countWidths k) (countPart k n) ≡ countPart k n
 unfolding fieldOctets
 count-octets Rann n l = refl
 count-octets Rreq n l = rw (octet-itself n l)
 count-octets Rrep n l = rw (octet-itself n l)
 count-octets Rerr n l = rw (octet-itself n l)
 
+-- receiver address and the fields of a fixed part, written side by side
+pub frame-started : (to : Address) (s t u ws xs : List ℕ) (at : ℕ) → t ≡ withNumber 6 s at (to .0) → u ≡ withFields ws t (at + 6) 0 xs
+    → u ≡ over s at (numberOctets 6 (to .0) ++ fieldOctets ws xs)
+unfolding withNumber
+frame-started to s t u ws xs at te ue =
+    let place : at + 6 + 0 ≡ at + length (numberOctets 6 (to .0)) = omega (arith, length-number-octets 6 (to .0)) in
+    ue ∙ fields-over ws t (at + 6) 0 xs ∙ ap₂ (λ (l : List ℕ) (k : ℕ). over l k (fieldOctets ws xs)) te place
+    ∙ sym (over-append s at (numberOctets 6 (to .0)) (fieldOctets ws xs))
+
 module _ (to : Address) (k : Kind) (n : ℕ) (xs : List ℕ) (as-many : length (fieldWidths k) ≡ length xs) (small : n < 256) (fits : lengthWith k n < 256) where
-  start-octets : fieldOctets (6 ∷ 1 ∷ 1 ∷ fieldWidths k ++ countWidths k) (to .0 ∷ idOf k ∷ lengthWith k n ∷ xs ++ countOctets k n) ≡ frameStart to k n xs
+  start-octets : fieldOctets (1 ∷ 1 ∷ fieldWidths k ++ countWidths k) (fixedNumbers k n xs) ≡ fixedOctets k n xs
   unfolding fixedOctets
   start-octets =
-      let rest : fieldOctets (fieldWidths k ++ countWidths k) (xs ++ countOctets k n) ≡ fieldOctets (fieldWidths k) xs ++ countOctets k n =
-      field-octets-append (fieldWidths k) (countWidths k) xs (countOctets k n) as-many ∙ ap (λ (l : List ℕ). fieldOctets (fieldWidths k) xs ++ l) (count-octets k n small) in
-      rw (field-octets-cons, field-octets-cons, field-octets-cons, octet-itself (idOf k) (id-octet k), octet-itself (lengthWith k n) fits, rest)
+      let rest : fieldOctets (fieldWidths k ++ countWidths k) (xs ++ countPart k n) ≡ fieldOctets (fieldWidths k) xs ++ countPart k n =
+      field-octets-append (fieldWidths k) (countWidths k) xs (countPart k n) as-many ∙ ap (λ (l : List ℕ). fieldOctets (fieldWidths k) xs ++ l) (count-octets k n small) in
+      rw (field-octets-cons, field-octets-cons, octet-itself (idOf k) (id-octet k), octet-itself (lengthWith k n) fits, rest)
 
-  -- fields that are written so are the start of a frame, written over what stood there
-  started : (s t ys : List ℕ) (at : ℕ) → ys ≡ to .0 ∷ idOf k ∷ lengthWith k n ∷ xs ++ countOctets k n
-      → t ≡ withFields (6 ∷ 1 ∷ 1 ∷ fieldWidths k ++ countWidths k) s at 0 ys → t ≡ over s at (frameStart to k n xs)
+  -- which are then the start of a frame
+  started : (s t ys : List ℕ) (at : ℕ) → ys ≡ fixedNumbers k n xs
+      → t ≡ over s at (numberOctets 6 (to .0) ++ fieldOctets (1 ∷ 1 ∷ fieldWidths k ++ countWidths k) ys) → t ≡ over s at (frameStart to k n xs)
   started s t ys at ye te =
-      te ∙ ap (λ (l : List ℕ). withFields (6 ∷ 1 ∷ 1 ∷ fieldWidths k ++ countWidths k) s at 0 l) ye
-      ∙ fields-over (6 ∷ 1 ∷ 1 ∷ fieldWidths k ++ countWidths k) s at 0 (to .0 ∷ idOf k ∷ lengthWith k n ∷ xs ++ countOctets k n)
-      ∙ ap₂ (over s) (add-zero at) start-octets
+      te ∙ ap (λ (l : List ℕ). over s at (numberOctets 6 (to .0) ++ l)) (ap (fieldOctets (1 ∷ 1 ∷ fieldWidths k ++ countWidths k)) ye ∙ start-octets)
 
 -- a frame is its start and its list
 frame-parts : (to : Address) (e : Element) → writeFrame to e ≡ frameStart to (kindOf e) (countOf e) (fieldNumbers e) ++ listOctets e
@@ -62,22 +69,23 @@ frame-parts to e = sym (append-assoc (numberOctets 6 (to .0)) (fixedOctets (kind
 -- ---- as the writers ask it
 
 module _ (to : Address) (s t ys : List ℕ) (at : ℕ) where
-  pub rann-written : (p : PathInfo) → ys ≡ to .0 ∷ 126 ∷ 21 ∷ rannNumbers p → t ≡ withFields (6 ∷ 1 ∷ 1 ∷ 1 ∷ 1 ∷ 1 ∷ 6 ∷ 4 ∷ 4 ∷ 4 ∷ []) s at 0 ys
+  pub rann-written : (p : PathInfo) → ys ≡ fixedNumbers Rann 0 (rannNumbers p)
+      → t ≡ over s at (numberOctets 6 (to .0) ++ fieldOctets (1 ∷ 1 ∷ 1 ∷ 1 ∷ 1 ∷ 6 ∷ 4 ∷ 4 ∷ 4 ∷ []) ys)
       → t ≡ over s at (writeFrame to (rann p))
   rann-written p ye te =
       started to Rann 0 (rannNumbers p) refl (omega arith) (omega arith) s t ys at ye te
       ∙ ap (over s at) (sym (frame-parts to (rann p) ∙ append-nil (frameStart to Rann 0 (rannNumbers p))))
 
-  pub rreq-started : (f : RreqFields) (n : ℕ) → n ≤ 20 → ys ≡ to .0 ∷ 130 ∷ (26 + 11 * n) ∷ rreqNumbers f ++ (n ∷ [])
-      → t ≡ withFields (6 ∷ 1 ∷ 1 ∷ 1 ∷ 1 ∷ 1 ∷ 4 ∷ 6 ∷ 4 ∷ 4 ∷ 4 ∷ 1 ∷ []) s at 0 ys → t ≡ over s at (frameStart to Rreq n (rreqNumbers f))
+  pub rreq-started : (f : RreqFields) (n : ℕ) → n ≤ 20 → ys ≡ fixedNumbers Rreq n (rreqNumbers f)
+      → t ≡ over s at (numberOctets 6 (to .0) ++ fieldOctets (1 ∷ 1 ∷ 1 ∷ 1 ∷ 1 ∷ 4 ∷ 6 ∷ 4 ∷ 4 ∷ 4 ∷ 1 ∷ []) ys) → t ≡ over s at (frameStart to Rreq n (rreqNumbers f))
   rreq-started f n l ye te = started to Rreq n (rreqNumbers f) refl (omega arith) (omega arith) s t ys at ye te
 
-  pub rrep-started : (f : RrepFields) (n : ℕ) → n ≤ 22 → ys ≡ to .0 ∷ 131 ∷ (32 + 10 * n) ∷ rrepNumbers f ++ (n ∷ [])
-      → t ≡ withFields (6 ∷ 1 ∷ 1 ∷ 1 ∷ 1 ∷ 1 ∷ 6 ∷ 4 ∷ 4 ∷ 4 ∷ 6 ∷ 4 ∷ 1 ∷ []) s at 0 ys → t ≡ over s at (frameStart to Rrep n (rrepNumbers f))
+  pub rrep-started : (f : RrepFields) (n : ℕ) → n ≤ 22 → ys ≡ fixedNumbers Rrep n (rrepNumbers f)
+      → t ≡ over s at (numberOctets 6 (to .0) ++ fieldOctets (1 ∷ 1 ∷ 1 ∷ 1 ∷ 1 ∷ 6 ∷ 4 ∷ 4 ∷ 4 ∷ 6 ∷ 4 ∷ 1 ∷ []) ys) → t ≡ over s at (frameStart to Rrep n (rrepNumbers f))
   rrep-started f n l ye te = started to Rrep n (rrepNumbers f) refl (omega arith) (omega arith) s t ys at ye te
 
-  pub rerr-started : (flags n : ℕ) → n ≤ 25 → ys ≡ to .0 ∷ 132 ∷ (2 + 10 * n) ∷ flags ∷ n ∷ []
-      → t ≡ withFields (6 ∷ 1 ∷ 1 ∷ 1 ∷ 1 ∷ []) s at 0 ys → t ≡ over s at (frameStart to Rerr n (flags ∷ []))
+  pub rerr-started : (flags n : ℕ) → n ≤ 25 → ys ≡ fixedNumbers Rerr n (flags ∷ [])
+      → t ≡ over s at (numberOctets 6 (to .0) ++ fieldOctets (1 ∷ 1 ∷ 1 ∷ 1 ∷ []) ys) → t ≡ over s at (frameStart to Rerr n (flags ∷ []))
   rerr-started flags n l ye te = started to Rerr n (flags ∷ []) refl (omega arith) (omega arith) s t ys at ye te
 
 module _ (s t ys : List ℕ) (at : ℕ) where
@@ -92,14 +100,14 @@ module _ (s t ys : List ℕ) (at : ℕ) where
 -- ---- a list part after the start
 
 start-length : (to : Address) (k : Kind) (n : ℕ) (xs : List ℕ) → length (fieldWidths k) ≡ length xs
-    → length (frameStart to k n xs) ≡ 8 + (total (fieldWidths k) + length (countOctets k n))
+    → length (frameStart to k n xs) ≡ 8 + (total (fieldWidths k) + length (countPart k n))
 unfolding fixedOctets
 start-length to k n xs e =
     omega (
       arith,
       length-append (numberOctets 6 (to .0)) (fixedOctets k n xs),
       length-number-octets 6 (to .0),
-      length-append (fieldOctets (fieldWidths k) xs) (countOctets k n),
+      length-append (fieldOctets (fieldWidths k) xs) (countPart k n),
       length-field-octets (fieldWidths k) xs e,
     )
 
@@ -128,3 +136,31 @@ module _ (to : Address) (s t u part : List ℕ) (at at′ : ℕ) (octets : Octet
       (ne ∙ sym (each-length (numberedAt part) 0 (length part / 10)))
       (sym (addresses-made part (length part / 10) octets (omega arith)))
       ∙ ap (over s at) (sym (frame-parts to (rrep f (numberedList (length part / 10) part))))
+
+-- ---- entries one by one, by what is left to write: g is the whole
+
+pub target-length : (x : Target) → length (targetOctets x) ≡ 11
+unfolding targetOctets total
+target-length x = length-field-octets targetWidths (targetNumbers x) refl
+
+pub numbered-length : (x : NumberedAddress) → length (numberedOctets x) ≡ 10
+unfolding numberedOctets total
+numbered-length x = length-field-octets numberedWidths (numberedNumbers x) refl
+
+module _ {A : Type 0} (write : A → List ℕ) (entry : ℕ → A) (n : ℕ) where
+  pub entries-start : (s : List ℕ) (at : ℕ) → over s at (flatMap write (each entry 0 (n - 0))) ≡ over s at (flatMap write (each entry 0 n))
+  entries-start s at = rw (sub-zero n) refl
+
+  pub entries-more : (s t g : List ℕ) (i at at′ : ℕ) → i < n → t ≡ over s at (write (entry i)) → at′ ≡ at + length (write (entry i))
+      → over s at (flatMap write (each entry i (n - i))) ≡ g → over t at′ (flatMap write (each entry (i + 1) (n - (i + 1)))) ≡ g
+  unfolding flatMap
+  entries-more s t g i at at′ l te ae h =
+      let rest : List ℕ = flatMap write (each entry (i + 1) (n - (i + 1))) in
+      ap₂ (λ (u : List ℕ) (k : ℕ). over u k rest) te ae
+      ∙ sym (over-append s at (write (entry i)) rest)
+      ∙ ap (λ (m : List A). over s at (flatMap write m)) (sym (each-next entry i n l))
+      ∙ h
+
+  pub entries-ended : (s g : List ℕ) (i at : ℕ) → n ≤ i → over s at (flatMap write (each entry i (n - i))) ≡ g → s ≡ g
+  unfolding flatMap over
+  entries-ended s g i at l h = ap (λ (m : List A). over s at (flatMap write m)) (sym (each-end entry i n l)) ∙ h

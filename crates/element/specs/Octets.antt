@@ -102,15 +102,19 @@ reading s =
 
 -- ---- written
 
-abbrev pub countOctets : Kind → ℕ → List ℕ
-countOctets Rann n = []
-countOctets Rreq n = n ∷ []
-countOctets Rrep n = n ∷ []
-countOctets Rerr n = n ∷ []
+-- N, where the type has one
+abbrev pub countPart : Kind → ℕ → List ℕ
+countPart Rann n = []
+countPart Rreq n = n ∷ []
+countPart Rrep n = n ∷ []
+countPart Rerr n = n ∷ []
 
--- an element with n entries, without these: ID, Length, fields and N
+-- an element with n entries, without these: ID, Length, fields and N, as numbers and as octets
+abbrev pub fixedNumbers : Kind → ℕ → List ℕ → List ℕ
+fixedNumbers k n xs = idOf k ∷ lengthWith k n ∷ xs ++ countPart k n
+
 unfoldable pub fixedOctets : Kind → ℕ → List ℕ → List ℕ
-fixedOctets k n xs = idOf k ∷ lengthWith k n ∷ fieldOctets (fieldWidths k) xs ++ countOctets k n
+fixedOctets k n xs = idOf k ∷ lengthWith k n ∷ fieldOctets (fieldWidths k) xs ++ countPart k n
 
 abbrev pub listOctets : Element → List ℕ
 listOctets (rann p) = []
@@ -121,9 +125,10 @@ listOctets (rerr flags lost) = flatMap numberedOctets lost
 unfoldable pub writeElement : Element → List ℕ
 writeElement e = fixedOctets (kindOf e) (countOf e) (fieldNumbers e) ++ listOctets e
 
--- a frame is receiver address and element; so begins one with n entries
-abbrev pub frameStart : Address → Kind → ℕ → List ℕ → List ℕ
-frameStart to k n xs = numberOctets 6 (to .0) ++ fixedOctets k n xs
-
+-- a frame is receiver address and element
 unfoldable pub writeFrame : Address → Element → List ℕ
 writeFrame to e = numberOctets 6 (to .0) ++ writeElement e
+
+-- a frame with n entries, without these
+abbrev pub frameStart : Address → Kind → ℕ → List ℕ → List ℕ
+frameStart to k n xs = numberOctets 6 (to .0) ++ fixedOctets k n xs

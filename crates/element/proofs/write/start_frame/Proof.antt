@@ -1,0 +1,15 @@
+-- `element::write::start_frame` meets its contract: one after the other. Assumes nothing.
+use borrow.Author.Needs.{needs}
+use Rattle.element.proofs.Written.{frame-started}
+use Rattle.element.proofs.write.start_frame.Statement.{statement}
+use Rattle.element.proofs.write.start_frame.Tie as tie
+
+pub start-frame-spec : {M : Type 1} → statement M
+start-frame-spec =
+    tie.close
+    (tie.spec
+    (λ c κs. search needs)
+    (λ c. search needs)
+    (λ c κs. search needs)
+    (λ c. search needs)
+    (λ c. search frame-started))
