@@ -3,6 +3,7 @@ pub mod Cases
 pub mod Lengths
 pub mod Scans
 pub mod ListParts
+pub mod Sizes
 pub mod Written
 pub mod Readings
 pub mod ReadBack

@@ -4,13 +4,13 @@ use Prim.Native.Nat.{ℕ, zero, suc, _+_, _*_, _<_, _≤_}
 use mathlib.Core.Path.{_≡_, refl, sym, ap, ap₂, _∙_}
 use mathlib.Core.Bool.{true, false}
 use mathlib.Core.List.{List, [], _∷_, _++_, append-assoc}
-use lib.ListN.{length, getD, take, drop, length-append, length-drop, take-append-drop, drop-of-length-le}
+use lib.ListN.{length, getD, take, drop, length-drop, take-append-drop, drop-of-length-le}
 use lib.Seq.{drop-at, drop-cons, drop-drop}
 use native.Mathlib.Omega.{arith}
 use borrow.Author.Tests.{eq-eqb, le-ltb}
 use Rattle.octets.specs.LittleEndian.{numberOctets, fieldsAt, fieldOctets, total, FitFields, Octets}
 use Rattle.octets.proofs.Laws.{fields-fit}
-use Rattle.octets.proofs.OctetLists.{length-field-octets, fields-read, fields-made, octets-nil, octets-cons, octets-append, octets-drop, octets-of-fields}
+use Rattle.octets.proofs.OctetLists.{fields-read, fields-made, octets-nil, octets-cons, octets-append, octets-drop, octets-of-fields}
 use Rattle.element.specs.declared.Kind.{Kind}
 use Rattle.element.specs.declared.Kind.the-variants.{Rann, Rreq, Rrep, Rerr}
 use Rattle.element.specs.Element.{Element, rann, rreq, rrep, rerr, kindOf, countOf, fieldNumbers}
@@ -19,7 +19,8 @@ use Rattle.element.specs.Entries.{each, numberedAt, targetAt}
 use Rattle.element.specs.Octets.{kindIn, countAs, wrongLength, otherId, misfit, fieldsAs, listAs, elementAs, readAs, readElement, fixedFields, reading, countPart, fixedOctets, listOctets, writeElement}
 use Rattle.element.proofs.Lengths.{least-length, id-octet, length-octet, count-octet}
 use Rattle.element.proofs.Scans.{each-length}
-use Rattle.element.proofs.ListParts.{All, FitsTarget, FitsNumbered, targets-length, targets-octets, targets-read, targets-made, addresses-length, addresses-octets, addresses-read, addresses-made}
+use Rattle.element.proofs.ListParts.{All, FitsTarget, FitsNumbered, targets-octets, targets-read, targets-made, addresses-octets, addresses-read, addresses-made}
+use Rattle.element.proofs.Sizes.{fixed-length, element-length}
 use Rattle.element.proofs.Readings.{Passed, passed}
 
 -- ---- elements that octets can hold
@@ -38,35 +39,10 @@ pub record Fits (e : Element) : Type 0 where
 
 -- ---- the parts of what is written
 
-as-many : (e : Element) → length (fieldWidths (kindOf e)) ≡ length (fieldNumbers e)
-as-many (rann p) = refl
-as-many (rreq f targets) = refl
-as-many (rrep f dependents) = refl
-as-many (rerr flags lost) = refl
-
--- the fixed part has as many octets as an element without entries
-fixed-width : (k : Kind) (n : ℕ) → 2 + (total (fieldWidths k) + length (countPart k n)) ≡ 2 + lengthWith k 0
-unfolding total
-fixed-width Rann n = refl
-fixed-width Rreq n = refl
-fixed-width Rrep n = refl
-fixed-width Rerr n = refl
-
-fixed-length : (e : Element) → length (fixedOctets (kindOf e) (countOf e) (fieldNumbers e)) ≡ 2 + lengthWith (kindOf e) 0
-unfolding fixedOctets
-fixed-length e =
-    let k : Kind = kindOf e in
-    omega (
-      arith,
-      length-append (fieldOctets (fieldWidths k) (fieldNumbers e)) (countPart k (countOf e)),
-      length-field-octets (fieldWidths k) (fieldNumbers e) (as-many e),
-      fixed-width k (countOf e),
-    )
-
 list-there : (e : Element) → listAs (kindOf e) (writeElement e) ≡ listOctets e
 unfolding writeElement
 list-there e =
-    drop-at (fixedOctets (kindOf e) (countOf e) (fieldNumbers e)) (listOctets e) (2 + lengthWith (kindOf e) 0) (fixed-length e)
+    drop-at (fixedOctets (kindOf e) (countOf e) (fieldNumbers e)) (listOctets e) (2 + lengthWith (kindOf e) 0) (fixed-length e (countOf e))
 
 fields-there : (e : Element) → FitFields (fieldWidths (kindOf e)) (fieldNumbers e) → fieldsAs (kindOf e) (writeElement e) ≡ fieldNumbers e
 unfolding writeElement fixedOctets
@@ -110,19 +86,6 @@ read-back e f =
     ∙ made e (f .entries)
 
 -- ---- and passes 6, 7 and 8
-
-list-length : (e : Element) → 2 + lengthWith (kindOf e) 0 + length (listOctets e) ≡ 2 + lengthWith (kindOf e) (countOf e)
-list-length (rann p) = refl
-list-length (rreq f targets) = omega (arith, targets-length targets)
-list-length (rrep f dependents) = omega (arith, addresses-length dependents)
-list-length (rerr flags lost) = omega (arith, addresses-length lost)
-
--- an element has as many octets as its Length says, and two
-pub element-length : (e : Element) → length (writeElement e) ≡ 2 + lengthWith (kindOf e) (countOf e)
-unfolding writeElement
-element-length e =
-    length-append (fixedOctets (kindOf e) (countOf e) (fieldNumbers e)) (listOctets e)
-    ∙ ap (λ (n : ℕ). n + length (listOctets e)) (fixed-length e) ∙ list-length e
 
 length-there : (e : Element) → getD (writeElement e) 1 0 ≡ lengthWith (kindOf e) (countOf e)
 unfolding writeElement fixedOctets

@@ -2,7 +2,7 @@
 use Prim.Native.Nat.{ℕ, _+_, _-_, _/_, _%_, _<_, _≤_}
 use mathlib.Core.Path.{_≡_, refl, sym, ap, ap₂, _∙_}
 use mathlib.Core.List.{List, [], _∷_, _++_, append-nil, append-assoc, flatMap}
-use lib.ListN.{length, length-append}
+use lib.ListN.{length}
 use native.Mathlib.Omega.{arith}
 use native.Mathlib.Nat.{add-zero, sub-zero}
 use Rattle.octets.specs.LittleEndian.{numberOctets, over, withNumber, fieldOctets, withFields, total, Octets}
@@ -15,11 +15,12 @@ use Rattle.element.specs.declared.NumberedAddress.{NumberedAddress}
 use Rattle.element.specs.declared.Target.{Target}
 use Rattle.element.specs.declared.RreqFields.{RreqFields}
 use Rattle.element.specs.declared.RrepFields.{RrepFields}
-use Rattle.element.specs.Element.{Element, rann, rreq, rrep, kindOf, countOf, rannNumbers, rreqNumbers, rrepNumbers, fieldNumbers, numberedNumbers, targetNumbers}
+use Rattle.element.specs.Element.{Element, rann, rreq, rrep, rerr, kindOf, countOf, rannNumbers, rreqNumbers, rrepNumbers, fieldNumbers, numberedNumbers, targetNumbers}
 use Rattle.element.specs.Layout.{idOf, lengthWith, fieldWidths, numberedWidths, targetWidths}
 use Rattle.element.specs.Entries.{each, numberedList, numberedOctets, targetList, targetOctets, numberedAt, targetAt}
 use Rattle.element.specs.Octets.{countPart, fixedNumbers, fixedOctets, listOctets, writeElement, frameStart, writeFrame}
 use Rattle.element.proofs.Lengths.{id-octet}
+use Rattle.element.proofs.Sizes.{start-length}
 use Rattle.element.proofs.Scans.{each-length, each-next, each-end}
 use Rattle.element.proofs.ListParts.{targets-made, addresses-made}
 
@@ -97,45 +98,42 @@ module _ (s t ys : List ℕ) (at : ℕ) where
   unfolding numberedOctets
   numbered-written x ye te = rw (te, ye, fields-over, add-zero at) refl
 
--- ---- a list part after the start
+-- ---- a list after the start
 
-start-length : (to : Address) (k : Kind) (n : ℕ) (xs : List ℕ) → length (fieldWidths k) ≡ length xs
-    → length (frameStart to k n xs) ≡ 8 + (total (fieldWidths k) + length (countPart k n))
-unfolding fixedOctets
-start-length to k n xs e =
-    omega (
-      arith,
-      length-append (numberOctets 6 (to .0)) (fixedOctets k n xs),
-      length-number-octets 6 (to .0),
-      length-append (fieldOctets (fieldWidths k) xs) (countPart k n),
-      length-field-octets (fieldWidths k) xs e,
-    )
+-- what is written after the start makes the frame
+module _ (to : Address) (s t u : List ℕ) (at at′ : ℕ) where
+  finished : (e : Element) (n : ℕ) → n ≡ countOf e → t ≡ over s at (frameStart to (kindOf e) n (fieldNumbers e)) → at′ ≡ at + (8 + lengthWith (kindOf e) 0)
+      → u ≡ over t at′ (listOctets e) → u ≡ over s at (writeFrame to e)
+  finished e n ne te ae ue =
+      let start : List ℕ = frameStart to (kindOf e) n (fieldNumbers e) in
+      ue ∙ ap₂ (λ (l : List ℕ) (k : ℕ). over l k (listOctets e)) te (ae ∙ ap (λ (k : ℕ). at + k) (sym (start-length to e n)))
+      ∙ sym (over-append s at start (listOctets e))
+      ∙ ap (λ (m : ℕ). over s at (frameStart to (kindOf e) m (fieldNumbers e) ++ listOctets e)) ne
+      ∙ ap (over s at) (sym (frame-parts to e))
 
-module _ (to : Address) (s t u part : List ℕ) (at at′ : ℕ) (octets : Octets part) where
-  -- what is written after the start is written with it
-  with-list : (start : List ℕ) (long : ℕ) → length start ≡ long → t ≡ over s at start → at′ ≡ at + long → u ≡ over t at′ part → u ≡ over s at (start ++ part)
-  with-list start long le te ae ue =
-      ue ∙ ap₂ (λ (l : List ℕ) (k : ℕ). over l k part) te (ae ∙ ap (λ (k : ℕ). at + k) (sym le)) ∙ sym (over-append s at start part)
+  module _ (part : List ℕ) (n : ℕ) where
+    targets-many : n ≡ length part / 11 → n ≡ length (targetList (length part / 11) part)
+    targets-many e = e ∙ sym (each-length (targetAt part) 0 (length part / 11))
 
-  pub rreq-written : (f : RreqFields) (n : ℕ) → n ≡ length part / 11 → length part % 11 ≡ 0 → t ≡ over s at (frameStart to Rreq n (rreqNumbers f))
-      → at′ ≡ at + 34 → u ≡ over t at′ part → u ≡ over s at (writeFrame to (rreq f (targetList (length part / 11) part)))
-  unfolding total
-  rreq-written f n ne whole te ae ue =
-      with-list (frameStart to Rreq n (rreqNumbers f)) 34 (start-length to Rreq n (rreqNumbers f) refl) te ae ue
-      ∙ ap₂ (λ (m : ℕ) (l : List ℕ). over s at (frameStart to Rreq m (rreqNumbers f) ++ l))
-      (ne ∙ sym (each-length (targetAt part) 0 (length part / 11)))
-      (sym (targets-made part (length part / 11) octets (omega arith)))
-      ∙ ap (over s at) (sym (frame-parts to (rreq f (targetList (length part / 11) part))))
+    addresses-many : n ≡ length part / 10 → n ≡ length (numberedList (length part / 10) part)
+    addresses-many e = e ∙ sym (each-length (numberedAt part) 0 (length part / 10))
 
-  pub rrep-written : (f : RrepFields) (n : ℕ) → n ≡ length part / 10 → length part % 10 ≡ 0 → t ≡ over s at (frameStart to Rrep n (rrepNumbers f))
-      → at′ ≡ at + 40 → u ≡ over t at′ part → u ≡ over s at (writeFrame to (rrep f (numberedList (length part / 10) part)))
-  unfolding total
-  rrep-written f n ne whole te ae ue =
-      with-list (frameStart to Rrep n (rrepNumbers f)) 40 (start-length to Rrep n (rrepNumbers f) refl) te ae ue
-      ∙ ap₂ (λ (m : ℕ) (l : List ℕ). over s at (frameStart to Rrep m (rrepNumbers f) ++ l))
-      (ne ∙ sym (each-length (numberedAt part) 0 (length part / 10)))
-      (sym (addresses-made part (length part / 10) octets (omega arith)))
-      ∙ ap (over s at) (sym (frame-parts to (rrep f (numberedList (length part / 10) part))))
+    module _ (f : RreqFields) (ne : n ≡ length part / 11) (te : t ≡ over s at (frameStart to Rreq n (rreqNumbers f))) (ae : at′ ≡ at + 34) where
+      pub rreq-listed : u ≡ over t at′ (flatMap targetOctets (targetList (length part / 11) part)) → u ≡ over s at (writeFrame to (rreq f (targetList (length part / 11) part)))
+      rreq-listed = finished (rreq f (targetList (length part / 11) part)) n (targets-many ne) te ae
+
+      pub rreq-written : Octets part → length part % 11 ≡ 0 → u ≡ over t at′ part → u ≡ over s at (writeFrame to (rreq f (targetList (length part / 11) part)))
+      rreq-written octets whole ue = rreq-listed (ue ∙ ap (over t at′) (sym (targets-made part (length part / 11) octets (omega arith))))
+
+    pub rrep-written : (f : RrepFields) → n ≡ length part / 10 → t ≡ over s at (frameStart to Rrep n (rrepNumbers f)) → at′ ≡ at + 40
+        → Octets part → length part % 10 ≡ 0 → u ≡ over t at′ part → u ≡ over s at (writeFrame to (rrep f (numberedList (length part / 10) part)))
+    rrep-written f ne te ae octets whole ue =
+        finished (rrep f (numberedList (length part / 10) part)) n (addresses-many ne) te ae
+        (ue ∙ ap (over t at′) (sym (addresses-made part (length part / 10) octets (omega arith))))
+
+    pub rerr-listed : (flags : ℕ) → n ≡ length part / 10 → t ≡ over s at (frameStart to Rerr n (flags ∷ [])) → at′ ≡ at + 10
+        → u ≡ over t at′ (flatMap numberedOctets (numberedList (length part / 10) part)) → u ≡ over s at (writeFrame to (rerr flags (numberedList (length part / 10) part)))
+    rerr-listed flags ne te ae = finished (rerr flags (numberedList (length part / 10) part)) n (addresses-many ne) te ae
 
 -- ---- entries one by one, by what is left to write: g is the whole
 

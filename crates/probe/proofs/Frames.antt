@@ -1,0 +1,133 @@
+-- Frames that fit and frames that do not, and the faults of a list. Assumes nothing.
+use Prim.Native.Nat.{ℕ, _+_, _-_, _/_, _%_, _<_, _≤_}
+use mathlib.Core.Path.{_≡_, refl, sym, _∙_}
+use mathlib.Core.Bool.{Bool, true, false, not, cond}
+use mathlib.Core.List.{List}
+use lib.Dec.{leb}
+use lib.ListN.{length}
+use native.Mathlib.Omega.{arith}
+use borrow.Author.Tests.{leb-true, leb-false, le-leb, lt-leb, not-true, not-false}
+use Rattle.octets.specs.LittleEndian.{over}
+use Rattle.table.specs.declared.address.Address.{Address}
+use Rattle.element.specs.declared.list.ListKind.{ListKind}
+use Rattle.element.specs.declared.list.ListKind.the-variants.{Targets, NumberedAddresses}
+use Rattle.element.specs.declared.PathInfo.{PathInfo}
+use Rattle.element.specs.declared.RreqFields.{RreqFields}
+use Rattle.element.specs.declared.RrepFields.{RrepFields}
+use Rattle.element.specs.declared.read.Reading.{Reading}
+use Rattle.element.specs.declared.read.Reading.the-variants.{Announcement, Request, Reply, Error, Refused}
+use Rattle.element.specs.Element.{rann, rreq, rrep, rerr}
+use Rattle.element.specs.Entries.{numberedAt, numberedList, targetAt, targetList}
+use Rattle.element.specs.Octets.{reading, listPart, writeFrame}
+use Rattle.element.specs.Lists.{addressesIn, among, anyForbidden, onesBesideOthers, twice}
+use Rattle.element.proofs.Scans.{each-length}
+use Rattle.element.proofs.Sizes.{frame-length}
+use Rattle.element.proofs.Readings.{announcement-element, request-element, reply-element, error-element}
+use Rattle.probe.specs.Probes.{Probed, faults, faultsIn, written, writtenAgain}
+
+-- ---- room
+
+module _ (out : List ℕ) (at size : ℕ) where
+  pub place-beyond : length out < at → false ≡ leb (at + size) (length out)
+  place-beyond h = sym (lt-leb (at + size) (length out) (omega arith))
+
+  pub place-within : at ≤ length out → leb size (length out - at) ≡ leb (at + size) (length out)
+  place-within h = by (leb size (length out - at)) refl
+    where
+      by : (b : Bool) → leb size (length out - at) ≡ b → b ≡ leb (at + size) (length out)
+      by true e = let l = leb-true size (length out - at) e in sym (le-leb (at + size) (length out) (omega arith))
+      by false e = let l = leb-false size (length out - at) e in sym (lt-leb (at + size) (length out) (omega arith))
+
+  module _ (b : Bool) (be : b ≡ leb (at + size) (length out)) where
+    pub room-there : not b ≡ false → at + size ≤ length out
+    room-there yes-b = leb-true (at + size) (length out) (sym be ∙ not-false b yes-b)
+
+    module _ (p : List ℕ) (pe : length p ≡ size) where
+      pub no-room : not b ≡ true → record { answer = 2; memory = out } ≡ written out at p
+      unfolding written
+      no-room no-b = rw (pe, ← be, not-true b no-b) refl
+
+      pub wrote : not b ≡ false → (u : List ℕ) → u ≡ over out at p → record { answer = 0; memory = u } ≡ written out at p
+      unfolding written
+      wrote yes-b u ue = rw (pe, ← be, not-false b yes-b, ue) refl
+
+-- a start of n octets, and a list part after it
+module _ (out part : List ℕ) (at n : ℕ) (b : Bool) (be : b ≡ leb (at + (n + length part)) (length out)) (yes-b : not b ≡ false) where
+  pub whole-room : at + n + length part ≤ length out
+  whole-room = let h = room-there out at (n + length part) b be yes-b in omega arith
+
+  pub start-room : at + n ≤ length out
+  start-room = let h = whole-room in omega arith
+
+  pub list-room : (t : List ℕ) (list : ℕ) → list ≡ at + n → length t ≡ length out → list + length part ≤ length t
+  list-room t list le te = let h = whole-room in omega arith
+
+-- ---- how long frames are
+
+module _ (to : Address) where
+  pub rann-size : (p : PathInfo) → length (writeFrame to (rann p)) ≡ 29
+  rann-size p = frame-length to (rann p)
+
+  module _ (part : List ℕ) where
+    pub rreq-size : (f : RreqFields) → length part % 11 ≡ 0 → length (writeFrame to (rreq f (targetList (length part / 11) part))) ≡ 34 + length part
+    rreq-size f whole = omega (arith, frame-length to (rreq f (targetList (length part / 11) part)), each-length (targetAt part) 0 (length part / 11))
+
+    pub rrep-size : (f : RrepFields) → length part % 10 ≡ 0 → length (writeFrame to (rrep f (numberedList (length part / 10) part))) ≡ 40 + length part
+    rrep-size f whole = omega (arith, frame-length to (rrep f (numberedList (length part / 10) part)), each-length (numberedAt part) 0 (length part / 10))
+
+    pub rerr-size : (flags : ℕ) → length part % 10 ≡ 0 → length (writeFrame to (rerr flags (numberedList (length part / 10) part))) ≡ 10 + length part
+    rerr-size flags whole = omega (arith, frame-length to (rerr flags (numberedList (length part / 10) part)), each-length (numberedAt part) 0 (length part / 10))
+
+-- ---- by the reader's answer
+
+module _ (s out : List ℕ) (to : Address) (at : ℕ) (r : Reading) (re : r ≡ reading s) where
+  pub again-refused : (n : ℕ) → r ≡ Refused n → record { answer = n; memory = out } ≡ writtenAgain s to out at
+  unfolding writtenAgain
+  again-refused n e = rw (← re, e) refl
+
+  module _ (receiver : Address) (te : receiver ≡ to) (w : Probed) where
+    pub again-rann : (p : PathInfo) → r ≡ Announcement p → w ≡ written out at (writeFrame receiver (rann p)) → w ≡ writtenAgain s to out at
+    unfolding writtenAgain
+    again-rann p e we = rw (we, te, ← re, e, announcement-element s r re p e) refl
+
+    module _ (part : List ℕ) (pe : part ≡ listPart s) where
+      pub again-rreq : (f : RreqFields) → r ≡ Request f → w ≡ written out at (writeFrame receiver (rreq f (targetList (length part / 11) part))) → w ≡ writtenAgain s to out at
+      unfolding writtenAgain
+      again-rreq f e we = rw (we, te, ← re, e, request-element s r re f e part pe) refl
+
+      pub again-rrep : (f : RrepFields) → r ≡ Reply f → w ≡ written out at (writeFrame receiver (rrep f (numberedList (length part / 10) part))) → w ≡ writtenAgain s to out at
+      unfolding writtenAgain
+      again-rrep f e we = rw (we, te, ← re, e, reply-element s r re f e part pe) refl
+
+      pub again-rerr : (flags : ℕ) → r ≡ Error flags → w ≡ written out at (writeFrame receiver (rerr flags (numberedList (length part / 10) part))) → w ≡ writtenAgain s to out at
+      unfolding writtenAgain
+      again-rerr flags e we = rw (we, te, ← re, e, error-element s r re flags e part pe) refl
+
+-- ---- faults
+
+module _ (k : ListKind) (a : Address) (l : List Address) where
+  pub faults-summed : (w x y z : ℕ) (c d e f : Bool) → c ≡ anyForbidden k l → d ≡ twice l → e ≡ onesBesideOthers l → f ≡ among a l
+      → w ≡ cond c 1 0 → x ≡ cond d 2 0 → y ≡ cond e 4 0 → z ≡ cond f 8 0 → w + x + y + z ≡ faults k a l
+  faults-summed w x y z c d e f ce de ee fe we xe ye ze = rw (we, xe, ye, ze, ce, de, ee, fe) refl
+
+module _ (s : List ℕ) (a : Address) (r : Reading) (re : r ≡ reading s) where
+  pub no-faults-rann : (p : PathInfo) → r ≡ Announcement p → 0 ≡ faultsIn s a
+  unfolding faultsIn
+  no-faults-rann p e = rw (← re, e) refl
+
+  pub no-faults-refused : (n : ℕ) → r ≡ Refused n → 0 ≡ faultsIn s a
+  unfolding faultsIn
+  no-faults-refused n e = rw (← re, e) refl
+
+  module _ (b : Address) (be : b ≡ a) (x : ℕ) (part : List ℕ) (pe : part ≡ listPart s) where
+    pub faults-rreq : (f : RreqFields) → r ≡ Request f → x ≡ faults Targets b (addressesIn Targets part) → x ≡ faultsIn s a
+    unfolding faultsIn
+    faults-rreq f e xe = rw (xe, be, ← re, e, pe) refl
+
+    pub faults-rrep : (f : RrepFields) → r ≡ Reply f → x ≡ faults NumberedAddresses b (addressesIn NumberedAddresses part) → x ≡ faultsIn s a
+    unfolding faultsIn
+    faults-rrep f e xe = rw (xe, be, ← re, e, pe) refl
+
+    pub faults-rerr : (flags : ℕ) → r ≡ Error flags → x ≡ faults NumberedAddresses b (addressesIn NumberedAddresses part) → x ≡ faultsIn s a
+    unfolding faultsIn
+    faults-rerr flags e xe = rw (xe, be, ← re, e, pe) refl

@@ -1,0 +1,17 @@
+-- `probe::again::write_rreq` meets its contract: written if it fits. Assumes nothing.
+use borrow.Author.Needs.{needs}
+use Rattle.probe.proofs.Frames.{whole-room, no-room, wrote, rreq-size}
+use Rattle.probe.proofs.again.write_rreq.Statement.{statement}
+use Rattle.probe.proofs.again.write_rreq.Tie as tie
+
+pub write-rreq-spec : {M : Type 1} → statement M
+write-rreq-spec =
+    tie.close
+    (tie.spec
+    (λ c. search needs)
+    (λ c κs. search needs)
+    (λ c. search needs)
+    (λ c. search (no-room, rreq-size))
+    (λ c κs. search (needs, whole-room))
+    (λ c. search needs)
+    (λ c. search (wrote, rreq-size)))

@@ -1,0 +1,19 @@
+-- `probe::again::write_rreq_singly` meets its contract: written if it fits, the start and then the list. Assumes nothing.
+use borrow.Author.Needs.{needs}
+use Rattle.element.proofs.Written.{rreq-listed}
+use Rattle.probe.proofs.Frames.{start-room, list-room, no-room, wrote, rreq-size}
+use Rattle.probe.proofs.again.write_rreq_singly.Statement.{statement}
+use Rattle.probe.proofs.again.write_rreq_singly.Tie as tie
+
+pub write-rreq-singly-spec : {M : Type 1} → statement M
+write-rreq-singly-spec =
+    tie.close
+    (tie.spec
+    (λ c. search needs)
+    (λ c κs. search needs)
+    (λ c. search needs)
+    (λ c. search (no-room, rreq-size))
+    (λ c κs. search (needs, start-room))
+    (λ c κs. search (needs, list-room))
+    (λ c. search needs)
+    (λ c. search (wrote, rreq-size, rreq-listed)))

@@ -1,0 +1,16 @@
+-- `probe::numbers::put_rerr` meets its contract: the fixed part, and then the entries. Assumes nothing.
+use borrow.Author.Needs.{needs}
+use Rattle.probe.proofs.Elements.{rerr-put}
+use Rattle.probe.proofs.numbers.put_rerr.Statement.{statement}
+use Rattle.probe.proofs.numbers.put_rerr.Tie as tie
+
+pub put-rerr-spec : {M : Type 1} → statement M
+put-rerr-spec =
+    tie.close
+    (tie.spec
+    (λ c κs. search needs)
+    (λ c. search needs)
+    (λ c κs. search needs)
+    (λ c κs. search needs)
+    (λ c. search needs)
+    (λ c. search (needs, rerr-put)))

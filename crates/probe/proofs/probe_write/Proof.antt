@@ -1,0 +1,34 @@
+-- `probe::probe_write` meets its contract: answer by answer of the reader. Assumes nothing.
+use borrow.Author.Needs.{needs}
+use Rattle.element.proofs.Readings.{request-room, request-short, request-whole, reply-room, reply-short, reply-whole, error-room, error-short, error-whole}
+use Rattle.probe.proofs.Frames.{again-rann, again-rreq, again-rrep, again-rerr, again-refused}
+use Rattle.probe.proofs.probe_write.Statement.{statement}
+use Rattle.probe.proofs.probe_write.Tie as tie
+
+pub probe-write-spec : {M : Type 1} → statement M
+probe-write-spec =
+    tie.close
+    (tie.spec
+    (λ c κs. search needs)
+    (λ c κs. search needs)
+    (λ c. search needs)
+    (λ c κs. search needs)
+    (λ c. search needs)
+    (λ c κs. search request-room)
+    (λ c κs. search (request-short, request-whole))
+    (λ c. search needs)
+    (λ c κs. search reply-room)
+    (λ c κs. search (reply-short, reply-whole))
+    (λ c. search needs)
+    (λ c κs. search error-room)
+    (λ c κs. search (error-short, error-whole))
+    (λ c. search needs)
+    (λ c. search needs)
+    (λ c. search again-rann)
+    (λ c. search needs)
+    (λ c. search again-rreq)
+    (λ c. search needs)
+    (λ c. search again-rrep)
+    (λ c. search needs)
+    (λ c. search again-rerr)
+    (λ c. search again-refused))

@@ -1,0 +1,67 @@
+-- What the entries for tests answer and leave in the memory that they are lent. Assumes nothing.
+use Prim.Native.Nat.{ℕ, _+_}
+use mathlib.Core.Bool.{cond}
+use mathlib.Core.List.{List, [], _++_, flatMap}
+use lib.Dec.{leb}
+use lib.ListN.{length}
+use Rattle.octets.specs.LittleEndian.{over}
+use Rattle.table.specs.declared.address.Address.{Address}
+use Rattle.element.specs.declared.list.ListKind.{ListKind}
+use Rattle.element.specs.declared.list.ListKind.the-variants.{Targets, NumberedAddresses}
+use Rattle.element.specs.declared.read.Reading.{Reading}
+use Rattle.element.specs.declared.read.Reading.the-variants.{Announcement, Request, Reply, Error, Refused}
+use Rattle.element.specs.Element.{Element, rann, rreq, rrep, rerr, kindOf, countOf, fieldNumbers, numberedNumbers, targetNumbers}
+use Rattle.element.specs.Octets.{fixedNumbers, readElement, reading, listPart, writeFrame}
+use Rattle.element.specs.Lists.{addressesIn, among, anyForbidden, onesBesideOthers, twice}
+
+pub record Probed : Type 0 where
+  pub answer : ℕ
+  pub memory : List ℕ
+
+-- a refusal leaves the memory as it was
+abbrev pub unlessRefused : Reading → List ℕ → Probed → Probed
+unlessRefused (Announcement p) was made = made
+unlessRefused (Request f) was made = made
+unlessRefused (Reply f) was made = made
+unlessRefused (Error flags) was made = made
+unlessRefused (Refused n) was made = record { answer = n; memory = was }
+
+-- ---- an element as numbers
+
+-- all numbers of an element, in the order of its octets
+abbrev pub entryNumbers : Element → List ℕ
+entryNumbers (rann p) = []
+entryNumbers (rreq f targets) = flatMap targetNumbers targets
+entryNumbers (rrep f dependents) = flatMap numberedNumbers dependents
+entryNumbers (rerr flags lost) = flatMap numberedNumbers lost
+
+unfoldable pub elementNumbers : Element → List ℕ
+elementNumbers e = fixedNumbers (kindOf e) (countOf e) (fieldNumbers e) ++ entryNumbers e
+
+unfoldable pub readNumbers : List ℕ → List ℕ → Probed
+readNumbers s numbers = unlessRefused (reading s) numbers (record { answer = 0; memory = over numbers 0 (elementNumbers (readElement s)) })
+
+-- ---- an element written again
+
+-- octets written from place at on, or 2 if they do not fit in there
+unfoldable pub written : List ℕ → ℕ → List ℕ → Probed
+written out at p = cond (leb (at + length p) (length out)) (record { answer = 0; memory = over out at p }) (record { answer = 2; memory = out })
+
+unfoldable pub writtenAgain : List ℕ → Address → List ℕ → ℕ → Probed
+writtenAgain s to out at = unlessRefused (reading s) out (written out at (writeFrame to (readElement s)))
+
+-- ---- what is wrong in a list, as a sum: 1 an address that may not stand there, 2 an address twice, 4 all ones beside others,
+-- 8 the given address among them
+
+abbrev pub faults : ListKind → Address → List Address → ℕ
+faults k a l = cond (anyForbidden k l) 1 0 + cond (twice l) 2 0 + cond (onesBesideOthers l) 4 0 + cond (among a l) 8 0
+
+abbrev pub faultsRead : Reading → List ℕ → Address → ℕ
+faultsRead (Announcement p) part a = 0
+faultsRead (Request f) part a = faults Targets a (addressesIn Targets part)
+faultsRead (Reply f) part a = faults NumberedAddresses a (addressesIn NumberedAddresses part)
+faultsRead (Error flags) part a = faults NumberedAddresses a (addressesIn NumberedAddresses part)
+faultsRead (Refused n) part a = 0
+
+unfoldable pub faultsIn : List ℕ → Address → ℕ
+faultsIn s a = faultsRead (reading s) (listPart s) a

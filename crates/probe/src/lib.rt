@@ -1,0 +1,113 @@
+// Elements for the tests and benchmarks: what is read of one as numbers, the frame that is written of it, and what is wrong
+// with its list. No part of the library that C links.
+mod again;
+mod numbers;
+
+use element::RreqFields;
+use element::list;
+use element::list::ListKind;
+use element::read;
+use element::read::Reading;
+use table::address;
+use table::address::Address;
+ghost use mathlib.Core.Path.{_≡_};
+ghost use mathlib.Core.Bool.{cond};
+ghost use Prim.Native.Nat.{_/_, _%_, _≤_};
+ghost use lib.ListN.{length};
+ghost use Rattle.table.specs.Address.{addressOf};
+ghost use Rattle.element.specs.Element.{rreq};
+ghost use Rattle.element.specs.Entries.{targetList};
+ghost use Rattle.element.specs.Lists.{addressesIn};
+ghost use Rattle.element.specs.Octets.{writeFrame};
+ghost use Rattle.probe.specs.Probes.{faults, faultsIn, readNumbers, written, writtenAgain};
+
+// Answers 6, 7 or 8, or 0 and writes the element's numbers in the order of its octets, entries too.
+#[no_mangle]
+pub extern "C" fn probe_read(element: &[u8], numbers: &mut [u64; 71]) -> u32
+    ensures { λ r. ⌜ record { answer = r; memory = now (numbers .exit) } ≡ readNumbers (now (element .entry)) (now (numbers .entry)) ⌝ }
+{
+    match read::read(element) {
+        Reading::Announcement(path) => numbers::put_rann(numbers, path),
+        Reading::Request(f) => numbers::put_rreq(numbers, f, read::list_part(element)),
+        Reading::Reply(f) => numbers::put_rrep(numbers, f, read::list_part(element)),
+        Reading::Error(flags) => numbers::put_rerr(numbers, flags, read::list_part(element)),
+        Reading::Refused(n) => n,
+    }
+}
+
+fn write_rreq(
+    out: &mut [u8],
+    at: usize,
+    to: Address,
+    f: RreqFields,
+    part: &[u8],
+    singly: u32,
+) -> u32
+    requires { ⌜ length (now part) ≤ 220 ⌝ }
+    requires { ⌜ length (now part) % 11 ≡ 0 ⌝ }
+    ensures { λ r. ⌜ record { answer = r; memory = now (out .exit) } ≡ written (now (out .entry)) at (writeFrame to (rreq f (targetList (length (now (part .entry)) / 11) (now (part .entry))))) ⌝ }
+{
+    if singly == 0 {
+        return again::write_rreq(out, at, to, f, part);
+    }
+    again::write_rreq_singly(out, at, to, f, part)
+}
+
+// Writes the element again as a frame from place at on. Answers 0; 6, 7 or 8; or 2 if it does not fit in there. Where singly
+// is 0 the destinations of a RREQ are written from its list part, else one by one, with the same outcome.
+#[no_mangle]
+pub extern "C" fn probe_write(
+    element: &[u8],
+    to: &[u8; 6],
+    out: &mut [u8],
+    at: usize,
+    singly: u32,
+) -> u32
+    ensures { λ r. ⌜ record { answer = r; memory = now (out .exit) } ≡ writtenAgain (now (element .entry)) (addressOf (now (to .entry))) (now (out .entry)) at ⌝ }
+{
+    let receiver = address::read(to);
+    match read::read(element) {
+        Reading::Announcement(path) => again::write_rann(out, at, receiver, path),
+        Reading::Request(f) => write_rreq(out, at, receiver, f, read::list_part(element), singly),
+        Reading::Reply(f) => again::write_rrep(out, at, receiver, f, read::list_part(element)),
+        Reading::Error(flags) => again::write_rerr(
+            out,
+            at,
+            receiver,
+            flags,
+            read::list_part(element),
+        ),
+        Reading::Refused(n) => n,
+    }
+}
+
+fn value_if(test: bool, value: u32) -> u32
+    ensures { λ r. ⌜ r ≡ cond test value 0 ⌝ }
+    ensures { λ r. ⌜ r ≤ value ⌝ }
+{
+    if test { value } else { 0 }
+}
+
+fn faults_of(part: &[u8], kind: ListKind, address: Address) -> u32
+    ensures { λ r. ⌜ r ≡ faults kind address (addressesIn kind (now (part .entry))) ⌝ }
+{
+    value_if(list::has_forbidden(part, kind), 1)
+        + value_if(list::has_twice(part, kind), 2)
+        + value_if(list::has_ones_beside_others(part, kind), 4)
+        + value_if(list::is_among(part, kind, address), 8)
+}
+
+// What is wrong with the addresses of the list: a sum of 1, 2, 4 and 8, as the definition says.
+#[no_mangle]
+pub extern "C" fn probe_faults(element: &[u8], address: &[u8; 6]) -> u32
+    ensures { λ r. ⌜ r ≡ faultsIn (now (element .entry)) (addressOf (now (address .entry))) ⌝ }
+{
+    let a = address::read(address);
+    match read::read(element) {
+        Reading::Announcement(_) => 0,
+        Reading::Request(_) => faults_of(read::list_part(element), ListKind::Targets, a),
+        Reading::Reply(_) => faults_of(read::list_part(element), ListKind::NumberedAddresses, a),
+        Reading::Error(_) => faults_of(read::list_part(element), ListKind::NumberedAddresses, a),
+        Reading::Refused(_) => 0,
+    }
+}

@@ -1,0 +1,104 @@
+// The numbers of an element, written side by side; each function answers 0.
+use element::PathInfo;
+use element::RrepFields;
+use element::RreqFields;
+use element::list;
+use element::list::ListKind;
+use element::write;
+ghost use mathlib.Core.Path.{_≡_};
+ghost use mathlib.Core.List.{flatMap};
+ghost use Prim.Native.Nat.{_+_, _*_, _/_, _≤_};
+ghost use lib.ListN.{length};
+ghost use Rattle.octets.specs.LittleEndian.{over};
+ghost use Rattle.element.specs.Element.{numberedNumbers, rann, rerr, rrep, rreq, targetNumbers};
+ghost use Rattle.element.specs.Entries.{numberedList, targetList};
+ghost use Rattle.probe.specs.Probes.{elementNumbers};
+
+fn put(numbers: &mut [u64], at: usize, values: &[u64])
+    requires { ⌜ at + length (now values) ≤ length (now numbers) ⌝ }
+    ensures { λ _. ⌜ now (numbers .exit) ≡ over (now (numbers .entry)) at (now (values .entry)) ⌝ }
+{
+    let mut j = 0;
+    while j < values.len() {
+        numbers[at + j] = values[j];
+        j += 1;
+    }
+}
+
+fn put_targets(numbers: &mut [u64], at: usize, part: &[u8])
+    requires { ⌜ at + 3 * (length (now part) / 11) ≤ length (now numbers) ⌝ }
+    ensures { λ _. ⌜ now (numbers .exit) ≡ over (now (numbers .entry)) at (flatMap targetNumbers (targetList (length (now (part .entry)) / 11) (now (part .entry)))) ⌝ }
+{
+    let n = part.len() / 11;
+    let mut place = at;
+    let mut i = 0;
+    while i < n {
+        let t = list::target_at(part, i);
+        let values = [t.flags as u64, t.address.0, t.number.0 as u64];
+        put(numbers, place, &values);
+        place += 3;
+        i += 1;
+    }
+}
+
+fn put_addresses(numbers: &mut [u64], at: usize, part: &[u8])
+    requires { ⌜ at + 2 * (length (now part) / 10) ≤ length (now numbers) ⌝ }
+    ensures { λ _. ⌜ now (numbers .exit) ≡ over (now (numbers .entry)) at (flatMap numberedNumbers (numberedList (length (now (part .entry)) / 10) (now (part .entry)))) ⌝ }
+{
+    let n = part.len() / 10;
+    let mut place = at;
+    let mut i = 0;
+    while i < n {
+        let a = list::numbered_at(part, i);
+        let values = [a.address.0, a.number.0 as u64];
+        put(numbers, place, &values);
+        place += 2;
+        i += 1;
+    }
+}
+
+pub fn put_rann(numbers: &mut [u64], path: PathInfo) -> u32
+    requires { ⌜ 9 ≤ length (now numbers) ⌝ }
+    ensures { λ r. ⌜ r ≡ 0 ⌝ }
+    ensures { λ _. ⌜ now (numbers .exit) ≡ over (now (numbers .entry)) 0 (elementNumbers (rann path)) ⌝ }
+{
+    let values = write::rann_numbers(path);
+    put(numbers, 0, &values);
+    0
+}
+
+pub fn put_rreq(numbers: &mut [u64], f: RreqFields, part: &[u8]) -> u32
+    requires { ⌜ length (now part) ≤ 220 ⌝ }
+    requires { ⌜ 71 ≤ length (now numbers) ⌝ }
+    ensures { λ r. ⌜ r ≡ 0 ⌝ }
+    ensures { λ _. ⌜ now (numbers .exit) ≡ over (now (numbers .entry)) 0 (elementNumbers (rreq f (targetList (length (now (part .entry)) / 11) (now (part .entry))))) ⌝ }
+{
+    let values = write::rreq_numbers(f, part.len() / 11);
+    put(numbers, 0, &values);
+    put_targets(numbers, 11, part);
+    0
+}
+
+pub fn put_rrep(numbers: &mut [u64], f: RrepFields, part: &[u8]) -> u32
+    requires { ⌜ length (now part) ≤ 220 ⌝ }
+    requires { ⌜ 71 ≤ length (now numbers) ⌝ }
+    ensures { λ r. ⌜ r ≡ 0 ⌝ }
+    ensures { λ _. ⌜ now (numbers .exit) ≡ over (now (numbers .entry)) 0 (elementNumbers (rrep f (numberedList (length (now (part .entry)) / 10) (now (part .entry))))) ⌝ }
+{
+    let values = write::rrep_numbers(f, part.len() / 10);
+    put(numbers, 0, &values);
+    put_addresses(numbers, 12, part);
+    0
+}
+
+pub fn put_rerr(numbers: &mut [u64], flags: u8, part: &[u8]) -> u32
+    requires { ⌜ length (now part) ≤ 250 ⌝ }
+    requires { ⌜ 71 ≤ length (now numbers) ⌝ }
+    ensures { λ r. ⌜ r ≡ 0 ⌝ }
+    ensures { λ _. ⌜ now (numbers .exit) ≡ over (now (numbers .entry)) 0 (elementNumbers (rerr flags (numberedList (length (now (part .entry)) / 10) (now (part .entry))))) ⌝ }
+{
+    let values = write::rerr_numbers(flags, part.len() / 10);
+    put(numbers, 0, &values);
+    put_addresses(numbers, 4, part);
+    0
+}
