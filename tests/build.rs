@@ -1,13 +1,21 @@
-//! Links the library's archive, `../target/staticlib/libhwmp.a`. To test another build of
-//! it, name the directory that holds its `libhwmp.a` in HWMP_LIB_DIR.
+//! Links the library's archive, `../target/staticlib/libhwmp.a`, and beside it `libprobe.a`,
+//! through which the tests reach what the library has no open call for. To test another
+//! build, name the directory that holds both in HWMP_LIB_DIR.
 
 use std::env;
 use std::path::{Path, PathBuf};
 
 fn main() {
     let directory = archive_directory();
-    let archive = directory.join("libhwmp.a");
     println!("cargo::rerun-if-env-changed=HWMP_LIB_DIR");
+    println!("cargo::rustc-link-search=native={}", directory.display());
+    for name in ["hwmp", "probe"] {
+        link(&directory, name);
+    }
+}
+
+fn link(directory: &Path, name: &str) {
+    let archive = directory.join(format!("lib{name}.a"));
     println!("cargo::rerun-if-changed={}", archive.display());
     if !archive.exists() {
         println!(
@@ -15,10 +23,9 @@ fn main() {
             archive.display()
         );
     }
-    println!("cargo::rustc-link-search=native={}", directory.display());
     // Not bundled: link-time optimisation would take the archive's members for Rust
     // objects of this package, and the library is to be run as it was built.
-    println!("cargo::rustc-link-lib=static:-bundle=hwmp");
+    println!("cargo::rustc-link-lib=static:-bundle={name}");
 }
 
 fn archive_directory() -> PathBuf {

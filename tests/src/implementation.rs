@@ -2,7 +2,7 @@
 //! implementations.
 
 use crate::library::{self, Hop};
-use crate::reference::{Address, SequenceNumber, calls};
+use crate::reference::{Address, Refusal, SequenceNumber, answer, calls};
 
 pub struct Implementation {
     pub name: &'static str,
@@ -20,17 +20,15 @@ pub const LIBRARY: Implementation = Implementation {
 
 pub const REFERENCE: Implementation = Implementation {
     name: "reference",
-    fresh: |table, own, number| {
-        calls::answer(calls::fresh(table, Address(*own), SequenceNumber(number)))
-    },
+    fresh: |table, own, number| answer(calls::fresh(table, Address(*own), SequenceNumber(number))),
     next_hop: |table, clock, destination| hop(calls::next_hop(table, clock, Address(*destination))),
-    forget: |table, destination| calls::answer(calls::forget(table, Address(*destination))),
+    forget: |table, destination| answer(calls::forget(table, Address(*destination))),
 };
 
 /// A refusal carries zeros beside its number.
-fn hop(found: Result<Address, calls::Refusal>) -> Hop {
+fn hop(found: Result<Address, Refusal>) -> Hop {
     Hop {
-        answer: calls::answer(found),
+        answer: answer(found),
         address: found.map_or([0; 6], |next_hop| next_hop.0),
     }
 }

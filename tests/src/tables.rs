@@ -85,7 +85,8 @@ pub fn not_individual(random: &mut Random) -> Address {
     Address(random.pick(&[group, [1, 0, 0, 0, 0, 0], [0xFF; 6], [0; 6]]))
 }
 
-fn boundary32(random: &mut Random) -> u32 {
+/// Numbers at the ends and in the middle of the range, and any.
+pub fn boundary32(random: &mut Random) -> u32 {
     let any = random.number() as u32;
     random.pick(&[0, 1, 2, (1 << 31) - 1, 1 << 31, u32::MAX - 1, u32::MAX, any])
 }

@@ -1,29 +1,9 @@
 //! The calls. Each runs its checks in the order of document 01, lowest number first, and
 //! writes only after the last of them.
 
+use super::refusal::ensure;
 use super::table::{CLOCK_MAX, HEAD_OCTETS, Head, Row, Table, write_row};
-use super::{Address, SequenceNumber};
-
-/// The refusals by their numbers in document 01.
-#[derive(Clone, Copy, Debug, PartialEq, Eq)]
-pub enum Refusal {
-    TableLength = 1,
-    Clock = 3,
-    NotIndividual = 9,
-    NotATable = 21,
-    ClockBehind = 22,
-    NoActiveRow = 28,
-    NoHeldRow = 29,
-}
-
-/// 0 for an acceptance, else the refusal's number.
-pub fn answer<T>(outcome: Result<T, Refusal>) -> u32 {
-    outcome.map_or_else(|refusal| refusal as u32, |_| 0)
-}
-
-fn ensure(holds: bool, refusal: Refusal) -> Result<(), Refusal> {
-    if holds { Ok(()) } else { Err(refusal) }
-}
+use super::{Address, Refusal, SequenceNumber};
 
 fn cut(octets: &[u8]) -> Result<Table<'_>, Refusal> {
     Table::cut(octets).ok_or(Refusal::TableLength)

@@ -4,7 +4,11 @@
 mod address;
 pub mod calls;
 mod counters;
+pub mod element;
+mod octets;
+mod refusal;
 pub mod table;
 
 pub use address::Address;
 pub use counters::{HopCount, Metric, RequestId, SequenceNumber};
+pub use refusal::{Refusal, answer};

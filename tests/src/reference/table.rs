@@ -1,5 +1,6 @@
 //! 'Table octets' of document 01: fields, their places, and what makes octets a table.
 
+use super::octets::{field, put};
 use super::{Address, HopCount, Metric, RequestId, SequenceNumber};
 
 pub const HEAD_OCTETS: usize = 32;
@@ -58,15 +59,6 @@ impl Flaw {
 
 fn ensure(holds: bool, flaw: Flaw) -> Result<(), Flaw> {
     if holds { Ok(()) } else { Err(flaw) }
-}
-
-/// The N octets of a field. Offsets are constants, so this cannot fail.
-fn field<const N: usize>(octets: &[u8; 32], at: usize) -> [u8; N] {
-    octets[at..at + N].try_into().unwrap()
-}
-
-fn put<const N: usize>(octets: &mut [u8; 32], at: usize, value: [u8; N]) {
-    octets[at..at + N].copy_from_slice(&value);
 }
 
 #[derive(Clone, Copy, Debug, Default, PartialEq, Eq)]

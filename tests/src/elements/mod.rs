@@ -1,0 +1,129 @@
+//! Random elements, well-formed and damaged, and operands that suit them.
+
+mod damage;
+mod kind;
+mod operands;
+
+use crate::random::Random;
+use crate::tables::{boundary32, individual, not_individual};
+
+pub use kind::{KINDS, Kind};
+pub use operands::{Room, some_address, some_room};
+
+use kind::Field;
+
+/// Half of the elements are well-formed, with each type and each of its counts alike.
+pub fn any(random: &mut Random) -> Vec<u8> {
+    match random.below(16) {
+        0 => damage::shapeless(random),
+        1..8 => damage::damaged(any_well_formed(random), random),
+        _ => any_well_formed(random),
+    }
+}
+
+fn any_well_formed(random: &mut Random) -> Vec<u8> {
+    let kind = &KINDS[random.below(KINDS.len())];
+    let counts: Vec<usize> = kind.counts().collect();
+    well_formed(kind, random.pick(&counts), random)
+}
+
+/// An element of that type with so many entries and any values in its fields.
+pub fn well_formed(kind: &Kind, count: usize, random: &mut Random) -> Vec<u8> {
+    let mut octets = vec![kind.id, 0];
+    for &field in kind.fields {
+        let address = any_address(random);
+        push(&mut octets, field, address, random);
+    }
+    if let Some(list) = &kind.list {
+        octets.push(count as u8);
+        for address in listed_addresses(count, random) {
+            for &field in list.entry {
+                push(&mut octets, field, address, random);
+            }
+        }
+    }
+    fit_length(&mut octets);
+    octets
+}
+
+fn push(octets: &mut Vec<u8>, field: Field, address: [u8; 6], random: &mut Random) {
+    match field {
+        Field::Octet => octets.push(any_octet(random)),
+        Field::Number => octets.extend(any_number(random).to_le_bytes()),
+        Field::Address => octets.extend(address),
+    }
+}
+
+/// The Length octet for what follows it; from 256 octets on it goes round.
+fn fit_length(octets: &mut [u8]) {
+    if octets.len() >= 2 {
+        octets[1] = (octets.len() - 2) as u8;
+    }
+}
+
+/// Flags with each bit set and clear, the reserved ones too; counts at both ends.
+fn any_octet(random: &mut Random) -> u8 {
+    let any = random.octet();
+    random.pick(&[0, 1, 2, 4, 7, 0x80, 0xF8, 0xFF, any, any, any, any])
+}
+
+fn any_number(random: &mut Random) -> u32 {
+    let numbers = [boundary32(random), random.number() as u32];
+    random.pick(&numbers)
+}
+
+fn any_address(random: &mut Random) -> [u8; 6] {
+    if random.one_in(3) {
+        not_individual(random).0
+    } else {
+        individual(random).0
+    }
+}
+
+fn one_bit_off(mut address: [u8; 6], random: &mut Random) -> [u8; 6] {
+    address[random.below(6)] ^= 1 << random.below(8);
+    address
+}
+
+/// The addresses of a list: unrelated ones, ones that differ in an octet or in a bit only,
+/// or any at all; with faults laid over them.
+fn listed_addresses(count: usize, random: &mut Random) -> Vec<[u8; 6]> {
+    let base = individual(random).0;
+    let sort = random.below(8);
+    let octet = 1 + random.below(5);
+    let mut addresses = Vec::with_capacity(count);
+    for place in 0..count {
+        addresses.push(match sort {
+            0 => one_bit_off(base, random),
+            1 => any_address(random),
+            2 | 3 => one_octet_off(base, octet, place as u8),
+            _ => individual(random).0,
+        });
+    }
+    if count > 0 {
+        lay_faults(&mut addresses, random);
+    }
+    addresses
+}
+
+fn one_octet_off(mut address: [u8; 6], octet: usize, by: u8) -> [u8; 6] {
+    address[octet] = address[octet].wrapping_add(by);
+    address
+}
+
+/// Each fault alone, several together, and what is nearly one.
+fn lay_faults(addresses: &mut [[u8; 6]], random: &mut Random) {
+    let count = addresses.len();
+    if random.one_in(4) {
+        addresses[random.below(count)] = [0xFF; 6];
+    }
+    if random.one_in(8) {
+        addresses[random.below(count)] = one_bit_off([0xFF; 6], random);
+    }
+    if random.one_in(8) {
+        addresses[random.below(count)] = not_individual(random).0;
+    }
+    if random.one_in(4) {
+        addresses[random.below(count)] = addresses[random.below(count)];
+    }
+}

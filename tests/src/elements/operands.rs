@@ -1,0 +1,60 @@
+use super::{Kind, one_bit_off};
+use crate::random::Random;
+use crate::tables::{individual, not_individual};
+
+/// An address to look for: one of the list, nearly one of it, any octets of the element, or
+/// one from elsewhere.
+pub fn some_address(octets: &[u8], random: &mut Random) -> [u8; 6] {
+    let listed = some_listed_address(octets, random);
+    let stretch = some_stretch(octets, random);
+    match (random.below(6), listed, stretch) {
+        (0 | 1, Some(listed), _) => listed,
+        (2, Some(listed), _) => one_bit_off(listed, random),
+        (3, _, Some(stretch)) => stretch,
+        (4, ..) => not_individual(random).0,
+        _ => individual(random).0,
+    }
+}
+
+fn some_listed_address(octets: &[u8], random: &mut Random) -> Option<[u8; 6]> {
+    let kind = Kind::of(octets)?;
+    let list = kind.list.as_ref()?;
+    let entries: Vec<&[u8]> = octets
+        .get(kind.list_at()..)?
+        .chunks_exact(list.entry_octets())
+        .collect();
+    let entry = *entries.get(random.below(entries.len().max(1)))?;
+    entry[list.address_at()..][..6].try_into().ok()
+}
+
+fn some_stretch(octets: &[u8], random: &mut Random) -> Option<[u8; 6]> {
+    let last = octets.len().checked_sub(6)?;
+    let at = random.below(last + 1);
+    octets[at..at + 6].try_into().ok()
+}
+
+/// The length of an output, and a place in it or beyond it.
+#[derive(Clone, Copy, Debug)]
+pub struct Room {
+    pub out: usize,
+    pub at: usize,
+}
+
+/// Room for the element's frame in the middle or at the end of an output, or too little.
+pub fn some_room(octets: &[u8], random: &mut Random) -> Room {
+    let frame = 6 + octets.len();
+    let (near, beyond) = (random.below(40), random.below(40));
+    let at = random.pick(&[0, 1, 6, near]);
+    let out = at + frame + random.pick(&[0, 0, 1, beyond]);
+    let (out, at) = match random.below(16) {
+        0 => (at + frame - 1, at),
+        1 => (random.below(frame), 0),
+        2 => (out, out - random.below(frame)),
+        3 => (out, out + random.below(3)),
+        // Place and frame together go round, or the place is below 0 if read as signed.
+        4 => (out, usize::MAX - random.below(frame + 8)),
+        5 => (out, at + random.pick(&[1 << 16, 1 << 31, 1 << 32, 1 << 63])),
+        _ => (out, at),
+    };
+    Room { out, at }
+}

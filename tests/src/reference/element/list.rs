@@ -1,0 +1,101 @@
+//! The entries of a list, and the faults that a list can have.
+
+use crate::reference::octets::{field, put};
+use crate::reference::{Address, SequenceNumber};
+
+const NOT_ALLOWED: u32 = 1;
+const TWICE: u32 = 2;
+const ALL_ONES_BESIDE_OTHERS: u32 = 4;
+const GIVEN_AMONG_THEM: u32 = 8;
+
+/// An entry of a RREQ.
+#[derive(Clone, Copy, Debug, PartialEq, Eq)]
+pub struct Destination {
+    pub flags: u8,
+    pub address: Address,
+    pub number: SequenceNumber,
+}
+
+impl Destination {
+    pub const OCTETS: usize = 11;
+
+    pub fn decode(octets: &[u8; Self::OCTETS]) -> Destination {
+        Destination {
+            flags: octets[0],
+            address: Address(field(octets, 1)),
+            number: SequenceNumber(u32::from_le_bytes(field(octets, 7))),
+        }
+    }
+
+    pub fn encode(&self) -> [u8; Self::OCTETS] {
+        let mut octets = [self.flags; Self::OCTETS];
+        put(&mut octets, 1, self.address.0);
+        put(&mut octets, 7, self.number.0.to_le_bytes());
+        octets
+    }
+}
+
+/// An entry of a RREP or RERR.
+#[derive(Clone, Copy, Debug, PartialEq, Eq)]
+pub struct NumberedAddress {
+    pub address: Address,
+    pub number: SequenceNumber,
+}
+
+impl NumberedAddress {
+    pub const OCTETS: usize = 10;
+
+    pub fn decode(octets: &[u8; Self::OCTETS]) -> NumberedAddress {
+        NumberedAddress {
+            address: Address(field(octets, 0)),
+            number: SequenceNumber(u32::from_le_bytes(field(octets, 6))),
+        }
+    }
+
+    pub fn encode(&self) -> [u8; Self::OCTETS] {
+        let mut octets = [0; Self::OCTETS];
+        put(&mut octets, 0, self.address.0);
+        put(&mut octets, 6, self.number.0.to_le_bytes());
+        octets
+    }
+}
+
+/// The list part cut into N entries; None if it has not just their octets.
+pub(super) fn cut<const OCTETS: usize>(list: &[u8], count: u8) -> Option<&[[u8; OCTETS]]> {
+    let (entries, remainder) = list.as_chunks();
+    let fits = remainder.is_empty() && entries.len() == usize::from(count);
+    fits.then_some(entries)
+}
+
+pub(super) fn lay_numbers(places: &mut [u64], entries: impl Iterator<Item = NumberedAddress>) {
+    let (places, _) = places.as_chunks_mut();
+    for (place, entry) in places.iter_mut().zip(entries) {
+        *place = [entry.address.number(), entry.number.0.into()];
+    }
+}
+
+/// A list in which only individual addresses are allowed.
+pub(super) fn faults_of_individuals(
+    entries: impl ExactSizeIterator<Item = NumberedAddress> + Clone,
+    given: Address,
+) -> u32 {
+    let addresses = entries.map(|entry| entry.address);
+    faults(addresses, Address::is_individual, given)
+}
+
+pub(super) fn faults(
+    addresses: impl ExactSizeIterator<Item = Address> + Clone,
+    allowed: impl Fn(Address) -> bool,
+    given: Address,
+) -> u32 {
+    let all = || addresses.clone();
+    let stands_before = |(place, address)| all().take(place).any(|earlier| earlier == address);
+    let not_allowed = all().any(|address| !allowed(address));
+    let twice = all().enumerate().any(stands_before);
+    let all_ones = all().any(|address| address == Address::ALL_ONES);
+    let given_among_them = all().any(|address| address == given);
+    u32::from(not_allowed) * NOT_ALLOWED
+        + u32::from(twice) * TWICE
+        + u32::from(all_ones && all().len() > 1) * ALL_ONES_BESIDE_OTHERS
+        + u32::from(given_among_them) * GIVEN_AMONG_THEM
+}

@@ -1,0 +1,128 @@
+//! 'Element octets' of document 01: an element is read from octets and borrows their list
+//! part, tells its numbers, and is written as a frame.
+
+mod list;
+mod rann;
+mod rerr;
+mod rrep;
+mod rreq;
+
+use super::refusal::ensure;
+use super::{Address, Refusal};
+
+pub use list::{Destination, NumberedAddress};
+pub use rann::Rann;
+pub use rerr::Rerr;
+pub use rrep::Rrep;
+pub use rreq::Rreq;
+
+/// The most numbers an element has: a RREQ has 11, and 3 for each of its 20 destinations.
+pub const MOST_NUMBERS: usize = 11 + 3 * 20;
+pub type Numbers = [u64; MOST_NUMBERS];
+
+const ID_AND_LENGTH: usize = 2;
+const RECEIVER: usize = 6;
+
+#[derive(Clone, Copy, Debug, PartialEq, Eq)]
+pub enum Element<'a> {
+    Rann(Rann),
+    Rreq(Rreq<'a>),
+    Rrep(Rrep<'a>),
+    Rerr(Rerr<'a>),
+}
+
+/// How the destinations of a RREQ are written. The octets are the same.
+#[derive(Clone, Copy, Debug, PartialEq, Eq)]
+pub enum Destinations {
+    AsOnePart,
+    Singly,
+}
+
+impl<'a> Element<'a> {
+    pub fn read(octets: &'a [u8]) -> Result<Element<'a>, Refusal> {
+        let [id, length, fields @ ..] = octets else {
+            return Err(Refusal::ElementOctets);
+        };
+        ensure(usize::from(*length) == fields.len(), Refusal::ElementOctets)?;
+        let element = match *id {
+            Rann::ID => Rann::read(fields).map(Element::Rann),
+            Rreq::ID => Rreq::read(fields).map(Element::Rreq),
+            Rrep::ID => Rrep::read(fields).map(Element::Rrep),
+            Rerr::ID => Rerr::read(fields).map(Element::Rerr),
+            _ => return Err(Refusal::AnotherId),
+        };
+        element.ok_or(Refusal::ElementLength)
+    }
+
+    /// What follows the Length octet, in octets.
+    pub fn length(&self) -> usize {
+        match self {
+            Element::Rann(_) => Rann::LENGTH,
+            Element::Rreq(rreq) => rreq.length(),
+            Element::Rrep(rrep) => rrep.length(),
+            Element::Rerr(rerr) => rerr.length(),
+        }
+    }
+
+    /// Every number of the element in the order of its octets, an address as one number.
+    /// Places beyond are left as they are.
+    pub fn numbers(&self, numbers: &mut Numbers) {
+        match self {
+            Element::Rann(rann) => rann.numbers(numbers),
+            Element::Rreq(rreq) => rreq.numbers(numbers),
+            Element::Rrep(rrep) => rrep.numbers(numbers),
+            Element::Rerr(rerr) => rerr.numbers(numbers),
+        }
+    }
+
+    /// Writes receiver and element into the output, from place `at` on.
+    pub fn write(
+        &self,
+        to: Address,
+        out: &mut [u8],
+        at: usize,
+        destinations: Destinations,
+    ) -> Result<(), Refusal> {
+        let frame = out
+            .get_mut(at..)
+            .and_then(|rest| rest.get_mut(..RECEIVER + ID_AND_LENGTH + self.length()))
+            .ok_or(Refusal::Output)?;
+        let (receiver, element) = frame.split_at_mut(RECEIVER);
+        receiver.copy_from_slice(&to.0);
+        match self {
+            Element::Rann(rann) => rann.write(element),
+            Element::Rreq(rreq) => rreq.write(element, destinations),
+            Element::Rrep(rrep) => rrep.write(element),
+            Element::Rerr(rerr) => rerr.write(element),
+        }
+        Ok(())
+    }
+
+    /// What is wrong with the addresses of the list, as a sum of the numbers in `list`.
+    pub fn faults(&self, given: Address) -> u32 {
+        match self {
+            Element::Rann(_) => 0,
+            Element::Rreq(rreq) => rreq.faults(given),
+            Element::Rrep(rrep) => rrep.faults(given),
+            Element::Rerr(rerr) => rerr.faults(given),
+        }
+    }
+}
+
+/// Lays the octets before the list and returns those of the list.
+fn lay_fixed<const N: usize>(element: &mut [u8], fixed: [u8; N]) -> &mut [u8] {
+    let (place, list) = element
+        .split_first_chunk_mut()
+        .expect("the frame has room for the whole element");
+    *place = fixed;
+    list
+}
+
+/// Lays the numbers before the list and returns the places of the rest.
+fn lay_numbers<const N: usize>(numbers: &mut Numbers, fixed: [u64; N]) -> &mut [u64] {
+    let (places, rest) = numbers
+        .split_first_chunk_mut()
+        .expect("there is a place for every number");
+    *places = fixed;
+    rest
+}
