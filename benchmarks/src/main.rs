@@ -1,27 +1,33 @@
 //! What the checked library costs beside plain Rust and beside Rust by the same method.
 
 mod cases;
+mod element_cases;
 mod same_method;
 mod stack;
 mod timing;
 
 use hwmp_tests::implementation::{Implementation, LIBRARY, REFERENCE};
+use hwmp_tests::probe;
 use hwmp_tests::random::Random;
 
 use cases::{CASES, Case};
+use element_cases::ELEMENT_CASES;
 use same_method::SAME_METHOD;
 
 fn main() {
     println!("machine: {}", machine());
     println!("nanoseconds per call, median of interleaved rounds; all are release builds");
-    let random = &mut Random::announced("tables", 2026);
+    let random = &mut Random::announced("tables and elements", 2026);
     println!("plain: the separately written reference; same: Rust by the library's method");
     println!();
     compare(random);
     println!();
     growth(random);
     println!();
-    for (entry, octets) in stack::depths(random) {
+    compare_elements(random);
+    println!();
+    let depths = stack::depths(random);
+    for (entry, octets) in depths.into_iter().chain(stack::element_depths(random)) {
         println!("stack of {entry}: {octets} octets");
     }
 }
@@ -39,7 +45,7 @@ fn machine() -> String {
 fn measure(case: &Case, rows: usize, bys: &[&Implementation], random: &mut Random) -> Vec<f64> {
     let mut inputs = cases::inputs(case, rows, random);
     cases::confirm(case, &mut inputs, bys);
-    timing::nanoseconds(case, &mut inputs, bys)
+    timing::nanoseconds(case.call, &mut inputs, bys)
 }
 
 fn compare(random: &mut Random) {
@@ -84,6 +90,28 @@ fn growth(random: &mut Random) {
             "",
             library / same,
             library / rows as f64
+        );
+    }
+}
+
+fn compare_elements(random: &mut Random) {
+    println!(
+        "{:<30} {:>4} {:>9} {:>9} {:>14}",
+        "largest elements", "N", "library", "plain", "library/plain"
+    );
+    for case in &ELEMENT_CASES {
+        let mut inputs = element_cases::inputs(case, random);
+        let bys = [&probe::LIBRARY, &probe::REFERENCE];
+        element_cases::confirm(case, &mut inputs, &bys);
+        let times = timing::nanoseconds(case.call, &mut inputs, &bys);
+        let [library, plain] = times[..] else {
+            unreachable!("one time for each implementation")
+        };
+        println!(
+            "{:<30} {:>4} {library:>9.1} {plain:>9.1} {:>14.2}",
+            case.name,
+            case.count,
+            library / plain
         );
     }
 }
