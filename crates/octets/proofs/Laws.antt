@@ -13,7 +13,16 @@ use borrow.Author.Count.{below-more}
 use borrow.Author.Tests.{ltb-true, ltb-false}
 use lib.Dec.{ltb}
 use mathlib.Core.Bool.{Bool, true, false}
-use Rattle.octets.specs.LittleEndian.{numberAt, numberOctets, over, withNumber, fieldsAt, withFields, total, FitFields, zeros, Octets}
+use Rattle.octets.specs.LittleEndian.{numberAt, numberOctets, over, withNumber, fieldsAt, withFields, total, zeros, Octets}
+
+-- ---- numbers that fields can hold
+
+-- there is one number for each field, and each fits its field
+unfoldable pub FitFields : List ℕ → List ℕ → Type 0
+FitFields [] [] = Unit {0}
+FitFields [] (x ∷ xs) = ⊥
+FitFields (w ∷ ws) [] = ⊥
+FitFields (w ∷ ws) (x ∷ xs) = (x < 256 ^ w) × FitFields ws xs
 
 -- ---- one number
 

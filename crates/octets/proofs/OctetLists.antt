@@ -8,7 +8,8 @@ use lib.Seq.{length-sets, drop-cons, take-add, drop-drop, getD-append-add, getD-
 use native.Mathlib.Omega.{arith}
 use native.Mathlib.Numerals.{add-one}
 use native.Mathlib.Nat.{add-zero, pow-suc}
-use Rattle.octets.specs.LittleEndian.{numberAt, numberOctets, over, withNumber, fieldsAt, fieldOctets, withFields, total, FitFields, Octets}
+use Rattle.octets.specs.LittleEndian.{numberAt, numberOctets, over, withNumber, fieldsAt, fieldOctets, withFields, total, Octets}
+use Rattle.octets.proofs.Laws.{FitFields}
 
 -- ---- written over other octets
 

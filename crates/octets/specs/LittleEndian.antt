@@ -1,5 +1,5 @@
 -- Little-endian numbers in a list of octets, and runs of them: the fields of a layout. Assumes nothing.
-use Prim.Native.Nat.{ℕ, zero, suc, _+_, _*_, _/_, _%_, _^_, _<_}
+use Prim.Native.Nat.{ℕ, zero, suc, _+_, _*_, _/_, _%_, _<_}
 use mathlib.Core.List.{List, [], _∷_, _++_}
 use lib.ListN.{getD, replicate}
 use lib.Seq.{sets}
@@ -43,13 +43,6 @@ fieldOctets (w ∷ ws) (x ∷ xs) = numberOctets w x ++ fieldOctets ws xs
 unfoldable pub total : List ℕ → ℕ
 total [] = 0
 total (w ∷ ws) = w + total ws
-
--- there is one number for each field, and each fits its field
-unfoldable pub FitFields : List ℕ → List ℕ → Type 0
-FitFields [] [] = Unit {0}
-FitFields [] (x ∷ xs) = ⊥
-FitFields (w ∷ ws) [] = ⊥
-FitFields (w ∷ ws) (x ∷ xs) = (x < 256 ^ w) × FitFields ws xs
 
 -- n octets that are zero
 abbrev pub zeros : ℕ → List ℕ

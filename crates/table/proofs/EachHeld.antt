@@ -17,9 +17,9 @@ use Rattle.table.specs.declared.row.Row.{Row}
 use Rattle.table.specs.declared.search.Found.{Found}
 use Rattle.table.specs.declared.search.Found.the-variants.{At, Nothing}
 use Rattle.table.specs.Row.{isFree, isHeld, rowOk}
-use Rattle.table.specs.Layout.{rows, place, headAt, rowAt, putRow, FitRow}
+use Rattle.table.specs.Layout.{rows, place, headAt, rowAt, putRow}
 use Rattle.table.specs.Table.{own, vacant, holds, findRow, rowIn, rowFor, freeRows, changeAt, changeBelow, eachHeld}
-use Rattle.table.proofs.HeadAndRows.{length-row, row-same, row-other, head-stays, row-octets, row-fits}
+use Rattle.table.proofs.HeadAndRows.{FitRow, length-row, row-same, row-other, head-stays, row-octets, row-fits}
 use Rattle.table.proofs.Places.{first-cong, count-cong}
 use Rattle.table.proofs.WellFormed.{Legal, held-row}
 use Rattle.table.proofs.Lookup.{found-here, held-of}

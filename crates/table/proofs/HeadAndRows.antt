@@ -10,11 +10,19 @@ use borrow.Author.Tests.{eqb-true, eq-eqb}
 use native.Mathlib.Nat.{add-zero, add-assoc}
 use native.Mathlib.Omega.{arith, ne-cases}
 use Rattle.octets.specs.LittleEndian.{numberAt, fieldsAt, total, zeros, Octets}
-use Rattle.octets.proofs.Laws.{split, length-fields, fields-same, fields-other, fields-back, fields-fit, fields-zero, octets-fields}
+use Rattle.octets.proofs.Laws.{FitFields, split, length-fields, fields-same, fields-other, fields-back, fields-fit, fields-zero, octets-fields}
 use Rattle.table.specs.declared.row.Head.{Head}
 use Rattle.table.specs.declared.row.Row.{Row}
 use Rattle.table.specs.Row.{freeRow, isFree}
-use Rattle.table.specs.Layout.{allZero, place, rowWidths, headWidths, rowOf, headOf, rowNumbers, headNumbers, rowAt, headAt, putRow, putHead, FitRow, FitHead}
+use Rattle.table.specs.Layout.{allZero, place, rowWidths, headWidths, rowOf, headOf, rowNumbers, headNumbers, rowAt, headAt, putRow, putHead}
+
+-- ---- values that these octets can hold
+
+unfoldable pub FitHead : Head → Type 0
+FitHead h = FitFields headWidths (headNumbers h)
+
+unfoldable pub FitRow : Row → Type 0
+FitRow r = FitFields rowWidths (rowNumbers r)
 
 -- the row at i, field by field
 pub read : (t : List ℕ) (i : ℕ) {a b c d e f g h k : ℕ}

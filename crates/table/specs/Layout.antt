@@ -4,7 +4,7 @@ use mathlib.Core.Bool.{Bool, true, _&&_}
 use mathlib.Core.List.{List, [], _∷_}
 use lib.ListN.{length, getD}
 use lib.Dec.{eqb, leb}
-use Rattle.octets.specs.LittleEndian.{fieldsAt, withFields, FitFields}
+use Rattle.octets.specs.LittleEndian.{fieldsAt, withFields}
 use Rattle.table.specs.declared.row.Head.{Head}
 use Rattle.table.specs.declared.row.Row.{Row}
 
@@ -78,11 +78,3 @@ rowAt t i = rowOf (fieldsAt rowWidths t (place i) 0)
 
 unfoldable pub putRow : List ℕ → ℕ → Row → List ℕ
 putRow t i r = withFields rowWidths t (place i) 0 (rowNumbers r)
-
--- ---- values that these octets can hold
-
-unfoldable pub FitHead : Head → Type 0
-FitHead h = FitFields headWidths (headNumbers h)
-
-unfoldable pub FitRow : Row → Type 0
-FitRow r = FitFields rowWidths (rowNumbers r)
