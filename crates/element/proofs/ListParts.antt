@@ -7,7 +7,8 @@ use lib.ListN.{length, take, drop, length-append, take-append-drop, drop-of-leng
 use lib.Seq.{drop-drop}
 use native.Mathlib.Omega.{arith}
 use native.Mathlib.Nat.{zero-add, add-zero, add-suc, suc-add, mul-zero, mul-suc, mul-add}
-use Rattle.octets.specs.LittleEndian.{fieldsAt, fieldOctets, total, FitFields, Octets}
+use Rattle.octets.specs.LittleEndian.{fieldsAt, fieldOctets, total, Octets}
+use Rattle.octets.proofs.Laws.{FitFields}
 use Rattle.octets.proofs.OctetLists.{length-field-octets, fields-read, fields-made, octets-nil, octets-append, octets-of-fields}
 use Rattle.element.specs.declared.NumberedAddress.{NumberedAddress}
 use Rattle.element.specs.declared.Target.{Target}

@@ -8,8 +8,8 @@ use lib.ListN.{length, getD, take, drop, length-drop, take-append-drop, drop-of-
 use lib.Seq.{drop-at, drop-cons, drop-drop}
 use native.Mathlib.Omega.{arith}
 use borrow.Author.Tests.{eq-eqb, le-ltb}
-use Rattle.octets.specs.LittleEndian.{numberOctets, fieldsAt, fieldOctets, total, FitFields, Octets}
-use Rattle.octets.proofs.Laws.{fields-fit}
+use Rattle.octets.specs.LittleEndian.{numberOctets, fieldsAt, fieldOctets, total, Octets}
+use Rattle.octets.proofs.Laws.{FitFields, fields-fit}
 use Rattle.octets.proofs.OctetLists.{fields-read, fields-made, octets-nil, octets-cons, octets-append, octets-drop, octets-of-fields}
 use Rattle.element.specs.declared.Kind.{Kind}
 use Rattle.element.specs.declared.Kind.the-variants.{Rann, Rreq, Rrep, Rerr}

@@ -1,6 +1,6 @@
 -- What the reader's answer tells of the octets: their type, their size, and what stands in their list part. For callers.
 -- Assumes nothing.
-use Prim.Native.Nat.{ℕ, _+_, _/_, _%_, _≤_}
+use Prim.Native.Nat.{ℕ, _+_, _*_, _/_, _%_, _≤_}
 use mathlib.Core.Path.{_≡_, refl, sym, ap, ap₂, subst, _∙_}
 use mathlib.Core.Bool.{Bool, true, false, _&&_, cond, false≢true}
 use mathlib.Core.List.{List}
@@ -18,8 +18,8 @@ use Rattle.element.specs.declared.read.Reading.the-variants.{Announcemen
 use Rattle.element.specs.Element.{rann, rreq, rrep, rerr}
 use Rattle.element.specs.Layout.{idOf, lengthWith, countOk, fits}
 use Rattle.element.specs.Entries.{numberedList, targetList}
-use Rattle.element.specs.Octets.{kindIn, countAs, wrongLength, otherId, misfit, readAs, readElement, fixedFields, reading, listPart}
-use Rattle.element.proofs.Lengths.{both, least-length, count-range}
+use Rattle.element.specs.Octets.{kindIn, countAs, wrongLength, otherId, misfit, fieldsAs, listAs, elementAs, readAs, readElement, fixedFields, reading, listPart}
+use Rattle.element.proofs.Lengths.{both, least-length, most, count-range}
 use Rattle.element.proofs.Cases.{length-right}
 
 -- ---- octets that pass 6, 7 and 8
@@ -98,93 +98,104 @@ accepted s r e no-refusal = by (wrongLength s) (otherId s) (misfit s) refl refl 
 
 -- ---- as callers ask it: r is the answer for s, and part its list part
 
-module _ (s : List ℕ) (k : Kind) (r : Reading) (a : Accepted s k r) where
+-- octets of an entry; a RANN has none
+abbrev entrySize : Kind → ℕ
+entrySize Rann = 1
+entrySize Rreq = 11
+entrySize Rrep = 10
+entrySize Rerr = 10
+
+by-entries : (k : Kind) (n long : ℕ) → countOk k n ≡ true → long + lengthWith k 0 ≡ lengthWith k n → (long ≡ entrySize k * n) × (n ≡ long / entrySize k)
+by-entries Rann n long c e = let r = count-range Rann n c in (omega arith, omega arith)
+by-entries Rreq n long c e = (omega arith, omega arith)
+by-entries Rrep n long c e = (omega arith, omega arith)
+by-entries Rerr n long c e = (omega arith, omega arith)
+
+module _ (s : List ℕ) (r : Reading) (re : r ≡ reading s) (q : Reading) (e : r ≡ q) (no-refusal : isRefused q ≡ false) where
+  read-so : Accepted s (kindRead q) r
+  read-so = subst (λ (p : Reading). Accepted s (kindRead p) r) e (accepted s r re (ap isRefused e ∙ no-refusal))
+
   list-room : 2 + lengthWith (kindIn s) 0 ≤ length s
-  list-room = rw (a .kind) (omega (arith, a .passes .size, least-length k (countAs k s)))
+  list-room = rw (read-so .kind) (omega (arith, read-so .passes .size, least-length (kindRead q) (countAs (kindRead q) s)))
 
-  list-is : (part : List ℕ) → part ≡ listPart s → part ≡ drop (2 + lengthWith k 0) s
-  unfolding listPart
-  list-is part e = e ∙ rw (a .kind) refl
+  module _ (part : List ℕ) (pe : part ≡ listPart s) where
+    part-is : part ≡ drop (2 + lengthWith (kindRead q) 0) s
+    unfolding listPart
+    part-is = pe ∙ rw (read-so .kind) refl
 
-  list-length : (part : List ℕ) → part ≡ listPart s → length part + lengthWith k 0 ≡ lengthWith k (countAs k s)
-  list-length part e =
-      rw (list-is part e, length-drop) (omega (arith, a .passes .size, least-length k (countAs k s)))
+    entries : (length part ≡ entrySize (kindRead q) * countAs (kindRead q) s) × (countAs (kindRead q) s ≡ length part / entrySize (kindRead q))
+    entries =
+        by-entries (kindRead q) (countAs (kindRead q) s) (length part) (read-so .passes .count)
+        (rw (part-is, length-drop) (omega (arith, read-so .passes .size, least-length (kindRead q) (countAs (kindRead q) s))))
 
-  element-is : readElement s ≡ readAs k s
-  unfolding readElement
-  element-is = rw (a .kind) refl
+    entries-most : countAs (kindRead q) s ≤ most (kindRead q)
+    entries-most = count-range (kindRead q) (countAs (kindRead q) s) (read-so .passes .count) .1
 
+    -- the element that was read, by its list part
+    element-is : readElement s ≡ elementAs (kindRead q) (fieldsAs (kindRead q) s) (length part / entrySize (kindRead q)) part
+    unfolding readElement readAs
+    element-is =
+        ap (λ (j : Kind). elementAs j (fieldsAs j s) (countAs j s) (listAs j s)) (read-so .kind)
+        ∙ ap₂ (elementAs (kindRead q) (fieldsAs (kindRead q) s)) (entries .1) (sym part-is)
+
+  fields-are : q ≡ fixedFields (readAs (kindRead q) s)
+  fields-are = sym e ∙ read-so .fields
+
+-- which are then the fields of the answer: by the injectivity of its case
 module _ (s : List ℕ) (r : Reading) (re : r ≡ reading s) where
-  read-so : (q : Reading) → r ≡ q → isRefused q ≡ false → Accepted s (kindRead q) r
-  read-so q e no-refusal = subst (λ (p : Reading). Accepted s (kindRead p) r) e (accepted s r re (ap isRefused e ∙ no-refusal))
-
-  module _ (p : PathInfo) (e : r ≡ Announcement p) where
-    pub announcement-element : readElement s ≡ rann p
-    unfolding readAs
-    announcement-element =
-        let a = read-so (Announcement p) e refl in
-        let fields = a .fields in
-        element-is s Rann r a ∙ (cc)
+  pub announcement-element : (p : PathInfo) → r ≡ Announcement p → readElement s ≡ rann p
+  unfolding readAs
+  announcement-element p e =
+      let same = fields-are s r re (Announcement p) e refl in
+      element-is s r re (Announcement p) e refl (listPart s) refl ∙ ap rann (cc)
 
   module _ (f : RreqFields) (e : r ≡ Request f) where
-    rreq-read : Accepted s Rreq r
-    rreq-read = read-so (Request f) e refl
-
     pub request-room : 2 + lengthWith (kindIn s) 0 ≤ length s
-    request-room = list-room s Rreq r rreq-read
+    request-room = list-room s r re (Request f) e refl
 
     module _ (part : List ℕ) (pe : part ≡ listPart s) where
       pub request-whole : length part % 11 ≡ 0
-      request-whole = omega (arith, list-length s Rreq r rreq-read part pe)
+      request-whole = omega (arith, entries s r re (Request f) e refl part pe)
 
       pub request-short : length part ≤ 220
-      request-short = omega (arith, list-length s Rreq r rreq-read part pe, count-range Rreq (getD s 27 0) (rreq-read .passes .count))
+      request-short = omega (arith, entries s r re (Request f) e refl part pe, entries-most s r re (Request f) e refl part pe)
 
       pub request-element : readElement s ≡ rreq f (targetList (length part / 11) part)
       unfolding readAs
       request-element =
-          let n : getD s 27 0 ≡ length part / 11 = omega (arith, list-length s Rreq r rreq-read part pe) in
-          let fields = rreq-read .fields in
-          element-is s Rreq r rreq-read ∙ ap₂ rreq (cc) (ap₂ targetList n (sym (list-is s Rreq r rreq-read part pe)))
+          let same = fields-are s r re (Request f) e refl in
+          element-is s r re (Request f) e refl part pe ∙ ap (λ (g : RreqFields). rreq g (targetList (length part / 11) part)) (cc)
 
   module _ (f : RrepFields) (e : r ≡ Reply f) where
-    rrep-read : Accepted s Rrep r
-    rrep-read = read-so (Reply f) e refl
-
     pub reply-room : 2 + lengthWith (kindIn s) 0 ≤ length s
-    reply-room = list-room s Rrep r rrep-read
+    reply-room = list-room s r re (Reply f) e refl
 
     module _ (part : List ℕ) (pe : part ≡ listPart s) where
       pub reply-whole : length part % 10 ≡ 0
-      reply-whole = omega (arith, list-length s Rrep r rrep-read part pe)
+      reply-whole = omega (arith, entries s r re (Reply f) e refl part pe)
 
       pub reply-short : length part ≤ 220
-      reply-short = omega (arith, list-length s Rrep r rrep-read part pe, count-range Rrep (getD s 33 0) (rrep-read .passes .count))
+      reply-short = omega (arith, entries s r re (Reply f) e refl part pe, entries-most s r re (Reply f) e refl part pe)
 
       pub reply-element : readElement s ≡ rrep f (numberedList (length part / 10) part)
       unfolding readAs
       reply-element =
-          let n : getD s 33 0 ≡ length part / 10 = omega (arith, list-length s Rrep r rrep-read part pe) in
-          let fields = rrep-read .fields in
-          element-is s Rrep r rrep-read ∙ ap₂ rrep (cc) (ap₂ numberedList n (sym (list-is s Rrep r rrep-read part pe)))
+          let same = fields-are s r re (Reply f) e refl in
+          element-is s r re (Reply f) e refl part pe ∙ ap (λ (g : RrepFields). rrep g (numberedList (length part / 10) part)) (cc)
 
   module _ (flags : ℕ) (e : r ≡ Error flags) where
-    rerr-read : Accepted s Rerr r
-    rerr-read = read-so (Error flags) e refl
-
     pub error-room : 2 + lengthWith (kindIn s) 0 ≤ length s
-    error-room = list-room s Rerr r rerr-read
+    error-room = list-room s r re (Error flags) e refl
 
     module _ (part : List ℕ) (pe : part ≡ listPart s) where
       pub error-whole : length part % 10 ≡ 0
-      error-whole = omega (arith, list-length s Rerr r rerr-read part pe)
+      error-whole = omega (arith, entries s r re (Error flags) e refl part pe)
 
       pub error-short : length part ≤ 250
-      error-short = omega (arith, list-length s Rerr r rerr-read part pe, count-range Rerr (getD s 3 0) (rerr-read .passes .count))
+      error-short = omega (arith, entries s r re (Error flags) e refl part pe, entries-most s r re (Error flags) e refl part pe)
 
       pub error-element : readElement s ≡ rerr flags (numberedList (length part / 10) part)
       unfolding readAs
       error-element =
-          let n : getD s 3 0 ≡ length part / 10 = omega (arith, list-length s Rerr r rerr-read part pe) in
-          let fields = rerr-read .fields in
-          element-is s Rerr r rerr-read ∙ ap₂ rerr (cc) (ap₂ numberedList n (sym (list-is s Rerr r rerr-read part pe)))
+          let same = fields-are s r re (Error flags) e refl in
+          element-is s r re (Error flags) e refl part pe ∙ ap (λ (x : ℕ). rerr x (numberedList (length part / 10) part)) (cc)
