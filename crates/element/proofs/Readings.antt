@@ -17,7 +17,7 @@ use Rattle.element.specs.declared.read.Reading.{Reading}
 use Rattle.element.specs.declared.read.Reading.the-variants.{Announcement, Request, Reply, Error, Refused}
 use Rattle.element.specs.Element.{rann, rreq, rrep, rerr}
 use Rattle.element.specs.Layout.{idOf, lengthWith, countOk, fits}
-use Rattle.element.specs.Entries.{numberedList, targetList}
+use Rattle.element.specs.Entries.{numberedIn, targetsIn}
 use Rattle.element.specs.Octets.{kindIn, countAs, wrongLength, otherId, misfit, fieldsAs, listAs, elementAs, readAs, readElement, fixedFields, reading, listPart}
 use Rattle.element.proofs.Lengths.{both, least-length, most, count-range}
 use Rattle.element.proofs.Cases.{length-right}
@@ -160,11 +160,11 @@ module _ (s : List ℕ) (r : Reading) (re : r ≡ reading s) where
       pub request-short : length part ≤ 220
       request-short = omega (arith, entries s r re (Request f) e refl part pe, entries-most s r re (Request f) e refl part pe)
 
-      pub request-element : readElement s ≡ rreq f (targetList (length part / 11) part)
+      pub request-element : readElement s ≡ rreq f (targetsIn part)
       unfolding readAs
       request-element =
           let same = fields-are s r re (Request f) e refl in
-          element-is s r re (Request f) e refl part pe ∙ ap (λ (g : RreqFields). rreq g (targetList (length part / 11) part)) (cc)
+          element-is s r re (Request f) e refl part pe ∙ ap (λ (g : RreqFields). rreq g (targetsIn part)) (cc)
 
   module _ (f : RrepFields) (e : r ≡ Reply f) where
     pub reply-room : 2 + lengthWith (kindIn s) 0 ≤ length s
@@ -177,11 +177,11 @@ module _ (s : List ℕ) (r : Reading) (re : r ≡ reading s) where
       pub reply-short : length part ≤ 220
       reply-short = omega (arith, entries s r re (Reply f) e refl part pe, entries-most s r re (Reply f) e refl part pe)
 
-      pub reply-element : readElement s ≡ rrep f (numberedList (length part / 10) part)
+      pub reply-element : readElement s ≡ rrep f (numberedIn part)
       unfolding readAs
       reply-element =
           let same = fields-are s r re (Reply f) e refl in
-          element-is s r re (Reply f) e refl part pe ∙ ap (λ (g : RrepFields). rrep g (numberedList (length part / 10) part)) (cc)
+          element-is s r re (Reply f) e refl part pe ∙ ap (λ (g : RrepFields). rrep g (numberedIn part)) (cc)
 
   module _ (flags : ℕ) (e : r ≡ Error flags) where
     pub error-room : 2 + lengthWith (kindIn s) 0 ≤ length s
@@ -194,8 +194,8 @@ module _ (s : List ℕ) (r : Reading) (re : r ≡ reading s) where
       pub error-short : length part ≤ 250
       error-short = omega (arith, entries s r re (Error flags) e refl part pe, entries-most s r re (Error flags) e refl part pe)
 
-      pub error-element : readElement s ≡ rerr flags (numberedList (length part / 10) part)
+      pub error-element : readElement s ≡ rerr flags (numberedIn part)
       unfolding readAs
       error-element =
           let same = fields-are s r re (Error flags) e refl in
-          element-is s r re (Error flags) e refl part pe ∙ ap (λ (x : ℕ). rerr x (numberedList (length part / 10) part)) (cc)
+          element-is s r re (Error flags) e refl part pe ∙ ap (λ (x : ℕ). rerr x (numberedIn part)) (cc)

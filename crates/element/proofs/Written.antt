@@ -17,7 +17,7 @@ use Rattle.element.specs.declared.RreqFields.{RreqFields}
 use Rattle.element.specs.declared.RrepFields.{RrepFields}
 use Rattle.element.specs.Element.{Element, rann, rreq, rrep, rerr, kindOf, countOf, rannNumbers, rreqNumbers, rrepNumbers, fieldNumbers, numberedNumbers, targetNumbers}
 use Rattle.element.specs.Layout.{idOf, lengthWith, fieldWidths, numberedWidths, targetWidths}
-use Rattle.element.specs.Entries.{each, numberedList, numberedOctets, targetList, targetOctets, numberedAt, targetAt}
+use Rattle.element.specs.Entries.{each, numberedAt, numberedIn, numberedOctets, targetAt, targetOctets, targetsIn}
 use Rattle.element.specs.Octets.{countPart, fixedNumbers, fixedOctets, listOctets, writeElement, frameStart, writeFrame}
 use Rattle.element.proofs.Lengths.{id-octet}
 use Rattle.element.proofs.Sizes.{start-length}
@@ -112,28 +112,28 @@ module _ (to : Address) (s t u : List ℕ) (at at′ : ℕ) where
       ∙ ap (over s at) (sym (frame-parts to e))
 
   module _ (part : List ℕ) (n : ℕ) where
-    targets-many : n ≡ length part / 11 → n ≡ length (targetList (length part / 11) part)
+    targets-many : n ≡ length part / 11 → n ≡ length (targetsIn part)
     targets-many e = e ∙ sym (each-length (targetAt part) 0 (length part / 11))
 
-    addresses-many : n ≡ length part / 10 → n ≡ length (numberedList (length part / 10) part)
+    addresses-many : n ≡ length part / 10 → n ≡ length (numberedIn part)
     addresses-many e = e ∙ sym (each-length (numberedAt part) 0 (length part / 10))
 
     module _ (f : RreqFields) (ne : n ≡ length part / 11) (te : t ≡ over s at (frameStart to Rreq n (rreqNumbers f))) (ae : at′ ≡ at + 34) where
-      pub rreq-listed : u ≡ over t at′ (flatMap targetOctets (targetList (length part / 11) part)) → u ≡ over s at (writeFrame to (rreq f (targetList (length part / 11) part)))
-      rreq-listed = finished (rreq f (targetList (length part / 11) part)) n (targets-many ne) te ae
+      pub rreq-listed : u ≡ over t at′ (flatMap targetOctets (targetsIn part)) → u ≡ over s at (writeFrame to (rreq f (targetsIn part)))
+      rreq-listed = finished (rreq f (targetsIn part)) n (targets-many ne) te ae
 
-      pub rreq-written : Octets part → length part % 11 ≡ 0 → u ≡ over t at′ part → u ≡ over s at (writeFrame to (rreq f (targetList (length part / 11) part)))
+      pub rreq-written : Octets part → length part % 11 ≡ 0 → u ≡ over t at′ part → u ≡ over s at (writeFrame to (rreq f (targetsIn part)))
       rreq-written octets whole ue = rreq-listed (ue ∙ ap (over t at′) (sym (targets-made part (length part / 11) octets (omega arith))))
 
     pub rrep-written : (f : RrepFields) → n ≡ length part / 10 → t ≡ over s at (frameStart to Rrep n (rrepNumbers f)) → at′ ≡ at + 40
-        → Octets part → length part % 10 ≡ 0 → u ≡ over t at′ part → u ≡ over s at (writeFrame to (rrep f (numberedList (length part / 10) part)))
+        → Octets part → length part % 10 ≡ 0 → u ≡ over t at′ part → u ≡ over s at (writeFrame to (rrep f (numberedIn part)))
     rrep-written f ne te ae octets whole ue =
-        finished (rrep f (numberedList (length part / 10) part)) n (addresses-many ne) te ae
+        finished (rrep f (numberedIn part)) n (addresses-many ne) te ae
         (ue ∙ ap (over t at′) (sym (addresses-made part (length part / 10) octets (omega arith))))
 
     pub rerr-listed : (flags : ℕ) → n ≡ length part / 10 → t ≡ over s at (frameStart to Rerr n (flags ∷ [])) → at′ ≡ at + 10
-        → u ≡ over t at′ (flatMap numberedOctets (numberedList (length part / 10) part)) → u ≡ over s at (writeFrame to (rerr flags (numberedList (length part / 10) part)))
-    rerr-listed flags ne te ae = finished (rerr flags (numberedList (length part / 10) part)) n (addresses-many ne) te ae
+        → u ≡ over t at′ (flatMap numberedOctets (numberedIn part)) → u ≡ over s at (writeFrame to (rerr flags (numberedIn part)))
+    rerr-listed flags ne te ae = finished (rerr flags (numberedIn part)) n (addresses-many ne) te ae
 
 -- ---- entries one by one, by what is left to write: g is the whole
 

@@ -1,7 +1,7 @@
 -- The entries of a list part, by index and one after another. Assumes nothing.
-use Prim.Native.Nat.{ℕ, zero, suc, _*_}
+use Prim.Native.Nat.{ℕ, zero, suc, _*_, _/_}
 use mathlib.Core.List.{List, [], _∷_}
-use lib.ListN.{getD}
+use lib.ListN.{length, getD}
 use Rattle.octets.specs.LittleEndian.{fieldsAt, fieldOctets}
 use Rattle.element.specs.declared.NumberedAddress.{NumberedAddress}
 use Rattle.element.specs.declared.Target.{Target}
@@ -24,6 +24,10 @@ numberedAt part i = numberedFrom (fieldsAt numberedWidths part (10 * i) 0)
 abbrev pub numberedList : ℕ → List ℕ → List NumberedAddress
 numberedList n part = each (numberedAt part) 0 n
 
+-- all entries of a list part
+abbrev pub numberedIn : List ℕ → List NumberedAddress
+numberedIn part = numberedList (length part / 10) part
+
 unfoldable pub numberedOctets : NumberedAddress → List ℕ
 numberedOctets a = fieldOctets numberedWidths (numberedNumbers a)
 
@@ -37,6 +41,9 @@ targetAt part i = targetFrom (fieldsAt targetWidths part (11 * i) 0)
 
 abbrev pub targetList : ℕ → List ℕ → List Target
 targetList n part = each (targetAt part) 0 n
+
+abbrev pub targetsIn : List ℕ → List Target
+targetsIn part = targetList (length part / 11) part
 
 unfoldable pub targetOctets : Target → List ℕ
 targetOctets t = fieldOctets targetWidths (targetNumbers t)

@@ -13,7 +13,7 @@ ghost use lib.ListN.{length};
 ghost use Rattle.octets.specs.LittleEndian.{fieldOctets, numberOctets, over, total};
 ghost use Rattle.element.specs.declared.Kind.{Kind};
 ghost use Rattle.element.specs.Element.{rann, rannNumbers, rrep, rrepNumbers, rreq, rreqNumbers};
-ghost use Rattle.element.specs.Entries.{numberedList, numberedOctets, targetList, targetOctets};
+ghost use Rattle.element.specs.Entries.{numberedIn, numberedOctets, targetOctets, targetsIn};
 ghost use Rattle.element.specs.Octets.{fixedNumbers, frameStart, writeFrame};
 
 // Receiver address and the fields of an element's fixed part.
@@ -113,7 +113,7 @@ pub fn write_rreq(out: &mut [u8], at: usize, to: Address, f: RreqFields, part: &
     requires { ⌜ length (now part) % 11 ≡ 0 ⌝ }
     requires { ⌜ at + 34 + length (now part) ≤ length (now out) ⌝ }
     ensures { λ r. ⌜ r ≡ at + 34 + length (now (part .entry)) ⌝ }
-    ensures { λ _. ⌜ now (out .exit) ≡ over (now (out .entry)) at (writeFrame to (rreq f (targetList (length (now (part .entry)) / 11) (now (part .entry))))) ⌝ }
+    ensures { λ _. ⌜ now (out .exit) ≡ over (now (out .entry)) at (writeFrame to (rreq f (targetsIn (now (part .entry))))) ⌝ }
 {
     let list = start_rreq(out, at, to, f, part.len() / 11);
     octets::write_octets(out, list, part);
@@ -164,7 +164,7 @@ pub fn write_rrep(out: &mut [u8], at: usize, to: Address, f: RrepFields, part: &
     requires { ⌜ length (now part) % 10 ≡ 0 ⌝ }
     requires { ⌜ at + 40 + length (now part) ≤ length (now out) ⌝ }
     ensures { λ r. ⌜ r ≡ at + 40 + length (now (part .entry)) ⌝ }
-    ensures { λ _. ⌜ now (out .exit) ≡ over (now (out .entry)) at (writeFrame to (rrep f (numberedList (length (now (part .entry)) / 10) (now (part .entry))))) ⌝ }
+    ensures { λ _. ⌜ now (out .exit) ≡ over (now (out .entry)) at (writeFrame to (rrep f (numberedIn (now (part .entry))))) ⌝ }
 {
     let list = start_rrep(out, at, to, f, part.len() / 10);
     octets::write_octets(out, list, part);

@@ -13,7 +13,7 @@ use Rattle.element.specs.declared.RrepFields.{RrepFields}
 use Rattle.element.specs.declared.read.Reading.{Reading}
 use Rattle.element.specs.declared.read.Reading.the-variants.{Announcement, Request, Reply, Error, Refused}
 use Rattle.element.specs.Element.{Element, rann, rreq, rrep, rerr, kindOf, countOf, fieldNumbers, numberedNumbers, rannNumbers, rrepNumbers, rreqNumbers, targetNumbers}
-use Rattle.element.specs.Entries.{numberedAt, numberedList, targetAt, targetList}
+use Rattle.element.specs.Entries.{numberedAt, numberedIn, targetAt, targetsIn}
 use Rattle.element.specs.Octets.{fixedNumbers, reading, listPart}
 use Rattle.element.proofs.Scans.{each-length}
 use Rattle.element.proofs.Readings.{announcement-element, request-element, reply-element, error-element}
@@ -34,25 +34,25 @@ module _ (s t ys : List ℕ) (te : t ≡ over s 0 ys) where
 
   module _ (u part : List ℕ) (n : ℕ) where
     pub rreq-put : (f : RreqFields) → n ≡ length part / 11 → ys ≡ fixedNumbers Rreq n (rreqNumbers f)
-        → u ≡ over t 11 (flatMap targetNumbers (targetList (length part / 11) part)) → u ≡ over s 0 (elementNumbers (rreq f (targetList (length part / 11) part)))
+        → u ≡ over t 11 (flatMap targetNumbers (targetsIn part)) → u ≡ over s 0 (elementNumbers (rreq f (targetsIn part)))
     rreq-put f ne ye ue =
         let many = ne ∙ sym (each-length (targetAt part) 0 (length part / 11)) in
-        numbers-put (rreq f (targetList (length part / 11) part)) s t u ys (ye ∙ ap (λ (m : ℕ). fixedNumbers Rreq m (rreqNumbers f)) many) te
-        (ue ∙ ap (λ (k : ℕ). over t k (flatMap targetNumbers (targetList (length part / 11) part))) (sym (ap length ye)))
+        numbers-put (rreq f (targetsIn part)) s t u ys (ye ∙ ap (λ (m : ℕ). fixedNumbers Rreq m (rreqNumbers f)) many) te
+        (ue ∙ ap (λ (k : ℕ). over t k (flatMap targetNumbers (targetsIn part))) (sym (ap length ye)))
 
     pub rrep-put : (f : RrepFields) → n ≡ length part / 10 → ys ≡ fixedNumbers Rrep n (rrepNumbers f)
-        → u ≡ over t 12 (flatMap numberedNumbers (numberedList (length part / 10) part)) → u ≡ over s 0 (elementNumbers (rrep f (numberedList (length part / 10) part)))
+        → u ≡ over t 12 (flatMap numberedNumbers (numberedIn part)) → u ≡ over s 0 (elementNumbers (rrep f (numberedIn part)))
     rrep-put f ne ye ue =
         let many = ne ∙ sym (each-length (numberedAt part) 0 (length part / 10)) in
-        numbers-put (rrep f (numberedList (length part / 10) part)) s t u ys (ye ∙ ap (λ (m : ℕ). fixedNumbers Rrep m (rrepNumbers f)) many) te
-        (ue ∙ ap (λ (k : ℕ). over t k (flatMap numberedNumbers (numberedList (length part / 10) part))) (sym (ap length ye)))
+        numbers-put (rrep f (numberedIn part)) s t u ys (ye ∙ ap (λ (m : ℕ). fixedNumbers Rrep m (rrepNumbers f)) many) te
+        (ue ∙ ap (λ (k : ℕ). over t k (flatMap numberedNumbers (numberedIn part))) (sym (ap length ye)))
 
     pub rerr-put : (flags : ℕ) → n ≡ length part / 10 → ys ≡ fixedNumbers Rerr n (flags ∷ [])
-        → u ≡ over t 4 (flatMap numberedNumbers (numberedList (length part / 10) part)) → u ≡ over s 0 (elementNumbers (rerr flags (numberedList (length part / 10) part)))
+        → u ≡ over t 4 (flatMap numberedNumbers (numberedIn part)) → u ≡ over s 0 (elementNumbers (rerr flags (numberedIn part)))
     rerr-put flags ne ye ue =
         let many = ne ∙ sym (each-length (numberedAt part) 0 (length part / 10)) in
-        numbers-put (rerr flags (numberedList (length part / 10) part)) s t u ys (ye ∙ ap (λ (m : ℕ). fixedNumbers Rerr m (flags ∷ [])) many) te
-        (ue ∙ ap (λ (k : ℕ). over t k (flatMap numberedNumbers (numberedList (length part / 10) part))) (sym (ap length ye)))
+        numbers-put (rerr flags (numberedIn part)) s t u ys (ye ∙ ap (λ (m : ℕ). fixedNumbers Rerr m (flags ∷ [])) many) te
+        (ue ∙ ap (λ (k : ℕ). over t k (flatMap numberedNumbers (numberedIn part))) (sym (ap length ye)))
 
 -- ---- by the reader's answer
 
@@ -67,17 +67,17 @@ module _ (s numbers : List ℕ) (r : Reading) (re : r ≡ reading s) where
     read-rann p e ue = rw (ae, ue, ← re, e, announcement-element s r re p e) refl
 
     module _ (part : List ℕ) (pe : part ≡ listPart s) where
-      pub read-rreq : (f : RreqFields) → r ≡ Request f → u ≡ over numbers 0 (elementNumbers (rreq f (targetList (length part / 11) part)))
+      pub read-rreq : (f : RreqFields) → r ≡ Request f → u ≡ over numbers 0 (elementNumbers (rreq f (targetsIn part)))
           → record { answer = a; memory = u } ≡ readNumbers s numbers
       unfolding readNumbers
       read-rreq f e ue = rw (ae, ue, ← re, e, request-element s r re f e part pe) refl
 
-      pub read-rrep : (f : RrepFields) → r ≡ Reply f → u ≡ over numbers 0 (elementNumbers (rrep f (numberedList (length part / 10) part)))
+      pub read-rrep : (f : RrepFields) → r ≡ Reply f → u ≡ over numbers 0 (elementNumbers (rrep f (numberedIn part)))
           → record { answer = a; memory = u } ≡ readNumbers s numbers
       unfolding readNumbers
       read-rrep f e ue = rw (ae, ue, ← re, e, reply-element s r re f e part pe) refl
 
-      pub read-rerr : (flags : ℕ) → r ≡ Error flags → u ≡ over numbers 0 (elementNumbers (rerr flags (numberedList (length part / 10) part)))
+      pub read-rerr : (flags : ℕ) → r ≡ Error flags → u ≡ over numbers 0 (elementNumbers (rerr flags (numberedIn part)))
           → record { answer = a; memory = u } ≡ readNumbers s numbers
       unfolding readNumbers
       read-rerr flags e ue = rw (ae, ue, ← re, e, error-element s r re flags e part pe) refl

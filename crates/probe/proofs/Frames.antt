@@ -17,7 +17,7 @@ use Rattle.element.specs.declared.RrepFields.{RrepFields}
 use Rattle.element.specs.declared.read.Reading.{Reading}
 use Rattle.element.specs.declared.read.Reading.the-variants.{Announcement, Request, Reply, Error, Refused}
 use Rattle.element.specs.Element.{rann, rreq, rrep, rerr}
-use Rattle.element.specs.Entries.{numberedAt, numberedList, targetAt, targetList}
+use Rattle.element.specs.Entries.{numberedAt, numberedIn, targetAt, targetsIn}
 use Rattle.element.specs.Octets.{reading, listPart, writeFrame}
 use Rattle.element.specs.Lists.{addressesIn, among, anyForbidden, onesBesideOthers, twice}
 use Rattle.element.proofs.Scans.{each-length}
@@ -69,14 +69,14 @@ module _ (to : Address) where
   rann-size p = frame-length to (rann p)
 
   module _ (part : List ℕ) where
-    pub rreq-size : (f : RreqFields) → length part % 11 ≡ 0 → length (writeFrame to (rreq f (targetList (length part / 11) part))) ≡ 34 + length part
-    rreq-size f whole = omega (arith, frame-length to (rreq f (targetList (length part / 11) part)), each-length (targetAt part) 0 (length part / 11))
+    pub rreq-size : (f : RreqFields) → length part % 11 ≡ 0 → length (writeFrame to (rreq f (targetsIn part))) ≡ 34 + length part
+    rreq-size f whole = omega (arith, frame-length to (rreq f (targetsIn part)), each-length (targetAt part) 0 (length part / 11))
 
-    pub rrep-size : (f : RrepFields) → length part % 10 ≡ 0 → length (writeFrame to (rrep f (numberedList (length part / 10) part))) ≡ 40 + length part
-    rrep-size f whole = omega (arith, frame-length to (rrep f (numberedList (length part / 10) part)), each-length (numberedAt part) 0 (length part / 10))
+    pub rrep-size : (f : RrepFields) → length part % 10 ≡ 0 → length (writeFrame to (rrep f (numberedIn part))) ≡ 40 + length part
+    rrep-size f whole = omega (arith, frame-length to (rrep f (numberedIn part)), each-length (numberedAt part) 0 (length part / 10))
 
-    pub rerr-size : (flags : ℕ) → length part % 10 ≡ 0 → length (writeFrame to (rerr flags (numberedList (length part / 10) part))) ≡ 10 + length part
-    rerr-size flags whole = omega (arith, frame-length to (rerr flags (numberedList (length part / 10) part)), each-length (numberedAt part) 0 (length part / 10))
+    pub rerr-size : (flags : ℕ) → length part % 10 ≡ 0 → length (writeFrame to (rerr flags (numberedIn part))) ≡ 10 + length part
+    rerr-size flags whole = omega (arith, frame-length to (rerr flags (numberedIn part)), each-length (numberedAt part) 0 (length part / 10))
 
 -- ---- by the reader's answer
 
@@ -91,15 +91,15 @@ module _ (s out : List ℕ) (to : Address) (at : ℕ) (r : Reading) (re : r ≡ 
     again-rann p e we = rw (we, te, ← re, e, announcement-element s r re p e) refl
 
     module _ (part : List ℕ) (pe : part ≡ listPart s) where
-      pub again-rreq : (f : RreqFields) → r ≡ Request f → w ≡ written out at (writeFrame receiver (rreq f (targetList (length part / 11) part))) → w ≡ writtenAgain s to out at
+      pub again-rreq : (f : RreqFields) → r ≡ Request f → w ≡ written out at (writeFrame receiver (rreq f (targetsIn part))) → w ≡ writtenAgain s to out at
       unfolding writtenAgain
       again-rreq f e we = rw (we, te, ← re, e, request-element s r re f e part pe) refl
 
-      pub again-rrep : (f : RrepFields) → r ≡ Reply f → w ≡ written out at (writeFrame receiver (rrep f (numberedList (length part / 10) part))) → w ≡ writtenAgain s to out at
+      pub again-rrep : (f : RrepFields) → r ≡ Reply f → w ≡ written out at (writeFrame receiver (rrep f (numberedIn part))) → w ≡ writtenAgain s to out at
       unfolding writtenAgain
       again-rrep f e we = rw (we, te, ← re, e, reply-element s r re f e part pe) refl
 
-      pub again-rerr : (flags : ℕ) → r ≡ Error flags → w ≡ written out at (writeFrame receiver (rerr flags (numberedList (length part / 10) part))) → w ≡ writtenAgain s to out at
+      pub again-rerr : (flags : ℕ) → r ≡ Error flags → w ≡ written out at (writeFrame receiver (rerr flags (numberedIn part))) → w ≡ writtenAgain s to out at
       unfolding writtenAgain
       again-rerr flags e we = rw (we, te, ← re, e, error-element s r re flags e part pe) refl
 

@@ -12,7 +12,7 @@ ghost use lib.Dec.{leb};
 ghost use lib.ListN.{length};
 ghost use Rattle.octets.specs.LittleEndian.{over};
 ghost use Rattle.element.specs.Element.{rann, rerr, rrep, rreq};
-ghost use Rattle.element.specs.Entries.{numberedList, numberedOctets, targetList, targetOctets};
+ghost use Rattle.element.specs.Entries.{numberedIn, numberedOctets, targetOctets, targetsIn};
 ghost use Rattle.element.specs.Octets.{writeFrame};
 ghost use Rattle.probe.specs.Probes.{written};
 
@@ -28,7 +28,7 @@ fn has_room(out: &[u8], at: usize, size: usize) -> bool
 
 fn write_targets(out: &mut [u8], at: usize, part: &[u8])
     requires { ⌜ at + length (now part) ≤ length (now out) ⌝ }
-    ensures { λ _. ⌜ now (out .exit) ≡ over (now (out .entry)) at (flatMap targetOctets (targetList (length (now (part .entry)) / 11) (now (part .entry)))) ⌝ }
+    ensures { λ _. ⌜ now (out .exit) ≡ over (now (out .entry)) at (flatMap targetOctets (targetsIn (now (part .entry)))) ⌝ }
 {
     let n = part.len() / 11;
     let mut place = at;
@@ -41,7 +41,7 @@ fn write_targets(out: &mut [u8], at: usize, part: &[u8])
 
 fn write_addresses(out: &mut [u8], at: usize, part: &[u8])
     requires { ⌜ at + length (now part) ≤ length (now out) ⌝ }
-    ensures { λ _. ⌜ now (out .exit) ≡ over (now (out .entry)) at (flatMap numberedOctets (numberedList (length (now (part .entry)) / 10) (now (part .entry)))) ⌝ }
+    ensures { λ _. ⌜ now (out .exit) ≡ over (now (out .entry)) at (flatMap numberedOctets (numberedIn (now (part .entry)))) ⌝ }
 {
     let n = part.len() / 10;
     let mut place = at;
@@ -66,7 +66,7 @@ pub fn write_rann(out: &mut [u8], at: usize, to: Address, path: PathInfo) -> u32
 pub fn write_rreq(out: &mut [u8], at: usize, to: Address, f: RreqFields, part: &[u8]) -> u32
     requires { ⌜ length (now part) ≤ 220 ⌝ }
     requires { ⌜ length (now part) % 11 ≡ 0 ⌝ }
-    ensures { λ r. ⌜ record { answer = r; memory = now (out .exit) } ≡ written (now (out .entry)) at (writeFrame to (rreq f (targetList (length (now (part .entry)) / 11) (now (part .entry))))) ⌝ }
+    ensures { λ r. ⌜ record { answer = r; memory = now (out .exit) } ≡ written (now (out .entry)) at (writeFrame to (rreq f (targetsIn (now (part .entry))))) ⌝ }
 {
     if !has_room(out, at, 34 + part.len()) {
         return 2;
@@ -79,7 +79,7 @@ pub fn write_rreq(out: &mut [u8], at: usize, to: Address, f: RreqFields, part: &
 pub fn write_rreq_singly(out: &mut [u8], at: usize, to: Address, f: RreqFields, part: &[u8]) -> u32
     requires { ⌜ length (now part) ≤ 220 ⌝ }
     requires { ⌜ length (now part) % 11 ≡ 0 ⌝ }
-    ensures { λ r. ⌜ record { answer = r; memory = now (out .exit) } ≡ written (now (out .entry)) at (writeFrame to (rreq f (targetList (length (now (part .entry)) / 11) (now (part .entry))))) ⌝ }
+    ensures { λ r. ⌜ record { answer = r; memory = now (out .exit) } ≡ written (now (out .entry)) at (writeFrame to (rreq f (targetsIn (now (part .entry))))) ⌝ }
 {
     if !has_room(out, at, 34 + part.len()) {
         return 2;
@@ -92,7 +92,7 @@ pub fn write_rreq_singly(out: &mut [u8], at: usize, to: Address, f: RreqFields, 
 pub fn write_rrep(out: &mut [u8], at: usize, to: Address, f: RrepFields, part: &[u8]) -> u32
     requires { ⌜ length (now part) ≤ 220 ⌝ }
     requires { ⌜ length (now part) % 10 ≡ 0 ⌝ }
-    ensures { λ r. ⌜ record { answer = r; memory = now (out .exit) } ≡ written (now (out .entry)) at (writeFrame to (rrep f (numberedList (length (now (part .entry)) / 10) (now (part .entry))))) ⌝ }
+    ensures { λ r. ⌜ record { answer = r; memory = now (out .exit) } ≡ written (now (out .entry)) at (writeFrame to (rrep f (numberedIn (now (part .entry))))) ⌝ }
 {
     if !has_room(out, at, 40 + part.len()) {
         return 2;
@@ -104,7 +104,7 @@ pub fn write_rrep(out: &mut [u8], at: usize, to: Address, f: RrepFields, part: &
 pub fn write_rerr(out: &mut [u8], at: usize, to: Address, flags: u8, part: &[u8]) -> u32
     requires { ⌜ length (now part) ≤ 250 ⌝ }
     requires { ⌜ length (now part) % 10 ≡ 0 ⌝ }
-    ensures { λ r. ⌜ record { answer = r; memory = now (out .exit) } ≡ written (now (out .entry)) at (writeFrame to (rerr flags (numberedList (length (now (part .entry)) / 10) (now (part .entry))))) ⌝ }
+    ensures { λ r. ⌜ record { answer = r; memory = now (out .exit) } ≡ written (now (out .entry)) at (writeFrame to (rerr flags (numberedIn (now (part .entry))))) ⌝ }
 {
     if !has_room(out, at, 10 + part.len()) {
         return 2;

@@ -12,11 +12,11 @@ use table::address;
 use table::address::Address;
 ghost use mathlib.Core.Path.{_≡_};
 ghost use mathlib.Core.Bool.{cond};
-ghost use Prim.Native.Nat.{_/_, _%_, _≤_};
+ghost use Prim.Native.Nat.{_%_, _≤_};
 ghost use lib.ListN.{length};
 ghost use Rattle.table.specs.Address.{addressOf};
 ghost use Rattle.element.specs.Element.{rreq};
-ghost use Rattle.element.specs.Entries.{targetList};
+ghost use Rattle.element.specs.Entries.{targetsIn};
 ghost use Rattle.element.specs.Lists.{addressesIn};
 ghost use Rattle.element.specs.Octets.{writeFrame};
 ghost use Rattle.probe.specs.Probes.{faults, faultsIn, readNumbers, written, writtenAgain};
@@ -45,7 +45,7 @@ fn write_rreq(
 ) -> u32
     requires { ⌜ length (now part) ≤ 220 ⌝ }
     requires { ⌜ length (now part) % 11 ≡ 0 ⌝ }
-    ensures { λ r. ⌜ record { answer = r; memory = now (out .exit) } ≡ written (now (out .entry)) at (writeFrame to (rreq f (targetList (length (now (part .entry)) / 11) (now (part .entry))))) ⌝ }
+    ensures { λ r. ⌜ record { answer = r; memory = now (out .exit) } ≡ written (now (out .entry)) at (writeFrame to (rreq f (targetsIn (now (part .entry))))) ⌝ }
 {
     if singly == 0 {
         return again::write_rreq(out, at, to, f, part);

@@ -11,7 +11,7 @@ ghost use Prim.Native.Nat.{_+_, _*_, _/_, _≤_};
 ghost use lib.ListN.{length};
 ghost use Rattle.octets.specs.LittleEndian.{over};
 ghost use Rattle.element.specs.Element.{numberedNumbers, rann, rerr, rrep, rreq, targetNumbers};
-ghost use Rattle.element.specs.Entries.{numberedList, targetList};
+ghost use Rattle.element.specs.Entries.{numberedIn, targetsIn};
 ghost use Rattle.probe.specs.Probes.{elementNumbers};
 
 fn put(numbers: &mut [u64], at: usize, values: &[u64])
@@ -27,7 +27,7 @@ fn put(numbers: &mut [u64], at: usize, values: &[u64])
 
 fn put_targets(numbers: &mut [u64], at: usize, part: &[u8])
     requires { ⌜ at + 3 * (length (now part) / 11) ≤ length (now numbers) ⌝ }
-    ensures { λ _. ⌜ now (numbers .exit) ≡ over (now (numbers .entry)) at (flatMap targetNumbers (targetList (length (now (part .entry)) / 11) (now (part .entry)))) ⌝ }
+    ensures { λ _. ⌜ now (numbers .exit) ≡ over (now (numbers .entry)) at (flatMap targetNumbers (targetsIn (now (part .entry)))) ⌝ }
 {
     let n = part.len() / 11;
     let mut place = at;
@@ -43,7 +43,7 @@ fn put_targets(numbers: &mut [u64], at: usize, part: &[u8])
 
 fn put_addresses(numbers: &mut [u64], at: usize, part: &[u8])
     requires { ⌜ at + 2 * (length (now part) / 10) ≤ length (now numbers) ⌝ }
-    ensures { λ _. ⌜ now (numbers .exit) ≡ over (now (numbers .entry)) at (flatMap numberedNumbers (numberedList (length (now (part .entry)) / 10) (now (part .entry)))) ⌝ }
+    ensures { λ _. ⌜ now (numbers .exit) ≡ over (now (numbers .entry)) at (flatMap numberedNumbers (numberedIn (now (part .entry)))) ⌝ }
 {
     let n = part.len() / 10;
     let mut place = at;
@@ -71,7 +71,7 @@ pub fn put_rreq(numbers: &mut [u64], f: RreqFields, part: &[u8]) -> u32
     requires { ⌜ length (now part) ≤ 220 ⌝ }
     requires { ⌜ 71 ≤ length (now numbers) ⌝ }
     ensures { λ r. ⌜ r ≡ 0 ⌝ }
-    ensures { λ _. ⌜ now (numbers .exit) ≡ over (now (numbers .entry)) 0 (elementNumbers (rreq f (targetList (length (now (part .entry)) / 11) (now (part .entry))))) ⌝ }
+    ensures { λ _. ⌜ now (numbers .exit) ≡ over (now (numbers .entry)) 0 (elementNumbers (rreq f (targetsIn (now (part .entry))))) ⌝ }
 {
     let values = write::rreq_numbers(f, part.len() / 11);
     put(numbers, 0, &values);
@@ -83,7 +83,7 @@ pub fn put_rrep(numbers: &mut [u64], f: RrepFields, part: &[u8]) -> u32
     requires { ⌜ length (now part) ≤ 220 ⌝ }
     requires { ⌜ 71 ≤ length (now numbers) ⌝ }
     ensures { λ r. ⌜ r ≡ 0 ⌝ }
-    ensures { λ _. ⌜ now (numbers .exit) ≡ over (now (numbers .entry)) 0 (elementNumbers (rrep f (numberedList (length (now (part .entry)) / 10) (now (part .entry))))) ⌝ }
+    ensures { λ _. ⌜ now (numbers .exit) ≡ over (now (numbers .entry)) 0 (elementNumbers (rrep f (numberedIn (now (part .entry))))) ⌝ }
 {
     let values = write::rrep_numbers(f, part.len() / 10);
     put(numbers, 0, &values);
@@ -95,7 +95,7 @@ pub fn put_rerr(numbers: &mut [u64], flags: u8, part: &[u8]) -> u32
     requires { ⌜ length (now part) ≤ 250 ⌝ }
     requires { ⌜ 71 ≤ length (now numbers) ⌝ }
     ensures { λ r. ⌜ r ≡ 0 ⌝ }
-    ensures { λ _. ⌜ now (numbers .exit) ≡ over (now (numbers .entry)) 0 (elementNumbers (rerr flags (numberedList (length (now (part .entry)) / 10) (now (part .entry))))) ⌝ }
+    ensures { λ _. ⌜ now (numbers .exit) ≡ over (now (numbers .entry)) 0 (elementNumbers (rerr flags (numberedIn (now (part .entry))))) ⌝ }
 {
     let values = write::rerr_numbers(flags, part.len() / 10);
     put(numbers, 0, &values);
