@@ -2,9 +2,9 @@
 use Prim.Native.Nat.{ℕ, zero, suc, _+_, _-_, _*_, _/_, _<_, _≤_}
 use mathlib.Core.Path.{_≡_, refl, sym, ap, _∙_}
 use mathlib.Core.Bool.{Bool, true, false, _&&_, _||_, not}
-use mathlib.Core.List.{List, [], _∷_, map}
+use mathlib.Core.List.{List, [], _∷_}
 use lib.Dec.{ltb}
-use lib.ListN.{length, getD}
+use lib.ListN.{length}
 use native.Mathlib.Omega.{arith}
 use native.Mathlib.Nat.{add-zero, sub-zero}
 use borrow.Author.Tests.{eq-eqb, ne-eqb}
@@ -26,12 +26,6 @@ module _ {A : Type 0} (f : ℕ → A) where
   each-length i zero = refl
   each-length i (suc n) = ap suc (each-length (suc i) n)
 
-  pub each-at : (i n k : ℕ) (d : A) → k < n → getD (each f i n) k d ≡ f (i + k)
-  unfolding each
-  each-at i zero k d l = absurd (omega arith)
-  each-at i (suc n) zero d l = ap f (omega arith)
-  each-at i (suc n) (suc k) d l = let place : suc i + k ≡ i + suc k = omega arith in each-at (suc i) n k d (omega arith) ∙ ap f place
-
   each-cons : (i n : ℕ) → each f i (suc n) ≡ f i ∷ each f (suc i) n
   unfolding each
   each-cons i n = refl
@@ -49,11 +43,6 @@ module _ {A : Type 0} (f : ℕ → A) where
 
   pub each-end : (i n : ℕ) → n ≤ i → each f i (n - i) ≡ []
   each-end i n l = let none : n - i ≡ 0 = omega arith in ap (λ (m : ℕ). each f i m) none ∙ each-none i
-
-pub each-map : {A B : Type 0} (g : A → B) (f : ℕ → A) (i n : ℕ) → map g (each f i n) ≡ each (λ (k : ℕ). g (f k)) i n
-unfolding each
-each-map g f i zero = refl
-each-map g f i (suc n) = ap (λ (l : List _). g (f i) ∷ l) (each-map g f (suc i) n)
 
 -- ---- an entry by its octets
 

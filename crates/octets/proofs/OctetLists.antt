@@ -4,7 +4,7 @@ use Prim.Native.Nat.{ℕ, zero, suc, _+_, _*_, _/_, _%_, _^_, _<_, _≤_}
 use mathlib.Core.Path.{_≡_, refl, sym, ap, ap₂, _∙_}
 use mathlib.Core.List.{List, [], _∷_, _++_, append-assoc}
 use lib.ListN.{length, getD, set, take, drop, length-append, drop-of-length-le}
-use lib.Seq.{length-sets, drop-cons, take-add, drop-drop, getD-append-add, getD-drop}
+use lib.Seq.{drop-cons, take-add, drop-drop, getD-append-add, getD-drop}
 use native.Mathlib.Omega.{arith}
 use native.Mathlib.Numerals.{add-one}
 use native.Mathlib.Nat.{add-zero, pow-suc}
@@ -12,10 +12,6 @@ use Rattle.octets.specs.LittleEndian.{numberAt, numberOctets, over, with
 use Rattle.octets.proofs.Laws.{FitFields}
 
 -- ---- written over other octets
-
-pub length-over : (s : List ℕ) (at : ℕ) (p : List ℕ) → length (over s at p) ≡ length s
-unfolding over
-length-over s at p = length-sets s at p
 
 -- the clauses of `over` as equations
 over-nil : (s : List ℕ) (at : ℕ) → over s at [] ≡ s
