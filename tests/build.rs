@@ -19,7 +19,7 @@ fn link(directory: &Path, name: &str) {
     println!("cargo::rerun-if-changed={}", archive.display());
     if !archive.exists() {
         println!(
-            "cargo::error={} is missing: build the library first",
+            "cargo::error={} is missing: `rt staticlib {name}` builds it",
             archive.display()
         );
     }
