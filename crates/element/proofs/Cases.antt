@@ -2,7 +2,7 @@
 -- Assumes nothing.
 use Prim.Native.Nat.{ℕ, _+_, _-_, _<_, _≤_}
 use mathlib.Core.Path.{_≡_, refl, sym, ap, _∙_}
-use mathlib.Core.Bool.{Bool, true, false, _&&_, _||_, not}
+use mathlib.Core.Bool.{Bool, true, false, _&&_, _||_, not, cond}
 use mathlib.Core.List.{List, [], _∷_, _++_}
 use lib.Dec.{eqb, ltb}
 use lib.ListN.{length, getD, take, drop, length-drop, List·getD-eq-default}
@@ -18,7 +18,7 @@ use Rattle.element.specs.declared.RreqFields.{RreqFields}
 use Rattle.element.specs.declared.RrepFields.{RrepFields}
 use Rattle.element.specs.declared.read.Reading.{Reading}
 use Rattle.element.specs.declared.read.Reading.the-variants.{Announcement, Request, Reply, Error, Refused}
-use Rattle.element.specs.Layout.{kindWith, fits, idOf, lengthWith, countOk}
+use Rattle.element.specs.Layout.{known, kindWith, fits, idOf, lengthWith, countOk}
 use Rattle.element.specs.Octets.{kindIn, countAs, wrongLength, otherId, misfit, pathFrom, rreqFrom, rrepFrom, fieldsAs, fixedFields, readAs, readElement, reading, listPart}
 use Rattle.element.proofs.Lengths.{both, least-length}
 
@@ -53,6 +53,18 @@ module _ (id : ℕ) where
   unfolding kindWith
   kind-else a b c = rw (ne-eqb id 126 a, ne-eqb id 130 b, ne-eqb id 131 c) refl
 
+-- an ID is known if it is that of the type it gives
+pub known-is : (id : ℕ) → known id ≡ eqb id (idOf (kindWith id))
+unfolding known kindWith
+known-is id = by (eqb id 126) (eqb id 130) (eqb id 131) refl refl refl
+  where
+    by : (a b c : Bool) → eqb id 126 ≡ a → eqb id 130 ≡ b → eqb id 131 ≡ c
+        → (a || b || c || eqb id 132) ≡ eqb id (idOf (cond a Rann (cond b Rreq (cond c Rrep Rerr))))
+    by true b c ae be ce = sym ae
+    by false true c ae be ce = sym be
+    by false false true ae be ce = sym ce
+    by false false false ae be ce = refl
+
 -- ---- refusals 6, 7 and 8
 
 module _ (s : List ℕ) where
@@ -81,7 +93,7 @@ module _ (s : List ℕ) where
       let f = either-false (ltb (length s) 2) (not (eqb (2 + getD s 1 0) (length s))) e in
       (ltb-false (length s) 2 (f .0), eqb-true (2 + getD s 1 0) (length s) (not-false (eqb (2 + getD s 1 0) (length s)) (f .1)))
 
-  pub fixed-there : wrongLength s ≡ false → (k : Kind) → fits k (getD s 1 0) (countAs k s) ≡ true → 2 + lengthWith k 0 ≤ length s
+  fixed-there : wrongLength s ≡ false → (k : Kind) → fits k (getD s 1 0) (countAs k s) ≡ true → 2 + lengthWith k 0 ≤ length s
   unfolding fits
   fixed-there e k f =
       let n = countAs k s in
@@ -104,26 +116,27 @@ module _ (s : List ℕ) where
         kind-is : k ≡ kindIn s
         kind-is = ke ∙ ap kindWith (ide ∙ one-octet s 0)
 
-        pub read-7 : (d ≡ id → ⊥) → Refused 7 ≡ reading s
-        unfolding reading otherId
-        read-7 no-d =
-            let other : eqb (idOf (kindIn s)) (getD s 0 0) ≡ false = rw (← kind-is, ← de, ← one-octet s 0, ← ide) (ne-eqb d id no-d) in
-            cc
+        known-by : known (getD s 0 0) ≡ eqb id d
+        known-by = ap known (sym (ide ∙ one-octet s 0)) ∙ known-is id ∙ ap (λ (j : Kind). eqb id (idOf j)) (sym ke) ∙ ap (eqb id) (sym de)
 
-        module _ (yes-d : d ≡ id) (f : Bool) (fe : f ≡ fits k (getD s 1 0) (countAs k s)) where
-          known : eqb (idOf (kindIn s)) (getD s 0 0) ≡ true
-          known = rw (← kind-is, ← de, ← one-octet s 0, ← ide) (eq-eqb d id yes-d)
+        pub read-7 : (id ≡ d → ⊥) → Refused 7 ≡ reading s
+        unfolding reading otherId
+        read-7 no-d = let other : known (getD s 0 0) ≡ false = known-by ∙ ne-eqb id d no-d in cc
+
+        module _ (yes-d : id ≡ d) (f : Bool) (fe : f ≡ fits k (getD s 1 0) (countAs k s)) where
+          id-known : known (getD s 0 0) ≡ true
+          id-known = known-by ∙ eq-eqb id d yes-d
 
           pub read-8 : not f ≡ true → Refused 8 ≡ reading s
           unfolding reading otherId misfit
-          read-8 no-f = let h = known in let k-is = kind-is in cc
+          read-8 no-f = let h = id-known in let k-is = kind-is in cc
 
           pub fixed-part-there : not f ≡ false → 2 + lengthWith k 0 ≤ length s
           fixed-part-there yes-f = fixed-there (sym ae ∙ no-a) k (sym fe ∙ not-false f yes-f)
 
           pub read-fields : not f ≡ false → (r : Reading) → r ≡ fixedFields (readAs k s) → r ≡ reading s
           unfolding reading otherId misfit readElement
-          read-fields yes-f r e = let h = known in let k-is = kind-is in cc
+          read-fields yes-f r e = let h = id-known in let k-is = kind-is in cc
 
 -- ---- fields
 
@@ -142,21 +155,13 @@ module _ (s : List ℕ) (k : Kind) (h : 2 + lengthWith k 0 ≤ length s) where
 
 -- ---- the list part
 
-module _ (s : List ℕ) (h : 2 + lengthWith (kindIn s) 0 ≤ length s) where
-  pub id-there : 0 + 1 ≤ length s
-  id-there = omega arith
+module _ (s : List ℕ) where
+  pub starts-there : (id : ℕ) → id ≡ numberAt 1 s 0 → (k : Kind) → k ≡ kindWith id → (long : ℕ) → long ≡ lengthWith k 0 → 2 + long ≡ 2 + lengthWith (kindIn s) 0
+  starts-there id ide k ke long le = ap (λ (l : ℕ). 2 + l) (le ∙ ap (λ (j : Kind). lengthWith j 0) (ke ∙ ap kindWith (ide ∙ one-octet s 0)))
 
-  module _ (id : ℕ) (ide : id ≡ numberAt 1 s 0) (k : Kind) (ke : k ≡ kindWith id) (start : ℕ) (se : start ≡ 2 + lengthWith k 0) where
-    start-is : start ≡ 2 + lengthWith (kindIn s) 0
-    start-is = se ∙ ap (λ (j : Kind). 2 + lengthWith j 0) (ke ∙ ap kindWith (ide ∙ one-octet s 0))
-
-    pub start-within : start ≤ length s
-    start-within = rw start-is h
-
-    pub list-left : take (length s - start) (drop start s) ≡ listPart s
-    unfolding listPart
-    list-left =
-        take-all (length s - start) (drop start s) (rw (length-drop start s) (omega arith)) ∙ ap (λ (n : ℕ). drop n s) start-is
+  pub list-left : (start : ℕ) → start ≡ 2 + lengthWith (kindIn s) 0 → take (length s - start) (drop start s) ≡ listPart s
+  unfolding listPart
+  list-left start e = take-all (length s - start) (drop start s) (rw (length-drop start s) (omega arith)) ∙ ap (λ (n : ℕ). drop n s) e
 
 module _ (s : List ℕ) where
   pub path-read : (at : ℕ) {a b c d e f g : ℕ}

@@ -1,13 +1,13 @@
 -- Lengths and counts: which there are, and that each fits its octet. Assumes nothing.
 use Prim.Native.Nat.{ℕ, _<_, _≤_}
-use mathlib.Core.Path.{_≡_, refl}
-use mathlib.Core.Bool.{Bool, true, false, _&&_, and-eq-true-iff}
-use lib.Dec.{eqb, leb}
+use mathlib.Core.Path.{_≡_}
+use mathlib.Core.Bool.{Bool, true, _&&_, and-eq-true-iff}
+use lib.Dec.{leb}
 use native.Mathlib.Omega.{arith}
 use borrow.Author.Tests.{leb-true, eqb-true}
 use Rattle.element.specs.declared.Kind.{Kind}
 use Rattle.element.specs.declared.Kind.the-variants.{Rann, Rreq, Rrep, Rerr}
-use Rattle.element.specs.Layout.{idOf, lengthWith, countOk, fits}
+use Rattle.element.specs.Layout.{idOf, lengthWith, countOk}
 
 pub both : (a b : Bool) → (a && b) ≡ true → (a ≡ true) × (b ≡ true)
 both a b = and-eq-true-iff a b .0
@@ -75,32 +75,3 @@ least-length Rann n = omega arith
 least-length Rreq n = omega arith
 least-length Rrep n = omega arith
 least-length Rerr n = omega arith
-
--- ---- edges of document 01
-
--- P3: RREQ Lengths 37 and 246 fit; 26 and 257 cannot, whatever the count
-pub p3-fit : (fits Rreq 37 1 ≡ true) × (fits Rreq 246 20 ≡ true)
-unfolding fits
-p3-fit = (refl, refl)
-
--- a Length that would ask for another count fits none
-misfits : (k : Kind) (long n : ℕ) → (countOk k n ≡ true → long ≡ lengthWith k n → ⊥) → fits k long n ≡ false
-unfolding fits
-misfits k long n h = by (eqb long (lengthWith k n)) (countOk k n) refl refl
-  where
-    by : (a b : Bool) → eqb long (lengthWith k n) ≡ a → countOk k n ≡ b → (a && b) ≡ false
-    by false b ae be = refl
-    by true false ae be = refl
-    by true true ae be = absurd (h be (eqb-true long (lengthWith k n) ae))
-
-pub p3-cannot : (n : ℕ) → (fits Rreq 26 n ≡ false) × (fits Rreq 257 n ≡ false)
-p3-cannot n =
-    (misfits Rreq 26 n (λ c e. let r = count-range Rreq n c in omega arith), misfits Rreq 257 n (λ c e. let r = count-range Rreq n c in omega arith))
-
--- P4: RERR Length 2 is refused, 12 fits
-pub p4-fit : fits Rerr 12 1 ≡ true
-unfolding fits
-p4-fit = refl
-
-pub p4-refused : (n : ℕ) → fits Rerr 2 n ≡ false
-p4-refused n = misfits Rerr 2 n (λ c e. let r = count-range Rerr n c in omega arith)

@@ -7,3 +7,4 @@ pub mod Sizes
 pub mod Written
 pub mod Readings
 pub mod ReadBack
+pub mod Edges

@@ -32,46 +32,46 @@ module _ {A : Type 0} (size : ℕ) (ws : List ℕ) (from : List ℕ → A) (numb
   entry-length : (x : A) → length (entryOctets x) ≡ size
   entry-length x = length-field-octets ws (numbers x) (as-many x) ∙ wide
 
-  list-length : (xs : List A) → length (flatMap entryOctets xs) ≡ size * length xs
+  entries-length : (xs : List A) → length (flatMap entryOctets xs) ≡ size * length xs
   unfolding flatMap
-  list-length [] = sym (mul-zero size)
-  list-length (x ∷ xs) =
+  entries-length [] = sym (mul-zero size)
+  entries-length (x ∷ xs) =
       let e = mul-suc size (length xs) in
-      omega (arith, length-append (entryOctets x) (flatMap entryOctets xs), entry-length x, list-length xs)
+      omega (arith, length-append (entryOctets x) (flatMap entryOctets xs), entry-length x, entries-length xs)
 
-  list-octets : (xs : List A) → Octets (flatMap entryOctets xs)
+  entries-octets : (xs : List A) → Octets (flatMap entryOctets xs)
   unfolding flatMap
-  list-octets [] = octets-nil
-  list-octets (x ∷ xs) = octets-append (entryOctets x) (flatMap entryOctets xs) (octets-of-fields ws (numbers x)) (list-octets xs)
+  entries-octets [] = octets-nil
+  entries-octets (x ∷ xs) = octets-append (entryOctets x) (flatMap entryOctets xs) (octets-of-fields ws (numbers x)) (entries-octets xs)
 
   -- entries that fit are read back: those from i on, after the octets p of those before
   module _ (back : (x : A) → from (numbers x) ≡ x) where
-    list-read : (p : List ℕ) (xs : List A) (i : ℕ) → length p ≡ size * i → All (λ x. FitFields ws (numbers x)) xs
+    entries-read : (p : List ℕ) (xs : List A) (i : ℕ) → length p ≡ size * i → All (λ x. FitFields ws (numbers x)) xs
         → each (entryAt (p ++ flatMap entryOctets xs)) i (length xs) ≡ xs
     unfolding each flatMap All
-    list-read p [] i e f = refl
-    list-read p (x ∷ xs) i e f =
+    entries-read p [] i e f = refl
+    entries-read p (x ∷ xs) i e f =
         let regroup : p ++ (entryOctets x ++ flatMap entryOctets xs) ≡ (p ++ entryOctets x) ++ flatMap entryOctets xs = sym (append-assoc p (entryOctets x) (flatMap entryOctets xs)) in
         let place : size * i + 0 ≡ length p = omega arith in
         let next : length (p ++ entryOctets x) ≡ size * suc i = omega (arith, length-append p (entryOctets x), entry-length x, mul-suc size i) in
         ap₂ _∷_
         (ap from (fields-read ws (numbers x) p (flatMap entryOctets xs) (size * i) 0 place (f .0)) ∙ back x)
-        (ap (λ (l : List ℕ). each (entryAt l) (suc i) (length xs)) regroup ∙ list-read (p ++ entryOctets x) xs (suc i) next (f .1))
+        (ap (λ (l : List ℕ). each (entryAt l) (suc i) (length xs)) regroup ∙ entries-read (p ++ entryOctets x) xs (suc i) next (f .1))
 
   -- the entries of octets make these octets again: n of them from entry i on
   module _ (part : List ℕ) (octets : Octets part) (forth : (at : ℕ) → numbers (from (fieldsAt ws part at 0)) ≡ fieldsAt ws part at 0) where
-    list-made : (n i : ℕ) → length part ≡ size * (i + n) → flatMap entryOctets (each (entryAt part) i n) ≡ drop (size * i) part
+    entries-made : (n i : ℕ) → length part ≡ size * (i + n) → flatMap entryOctets (each (entryAt part) i n) ≡ drop (size * i) part
     unfolding each flatMap
-    list-made zero i e =
+    entries-made zero i e =
         let end : length part ≤ size * i = omega (arith, ap (λ (k : ℕ). size * k) (add-zero i)) in
         sym (drop-of-length-le part end)
-    list-made (suc n) i e =
+    entries-made (suc n) i e =
         let many : size * (i + suc n) ≡ size * i + size + size * n = ap (λ (k : ℕ). size * k) (add-suc i n ∙ sym (suc-add i n)) ∙ mul-add size (suc i) n ∙ ap (λ (k : ℕ). k + size * n) (mul-suc size i) in
         let first : entryOctets (entryAt part i) ≡ take size (drop (size * i) part) =
         ap (fieldOctets ws) (forth (size * i)) ∙ fields-made ws part (size * i) 0 octets (omega arith)
         ∙ ap₂ (λ (k m : ℕ). take k (drop m part)) wide (add-zero (size * i)) in
         let rest : flatMap entryOctets (each (entryAt part) (suc i) n) ≡ drop size (drop (size * i) part) =
-        list-made n (suc i) (e ∙ ap (λ (k : ℕ). size * k) (add-suc i n ∙ sym (suc-add i n)))
+        entries-made n (suc i) (e ∙ ap (λ (k : ℕ). size * k) (add-suc i n ∙ sym (suc-add i n)))
         ∙ ap (λ (k : ℕ). drop k part) (mul-suc size i) ∙ sym (drop-drop size (size * i) part) in
         ap₂ _++_ first rest ∙ take-append-drop size (drop (size * i) part)
 
@@ -85,32 +85,32 @@ FitsNumbered a = FitFields numberedWidths (numberedNumbers a)
 
 pub targets-length : (ts : List Target) → length (flatMap targetOctets ts) ≡ 11 * length ts
 unfolding targetOctets total
-targets-length ts = list-length 11 targetWidths targetFrom targetNumbers refl (λ t. refl) ts
+targets-length ts = entries-length 11 targetWidths targetFrom targetNumbers refl (λ t. refl) ts
 
 pub targets-octets : (ts : List Target) → Octets (flatMap targetOctets ts)
 unfolding targetOctets total
-targets-octets ts = list-octets 11 targetWidths targetFrom targetNumbers refl (λ t. refl) ts
+targets-octets ts = entries-octets 11 targetWidths targetFrom targetNumbers refl (λ t. refl) ts
 
 pub targets-read : (ts : List Target) → All FitsTarget ts → targetList (length ts) (flatMap targetOctets ts) ≡ ts
 unfolding targetOctets targetAt total
-targets-read ts f = list-read 11 targetWidths targetFrom targetNumbers refl (λ t. refl) (λ t. refl) [] ts 0 refl f
+targets-read ts f = entries-read 11 targetWidths targetFrom targetNumbers refl (λ t. refl) (λ t. refl) [] ts 0 refl f
 
 pub targets-made : (part : List ℕ) (n : ℕ) → Octets part → length part ≡ 11 * n → flatMap targetOctets (targetList n part) ≡ part
 unfolding targetOctets targetAt fieldsAt total
-targets-made part n o e = list-made 11 targetWidths targetFrom targetNumbers refl (λ t. refl) part o (λ at. refl) n 0 (rw zero-add e)
+targets-made part n o e = entries-made 11 targetWidths targetFrom targetNumbers refl (λ t. refl) part o (λ at. refl) n 0 (rw zero-add e)
 
 pub addresses-length : (l : List NumberedAddress) → length (flatMap numberedOctets l) ≡ 10 * length l
 unfolding numberedOctets total
-addresses-length l = list-length 10 numberedWidths numberedFrom numberedNumbers refl (λ a. refl) l
+addresses-length l = entries-length 10 numberedWidths numberedFrom numberedNumbers refl (λ a. refl) l
 
 pub addresses-octets : (l : List NumberedAddress) → Octets (flatMap numberedOctets l)
 unfolding numberedOctets total
-addresses-octets l = list-octets 10 numberedWidths numberedFrom numberedNumbers refl (λ a. refl) l
+addresses-octets l = entries-octets 10 numberedWidths numberedFrom numberedNumbers refl (λ a. refl) l
 
 pub addresses-read : (l : List NumberedAddress) → All FitsNumbered l → numberedList (length l) (flatMap numberedOctets l) ≡ l
 unfolding numberedOctets numberedAt total
-addresses-read l f = list-read 10 numberedWidths numberedFrom numberedNumbers refl (λ a. refl) (λ a. refl) [] l 0 refl f
+addresses-read l f = entries-read 10 numberedWidths numberedFrom numberedNumbers refl (λ a. refl) (λ a. refl) [] l 0 refl f
 
 pub addresses-made : (part : List ℕ) (n : ℕ) → Octets part → length part ≡ 10 * n → flatMap numberedOctets (numberedList n part) ≡ part
 unfolding numberedOctets numberedAt fieldsAt total
-addresses-made part n o e = list-made 10 numberedWidths numberedFrom numberedNumbers refl (λ a. refl) part o (λ at. refl) n 0 (rw zero-add e)
+addresses-made part n o e = entries-made 10 numberedWidths numberedFrom numberedNumbers refl (λ a. refl) part o (λ at. refl) n 0 (rw zero-add e)

@@ -14,9 +14,9 @@ use Rattle.octets.proofs.OctetLists.{fields-read, fields-made, octets-nil, octe
 use Rattle.element.specs.declared.Kind.{Kind}
 use Rattle.element.specs.declared.Kind.the-variants.{Rann, Rreq, Rrep, Rerr}
 use Rattle.element.specs.Element.{Element, rann, rreq, rrep, rerr, kindOf, countOf, fieldNumbers}
-use Rattle.element.specs.Layout.{idOf, kindWith, lengthWith, countOk, fits, fieldWidths, numberedWidths, targetWidths}
+use Rattle.element.specs.Layout.{idOf, known, kindWith, lengthWith, countOk, fits, fieldWidths, numberedWidths, targetWidths}
 use Rattle.element.specs.Entries.{each, numberedAt, targetAt}
-use Rattle.element.specs.Octets.{kindIn, countAs, wrongLength, otherId, misfit, fieldsAs, listAs, elementAs, readAs, readElement, fixedFields, reading, countPart, fixedOctets, listOctets, writeElement}
+use Rattle.element.specs.Octets.{kindIn, countAs, wrongLength, otherId, misfit, fieldsAs, listAs, listPart, elementAs, readAs, readElement, fixedFields, reading, countPart, fixedOctets, listOctets, writeElement}
 use Rattle.element.proofs.Lengths.{least-length, id-octet, length-octet, count-octet}
 use Rattle.element.proofs.Scans.{each-length}
 use Rattle.element.proofs.ListParts.{All, FitsTarget, FitsNumbered, targets-octets, targets-read, targets-made, addresses-octets, addresses-read, addresses-made}
@@ -85,6 +85,11 @@ read-back e f =
     ∙ ap₂ (elementAs (kindOf e) (fieldNumbers e)) (count-there e) (list-there e)
     ∙ made e (f .entries)
 
+-- and the list part is the octets of its entries
+pub part-back : (e : Element) → listPart (writeElement e) ≡ listOctets e
+unfolding listPart
+part-back e = ap (λ (k : Kind). listAs k (writeElement e)) (kind-there e) ∙ list-there e
+
 -- ---- and passes 6, 7 and 8
 
 length-there : (e : Element) → getD (writeElement e) 1 0 ≡ lengthWith (kindOf e) (countOf e)
@@ -102,9 +107,16 @@ passes-6 e =
     let same : 2 + getD (writeElement e) 1 0 ≡ length (writeElement e) = omega (arith, element-length e, length-there e) in
     rw (le-ltb (length (writeElement e)) 2 long, eq-eqb (2 + getD (writeElement e) 1 0) (length (writeElement e)) same) refl
 
+id-known : (k : Kind) → known (idOf k) ≡ true
+unfolding known
+id-known Rann = refl
+id-known Rreq = refl
+id-known Rrep = refl
+id-known Rerr = refl
+
 pub passes-7 : (e : Element) → otherId (writeElement e) ≡ false
 unfolding otherId
-passes-7 e = rw (kind-there e, id-there e, eq-eqb (idOf (kindOf e)) (idOf (kindOf e)) refl) refl
+passes-7 e = rw (id-there e, id-known (kindOf e)) refl
 
 pub passes-8 : (e : Element) → countOk (kindOf e) (countOf e) ≡ true → misfit (writeElement e) ≡ false
 unfolding misfit fits

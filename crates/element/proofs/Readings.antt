@@ -3,7 +3,7 @@
 use Prim.Native.Nat.{ℕ, _+_, _*_, _/_, _%_, _≤_}
 use mathlib.Core.Path.{_≡_, refl, sym, ap, ap₂, subst, _∙_}
 use mathlib.Core.Bool.{Bool, true, false, _&&_, cond, false≢true}
-use mathlib.Core.List.{List}
+use mathlib.Core.List.{List, [], _∷_}
 use lib.Dec.{eqb}
 use lib.ListN.{length, getD, drop, length-drop}
 use native.Mathlib.Omega.{arith}
@@ -16,11 +16,11 @@ use Rattle.element.specs.declared.RrepFields.{RrepFields}
 use Rattle.element.specs.declared.read.Reading.{Reading}
 use Rattle.element.specs.declared.read.Reading.the-variants.{Announcement, Request, Reply, Error, Refused}
 use Rattle.element.specs.Element.{rann, rreq, rrep, rerr}
-use Rattle.element.specs.Layout.{idOf, lengthWith, countOk, fits}
+use Rattle.element.specs.Layout.{idOf, known, lengthWith, countOk, fits}
 use Rattle.element.specs.Entries.{numberedIn, targetsIn}
 use Rattle.element.specs.Octets.{kindIn, countAs, wrongLength, otherId, misfit, fieldsAs, listAs, elementAs, readAs, readElement, fixedFields, reading, listPart}
-use Rattle.element.proofs.Lengths.{both, least-length, most, count-range}
-use Rattle.element.proofs.Cases.{length-right}
+use Rattle.element.proofs.Lengths.{both, least-length, fewest, most, count-range}
+use Rattle.element.proofs.Cases.{known-is, length-right}
 
 -- ---- octets that pass 6, 7 and 8
 
@@ -39,7 +39,7 @@ passed s a b c =
     let m = both (eqb (getD s 1 0) (lengthWith k n)) (countOk k n) (not-false (eqb (getD s 1 0) (lengthWith k n) && countOk k n) c) in
     let long = eqb-true (getD s 1 0) (lengthWith k n) (m .0) in
     record {
-      id = eqb-true (idOf k) (getD s 0 0) (not-false (eqb (idOf k) (getD s 0 0)) b);
+      id = sym (eqb-true (getD s 0 0) (idOf k) (sym (known-is (getD s 0 0)) ∙ not-false (known (getD s 0 0)) b));
       long = long;
       count = m .1;
       size = sym (length-right s a .1) ∙ ap (λ (l : ℕ). 2 + l) long;
@@ -96,6 +96,10 @@ accepted s r e no-refusal = by (wrongLength s) (otherId s) (misfit s) refl refl 
         subst (λ (k : Kind). Accepted s k r) (sym (ap kindRead fields-are ∙ kind-fixed (kindIn s) s))
         (record { kind = refl; passes = passed s ae be ce; fields = fields-are })
 
+length-nil : (l : List ℕ) → length l ≡ 0 → l ≡ []
+length-nil [] e = refl
+length-nil (x ∷ l) e = absurd (omega arith)
+
 -- ---- as callers ask it: r is the answer for s, and part its list part
 
 -- octets of an entry; a RANN has none
@@ -128,8 +132,8 @@ module _ (s : List ℕ) (r : Reading) (re : r ≡ reading s) (q : Reading) (e : 
         by-entries (kindRead q) (countAs (kindRead q) s) (length part) (read-so .passes .count)
         (rw (part-is, length-drop) (omega (arith, read-so .passes .size, least-length (kindRead q) (countAs (kindRead q) s))))
 
-    entries-most : countAs (kindRead q) s ≤ most (kindRead q)
-    entries-most = count-range (kindRead q) (countAs (kindRead q) s) (read-so .passes .count) .1
+    entries-range : (fewest (kindRead q) ≤ countAs (kindRead q) s) × (countAs (kindRead q) s ≤ most (kindRead q))
+    entries-range = count-range (kindRead q) (countAs (kindRead q) s) (read-so .passes .count)
 
     -- the element that was read, by its list part
     element-is : readElement s ≡ elementAs (kindRead q) (fieldsAs (kindRead q) s) (length part / entrySize (kindRead q)) part
@@ -143,22 +147,37 @@ module _ (s : List ℕ) (r : Reading) (re : r ≡ reading s) (q : Reading) (e : 
 
 -- which are then the fields of the answer: by the injectivity of its case
 module _ (s : List ℕ) (r : Reading) (re : r ≡ reading s) where
-  pub announcement-element : (p : PathInfo) → r ≡ Announcement p → readElement s ≡ rann p
-  unfolding readAs
-  announcement-element p e =
-      let same = fields-are s r re (Announcement p) e refl in
-      element-is s r re (Announcement p) e refl (listPart s) refl ∙ ap rann (cc)
+  module _ (p : PathInfo) (e : r ≡ Announcement p) where
+    pub announcement-room : 2 + lengthWith (kindIn s) 0 ≤ length s
+    announcement-room = list-room s r re (Announcement p) e refl
+
+    -- the list part of a RANN is empty
+    pub announcement-list : listPart s ≡ []
+    announcement-list = length-nil (listPart s) (omega (arith, entries s r re (Announcement p) e refl (listPart s) refl))
+
+    pub announcement-element : readElement s ≡ rann p
+    unfolding readAs
+    announcement-element =
+        let same = fields-are s r re (Announcement p) e refl in
+        element-is s r re (Announcement p) e refl (listPart s) refl ∙ ap rann (cc)
 
   module _ (f : RreqFields) (e : r ≡ Request f) where
     pub request-room : 2 + lengthWith (kindIn s) 0 ≤ length s
     request-room = list-room s r re (Request f) e refl
 
     module _ (part : List ℕ) (pe : part ≡ listPart s) where
+      -- it has as many entries as the count octet says
+      pub request-entries : length part ≡ 11 * getD s 27 0
+      request-entries = entries s r re (Request f) e refl part pe .0
+
       pub request-whole : length part % 11 ≡ 0
       request-whole = omega (arith, entries s r re (Request f) e refl part pe)
 
+      pub request-some : 11 ≤ length part
+      request-some = omega (arith, entries s r re (Request f) e refl part pe, entries-range s r re (Request f) e refl part pe)
+
       pub request-short : length part ≤ 220
-      request-short = omega (arith, entries s r re (Request f) e refl part pe, entries-most s r re (Request f) e refl part pe)
+      request-short = omega (arith, entries s r re (Request f) e refl part pe, entries-range s r re (Request f) e refl part pe)
 
       pub request-element : readElement s ≡ rreq f (targetsIn part)
       unfolding readAs
@@ -171,11 +190,15 @@ module _ (s : List ℕ) (r : Reading) (re : r ≡ reading s) where
     reply-room = list-room s r re (Reply f) e refl
 
     module _ (part : List ℕ) (pe : part ≡ listPart s) where
+      -- it has as many entries as the count octet says
+      pub reply-entries : length part ≡ 10 * getD s 33 0
+      reply-entries = entries s r re (Reply f) e refl part pe .0
+
       pub reply-whole : length part % 10 ≡ 0
       reply-whole = omega (arith, entries s r re (Reply f) e refl part pe)
 
       pub reply-short : length part ≤ 220
-      reply-short = omega (arith, entries s r re (Reply f) e refl part pe, entries-most s r re (Reply f) e refl part pe)
+      reply-short = omega (arith, entries s r re (Reply f) e refl part pe, entries-range s r re (Reply f) e refl part pe)
 
       pub reply-element : readElement s ≡ rrep f (numberedIn part)
       unfolding readAs
@@ -188,11 +211,18 @@ module _ (s : List ℕ) (r : Reading) (re : r ≡ reading s) where
     error-room = list-room s r re (Error flags) e refl
 
     module _ (part : List ℕ) (pe : part ≡ listPart s) where
+      -- it has as many entries as the count octet says
+      pub error-entries : length part ≡ 10 * getD s 3 0
+      error-entries = entries s r re (Error flags) e refl part pe .0
+
       pub error-whole : length part % 10 ≡ 0
       error-whole = omega (arith, entries s r re (Error flags) e refl part pe)
 
+      pub error-some : 10 ≤ length part
+      error-some = omega (arith, entries s r re (Error flags) e refl part pe, entries-range s r re (Error flags) e refl part pe)
+
       pub error-short : length part ≤ 250
-      error-short = omega (arith, entries s r re (Error flags) e refl part pe, entries-most s r re (Error flags) e refl part pe)
+      error-short = omega (arith, entries s r re (Error flags) e refl part pe, entries-range s r re (Error flags) e refl part pe)
 
       pub error-element : readElement s ≡ rerr flags (numberedIn part)
       unfolding readAs

@@ -139,7 +139,7 @@ module _ (k : ListKind) (part : List ℕ) (n : ℕ) (ne : n ≡ entriesIn k part
         twice-more no-b = scan-more twice among refl (λ c rest. refl) k part i g entry-there (sym among-is ∙ no-b)
 
   module _ (l : n ≤ i) where
-    pub all-passed : entriesIn k part ≤ i
+    all-passed : entriesIn k part ≤ i
     all-passed = rw (← ne) l
 
     pub forbidden-ended : anyForbidden k (addressesFrom k part i) ≡ g → false ≡ g

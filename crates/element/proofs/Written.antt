@@ -32,12 +32,12 @@ countWidths Rreq = 1 ∷ []
 countWidths Rrep = 1 ∷ []
 countWidths Rerr = 1 ∷ []
 
-count-octets : (k : Kind) (n : ℕ) → n < 256 → fieldOctets (countWidths k) (countPart k n) ≡ countPart k n
+count-itself : (k : Kind) (n : ℕ) → n < 256 → fieldOctets (countWidths k) (countPart k n) ≡ countPart k n
 unfolding fieldOctets
-count-octets Rann n l = refl
-count-octets Rreq n l = rw (octet-itself n l)
-count-octets Rrep n l = rw (octet-itself n l)
-count-octets Rerr n l = rw (octet-itself n l)
+count-itself Rann n l = refl
+count-itself Rreq n l = rw (octet-itself n l)
+count-itself Rrep n l = rw (octet-itself n l)
+count-itself Rerr n l = rw (octet-itself n l)
 
 -- receiver address and the fields of a fixed part, written side by side
 pub frame-started : (to : Address) (s t u ws xs : List ℕ) (at : ℕ) → t ≡ withNumber 6 s at (to .0) → u ≡ withFields ws t (at + 6) 0 xs
@@ -53,7 +53,7 @@ module _ (to : Address) (k : Kind) (n : ℕ) (xs : List ℕ) (as-many : length (
   unfolding fixedOctets
   start-octets =
       let rest : fieldOctets (fieldWidths k ++ countWidths k) (xs ++ countPart k n) ≡ fieldOctets (fieldWidths k) xs ++ countPart k n =
-      field-octets-append (fieldWidths k) (countWidths k) xs (countPart k n) as-many ∙ ap (λ (l : List ℕ). fieldOctets (fieldWidths k) xs ++ l) (count-octets k n small) in
+      field-octets-append (fieldWidths k) (countWidths k) xs (countPart k n) as-many ∙ ap (λ (l : List ℕ). fieldOctets (fieldWidths k) xs ++ l) (count-itself k n small) in
       rw (field-octets-cons, field-octets-cons, octet-itself (idOf k) (id-octet k), octet-itself (lengthWith k n) fits, rest)
 
   -- which are then the start of a frame
@@ -112,15 +112,15 @@ module _ (to : Address) (s t u : List ℕ) (at at′ : ℕ) where
       ∙ ap (over s at) (sym (frame-parts to e))
 
   module _ (part : List ℕ) (n : ℕ) where
-    targets-many : n ≡ length part / 11 → n ≡ length (targetsIn part)
-    targets-many e = e ∙ sym (each-length (targetAt part) 0 (length part / 11))
+    targets-counted : n ≡ length part / 11 → n ≡ length (targetsIn part)
+    targets-counted e = e ∙ sym (each-length (targetAt part) 0 (length part / 11))
 
-    addresses-many : n ≡ length part / 10 → n ≡ length (numberedIn part)
-    addresses-many e = e ∙ sym (each-length (numberedAt part) 0 (length part / 10))
+    addresses-counted : n ≡ length part / 10 → n ≡ length (numberedIn part)
+    addresses-counted e = e ∙ sym (each-length (numberedAt part) 0 (length part / 10))
 
     module _ (f : RreqFields) (ne : n ≡ length part / 11) (te : t ≡ over s at (frameStart to Rreq n (rreqNumbers f))) (ae : at′ ≡ at + 34) where
       pub rreq-listed : u ≡ over t at′ (flatMap targetOctets (targetsIn part)) → u ≡ over s at (writeFrame to (rreq f (targetsIn part)))
-      rreq-listed = finished (rreq f (targetsIn part)) n (targets-many ne) te ae
+      rreq-listed = finished (rreq f (targetsIn part)) n (targets-counted ne) te ae
 
       pub rreq-written : Octets part → length part % 11 ≡ 0 → u ≡ over t at′ part → u ≡ over s at (writeFrame to (rreq f (targetsIn part)))
       rreq-written octets whole ue = rreq-listed (ue ∙ ap (over t at′) (sym (targets-made part (length part / 11) octets (omega arith))))
@@ -128,12 +128,12 @@ module _ (to : Address) (s t u : List ℕ) (at at′ : ℕ) where
     pub rrep-written : (f : RrepFields) → n ≡ length part / 10 → t ≡ over s at (frameStart to Rrep n (rrepNumbers f)) → at′ ≡ at + 40
         → Octets part → length part % 10 ≡ 0 → u ≡ over t at′ part → u ≡ over s at (writeFrame to (rrep f (numberedIn part)))
     rrep-written f ne te ae octets whole ue =
-        finished (rrep f (numberedIn part)) n (addresses-many ne) te ae
+        finished (rrep f (numberedIn part)) n (addresses-counted ne) te ae
         (ue ∙ ap (over t at′) (sym (addresses-made part (length part / 10) octets (omega arith))))
 
     pub rerr-listed : (flags : ℕ) → n ≡ length part / 10 → t ≡ over s at (frameStart to Rerr n (flags ∷ [])) → at′ ≡ at + 10
         → u ≡ over t at′ (flatMap numberedOctets (numberedIn part)) → u ≡ over s at (writeFrame to (rerr flags (numberedIn part)))
-    rerr-listed flags ne te ae = finished (rerr flags (numberedIn part)) n (addresses-many ne) te ae
+    rerr-listed flags ne te ae = finished (rerr flags (numberedIn part)) n (addresses-counted ne) te ae
 
 -- ---- entries one by one, by what is left to write: g is the whole
 

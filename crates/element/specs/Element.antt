@@ -20,14 +20,14 @@ abbrev pub kindOf : Element → Kind
 kindOf (rann p) = Rann
 kindOf (rreq f targets) = Rreq
 kindOf (rrep f dependents) = Rrep
-kindOf (rerr flags lost) = Rerr
+kindOf (rerr flags destinations) = Rerr
 
 -- N, the number of entries in the list
 abbrev pub countOf : Element → ℕ
 countOf (rann p) = 0
 countOf (rreq f targets) = length targets
 countOf (rrep f dependents) = length dependents
-countOf (rerr flags lost) = length lost
+countOf (rerr flags destinations) = length destinations
 
 -- ---- the numbers of fields, in the order of the octets
 
@@ -58,4 +58,4 @@ abbrev pub fieldNumbers : Element → List ℕ
 fieldNumbers (rann p) = rannNumbers p
 fieldNumbers (rreq f targets) = rreqNumbers f
 fieldNumbers (rrep f dependents) = rrepNumbers f
-fieldNumbers (rerr flags lost) = flags ∷ []
+fieldNumbers (rerr flags destinations) = flags ∷ []

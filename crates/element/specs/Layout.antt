@@ -1,7 +1,7 @@
 -- 'Element octets' of document 01: for each type the ID, the Length with N entries, how many there may be, and the widths
 -- of the fields. Assumes nothing.
 use Prim.Native.Nat.{ℕ, _+_, _*_}
-use mathlib.Core.Bool.{Bool, _&&_, cond}
+use mathlib.Core.Bool.{Bool, _&&_, _||_, cond}
 use mathlib.Core.List.{List, [], _∷_}
 use lib.Dec.{eqb, leb}
 use Rattle.element.specs.declared.Kind.{Kind}
@@ -13,7 +13,10 @@ idOf Rreq = 130
 idOf Rrep = 131
 idOf Rerr = 132
 
--- the type with this ID; any other number is not the ID of what this gives
+unfoldable pub known : ℕ → Bool
+known id = eqb id 126 || eqb id 130 || eqb id 131 || eqb id 132
+
+-- the type with this ID, where it is known
 unfoldable pub kindWith : ℕ → Kind
 kindWith id = cond (eqb id 126) Rann (cond (eqb id 130) Rreq (cond (eqb id 131) Rrep Rerr))
 

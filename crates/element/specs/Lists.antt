@@ -1,4 +1,5 @@
--- The addresses in a list part, and what can be wrong with them: refusals 9 and 10. Assumes nothing.
+-- The addresses in a list part, and what can be wrong with them: what refusals 9 and 10 ask of destinations. Dependents of
+-- a RREP have entries like those of a RERR, but are passed on unread. Assumes nothing.
 use Prim.Native.Nat.{ℕ, _-_, _/_, _^_}
 use mathlib.Core.Bool.{Bool, false, _&&_, _||_, not}
 use mathlib.Core.List.{List, [], _∷_}
@@ -36,7 +37,7 @@ addressesIn k part = addressesFrom k part 0
 abbrev pub allOnes : Address
 allOnes = record { 0 = 2 ^ 48 - 1 }
 
--- an address of such a list is individual; as a RREQ destination all ones is allowed too
+-- a destination is individual; as a RREQ destination all ones is allowed too
 unfoldable pub allowed : ListKind → Address → Bool
 allowed Targets a = individual a || same a allOnes
 allowed NumberedAddresses a = individual a

@@ -14,7 +14,7 @@ use Rattle.element.specs.declared.RrepFields.{RrepFields}
 use Rattle.element.specs.declared.read.Reading.{Reading}
 use Rattle.element.specs.declared.read.Reading.the-variants.{Announcement, Request, Reply, Error, Refused}
 use Rattle.element.specs.Element.{Element, rann, rreq, rrep, rerr, kindOf, countOf, fieldNumbers}
-use Rattle.element.specs.Layout.{idOf, kindWith, lengthWith, fits, fieldWidths}
+use Rattle.element.specs.Layout.{idOf, kindWith, known, lengthWith, fits, fieldWidths}
 use Rattle.element.specs.Entries.{numberedOctets, numberedList, targetOctets, targetList}
 
 -- ---- turned away
@@ -23,7 +23,7 @@ use Rattle.element.specs.Entries.{numberedOctets, numberedList, targetOc
 abbrev pub kindIn : List ℕ → Kind
 kindIn s = kindWith (getD s 0 0)
 
--- N, the last octet before the list; octets that end before it have none, and no such Length fits
+-- N, the last octet before the list, of octets read as a type; where they end before it there is none, and no Length fits
 abbrev pub countAs : Kind → List ℕ → ℕ
 countAs Rann s = 0
 countAs Rreq s = getD s 27 0
@@ -36,7 +36,7 @@ wrongLength s = ltb (length s) 2 || not (eqb (2 + getD s 1 0) (length s))
 
 -- 7. another ID
 unfoldable pub otherId : List ℕ → Bool
-otherId s = not (eqb (idOf (kindIn s)) (getD s 0 0))
+otherId s = not (known (getD s 0 0))
 
 -- 8. Length doesn't fit type and count
 unfoldable pub misfit : List ℕ → Bool
@@ -92,7 +92,7 @@ abbrev pub fixedFields : Element → Reading
 fixedFields (rann p) = Announcement p
 fixedFields (rreq f targets) = Request f
 fixedFields (rrep f dependents) = Reply f
-fixedFields (rerr flags lost) = Error flags
+fixedFields (rerr flags destinations) = Error flags
 
 unfoldable pub reading : List ℕ → Reading
 reading s =
@@ -120,7 +120,7 @@ abbrev pub listOctets : Element → List ℕ
 listOctets (rann p) = []
 listOctets (rreq f targets) = flatMap targetOctets targets
 listOctets (rrep f dependents) = flatMap numberedOctets dependents
-listOctets (rerr flags lost) = flatMap numberedOctets lost
+listOctets (rerr flags destinations) = flatMap numberedOctets destinations
 
 unfoldable pub writeElement : Element → List ℕ
 writeElement e = fixedOctets (kindOf e) (countOf e) (fieldNumbers e) ++ listOctets e

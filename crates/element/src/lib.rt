@@ -35,7 +35,7 @@ pub struct NumberedAddress {
     pub number: SequenceNumber,
 }
 
-// A destination of a RREQ.
+// A destination of a RREQ, with its own flags: a target, as the later standard calls it.
 pub struct Target {
     pub flags: u8,
     pub address: Address,

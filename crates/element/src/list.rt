@@ -1,5 +1,5 @@
-// The list part of an element: its entries by index, and what can be wrong with their addresses. A list has at most 25
-// entries, so all of this is by plain scans.
+// The list part of an element: its entries by index, and what can be wrong with the addresses of destinations. A list has
+// at most 25 entries, so all of this is by plain scans.
 use crate::NumberedAddress;
 use crate::Target;
 use counters::SequenceNumber;
@@ -9,6 +9,8 @@ ghost use Prim.Native.Nat.{_+_, _*_, _<_, _≤_};
 ghost use lib.ListN.{length};
 ghost use Rattle.element.specs.Entries.{numberedAt, targetAt};
 ghost use Rattle.element.specs.Lists.{addressIn, addressesFrom, addressesIn, allowed, among, anyForbidden, entriesIn, onesBesideOthers, twice};
+
+const ALL_ONES: u64 = 281474976710655;
 
 // What the entries are: destinations of a RREQ; or dependents of a RREP and destinations of a RERR.
 pub enum ListKind {
@@ -63,12 +65,12 @@ fn is_allowed(kind: ListKind, address: Address) -> bool
     ensures { λ r. ⌜ r ≡ allowed kind address ⌝ }
 {
     match kind {
-        ListKind::Targets => address.is_individual() | (address.0 == 281474976710655),
+        ListKind::Targets => address.is_individual() | (address.0 == ALL_ONES),
         ListKind::NumberedAddresses => address.is_individual(),
     }
 }
 
-// Whether some address may not stand in such a list.
+// Whether some address may not be a destination in such a list.
 pub fn has_forbidden(part: &[u8], kind: ListKind) -> bool
     ensures { λ r. ⌜ r ≡ anyForbidden kind (addressesIn kind (now (part .entry))) ⌝ }
 {
@@ -121,5 +123,5 @@ pub fn has_twice(part: &[u8], kind: ListKind) -> bool
 pub fn has_ones_beside_others(part: &[u8], kind: ListKind) -> bool
     ensures { λ r. ⌜ r ≡ onesBesideOthers (addressesIn kind (now (part .entry))) ⌝ }
 {
-    is_among(part, kind, Address(281474976710655)) & (1 < entries_in(part, kind))
+    is_among(part, kind, Address(ALL_ONES)) & (1 < entries_in(part, kind))
 }

@@ -11,14 +11,14 @@ use counters::SequenceNumber;
 use table::address::Address;
 ghost use mathlib.Core.Path.{_≡_};
 ghost use mathlib.Core.List.{[], _++_, _∷_};
-ghost use Prim.Native.Nat.{_+_, _<_, _≤_};
+ghost use Prim.Native.Nat.{_+_, _≤_};
 ghost use lib.ListN.{getD, length};
 ghost use Rattle.octets.specs.LittleEndian.{fieldsAt};
 ghost use Rattle.element.specs.Layout.{countOk, fits, idOf, kindWith, lengthWith};
 ghost use Rattle.element.specs.Octets.{countAs, fieldsAs, fixedFields, kindIn, listPart, pathFrom, readAs, reading, rrepFrom, rreqFrom, wrongLength};
 ghost use Rattle.element.specs.declared.Kind.{Kind};
 
-// The fixed fields of an element, or a refusal. What follows them is `list_part`.
+// The fixed fields of an element, of an error its flags; or a refusal. What follows them is `list_part`.
 pub enum Reading {
     Announcement(PathInfo),
     Request(RreqFields),
@@ -27,6 +27,7 @@ pub enum Reading {
     Refused(u32),
 }
 
+// Of an ID that is not known this is `Rerr`, whose ID it is not; `read` tests that.
 fn kind_with(id: u8) -> Kind
     ensures { λ r. ⌜ r ≡ kindWith id ⌝ }
 {
@@ -116,7 +117,6 @@ fn fits_kind(element: &[u8], kind: Kind) -> bool
 
 // Flags, hop count and TTL, and the path with its subject at place at.
 fn read_path(element: &[u8], at: usize) -> PathInfo
-    requires { ⌜ 5 ≤ at ⌝ }
     requires { ⌜ at + 18 ≤ length (now element) ⌝ }
     ensures { λ r. ⌜ r ≡ pathFrom (fieldsAt (1 ∷ 1 ∷ 1 ∷ []) (now (element .entry)) 2 0 ++ fieldsAt (6 ∷ 4 ∷ 4 ∷ 4 ∷ []) (now (element .entry)) at 0) 3 ⌝ }
 {
@@ -171,7 +171,7 @@ pub fn read(element: &[u8]) -> Reading
     }
     let id = octets::read_u8(element, 0);
     let kind = kind_with(id);
-    if id_of(kind) != id {
+    if id != id_of(kind) {
         return Reading::Refused(7);
     }
     if !fits_kind(element, kind) {
@@ -180,16 +180,13 @@ pub fn read(element: &[u8]) -> Reading
     read_fixed_fields(element, kind)
 }
 
-// Where the list of an element of this type begins.
-fn list_start(kind: Kind) -> usize
-    ensures { λ r. ⌜ r ≡ 2 + lengthWith kind 0 ⌝ }
+// Where the list begins: after what an element of this type has without entries.
+fn list_start(element: &[u8]) -> usize
+    requires { ⌜ 1 ≤ length (now element) ⌝ }
+    ensures { λ r. ⌜ r ≡ 2 + lengthWith (kindIn (now (element .entry))) 0 ⌝ }
 {
-    match kind {
-        Kind::Rann => 23,
-        Kind::Rreq => 28,
-        Kind::Rrep => 34,
-        Kind::Rerr => 4,
-    }
+    let kind = kind_with(octets::read_u8(element, 0));
+    2 + length_with(kind, 0) as usize
 }
 
 // The entries of an element that was read, as that part of the caller's octets; empty for a RANN.
@@ -197,6 +194,6 @@ pub fn list_part(element: &[u8]) -> &[u8]
     requires { ⌜ 2 + lengthWith (kindIn (now element)) 0 ≤ length (now element) ⌝ }
     ensures { λ r. ⌜ now r ≡ listPart (now (element .entry)) ⌝ }
 {
-    let start = list_start(kind_with(octets::read_u8(element, 0)));
+    let start = list_start(element);
     &element[start..]
 }

@@ -8,7 +8,7 @@ use crate::Target;
 use table::address::Address;
 ghost use mathlib.Core.Path.{_≡_};
 ghost use mathlib.Core.List.{[], _++_, _∷_};
-ghost use Prim.Native.Nat.{_+_, _*_, _%_, _/_, _≤_};
+ghost use Prim.Native.Nat.{_+_, _%_, _≤_};
 ghost use lib.ListN.{length};
 ghost use Rattle.octets.specs.LittleEndian.{fieldOctets, numberOctets, over, total};
 ghost use Rattle.element.specs.declared.Kind.{Kind};
@@ -28,7 +28,7 @@ fn start_frame(out: &mut [u8], at: usize, to: Address, widths: &[u8], numbers: &
 
 // ---- RANN
 
-// The numbers of a fixed part, from ID to N, in the order of the octets; so for each type.
+// The numbers of the fixed part, ID and Length first, in the order of the octets; so for each type.
 pub fn rann_numbers(p: PathInfo) -> [u64; 9]
     ensures { λ r. ⌜ r ≡ fixedNumbers Kind.Rann 0 (rannNumbers p) ⌝ }
 {
@@ -79,8 +79,9 @@ pub fn rreq_numbers(f: RreqFields, n: usize) -> [u64; 11]
     ]
 }
 
-// A RREQ with n destinations as far as these; `write_target` writes each.
+// A RREQ with n destinations up to its list; `write_target` writes each of these.
 pub fn start_rreq(out: &mut [u8], at: usize, to: Address, f: RreqFields, n: usize) -> usize
+    requires { ⌜ 1 ≤ n ⌝ }
     requires { ⌜ n ≤ 20 ⌝ }
     requires { ⌜ at + 34 ≤ length (now out) ⌝ }
     ensures { λ r. ⌜ r ≡ at + 34 ⌝ }
@@ -109,6 +110,7 @@ pub fn write_target(out: &mut [u8], at: usize, target: Target) -> usize
 
 // A RREQ with the destinations of a lent list part, as they are.
 pub fn write_rreq(out: &mut [u8], at: usize, to: Address, f: RreqFields, part: &[u8]) -> usize
+    requires { ⌜ 11 ≤ length (now part) ⌝ }
     requires { ⌜ length (now part) ≤ 220 ⌝ }
     requires { ⌜ length (now part) % 11 ≡ 0 ⌝ }
     requires { ⌜ at + 34 + length (now part) ≤ length (now out) ⌝ }
@@ -145,7 +147,7 @@ pub fn rrep_numbers(f: RrepFields, n: usize) -> [u64; 12]
     ]
 }
 
-// A RREP with n dependents as far as these; a reply of one's own has none.
+// A RREP with n dependents up to its list; a reply of one's own has none.
 pub fn start_rrep(out: &mut [u8], at: usize, to: Address, f: RrepFields, n: usize) -> usize
     requires { ⌜ n ≤ 22 ⌝ }
     requires { ⌜ at + 40 ≤ length (now out) ⌝ }
@@ -181,8 +183,9 @@ pub fn rerr_numbers(flags: u8, n: usize) -> [u64; 4]
     [132, 2 + 10 * count, flags as u64, count]
 }
 
-// A RERR with n destinations as far as these; `write_numbered` writes each.
+// A RERR with n destinations up to its list; `write_numbered` writes each of these.
 pub fn start_rerr(out: &mut [u8], at: usize, to: Address, flags: u8, n: usize) -> usize
+    requires { ⌜ 1 ≤ n ⌝ }
     requires { ⌜ n ≤ 25 ⌝ }
     requires { ⌜ at + 10 ≤ length (now out) ⌝ }
     ensures { λ r. ⌜ r ≡ at + 10 ⌝ }

@@ -48,6 +48,6 @@ total (w ∷ ws) = w + total ws
 abbrev pub zeros : ℕ → List ℕ
 zeros n = replicate n 0
 
--- every element is an octet
+-- every number in the list is an octet
 unfoldable pub Octets : List ℕ → Type 0
 Octets s = (k : ℕ) → getD s k 0 < 256

@@ -70,7 +70,7 @@ pub fn write_fields(s: &mut [u8], at: usize, widths: &[u8], values: &[u64])
     }
 }
 
-// An octet, and that all are octets.
+// The octet at a place. Through the cast it is known that each of them is below 256.
 fn octet(s: &[u8], at: usize) -> u8
     requires { ⌜ at < length (now s) ⌝ }
     ensures { λ r. ⌜ r ≡ getD (now (s .entry)) at 0 ⌝ }

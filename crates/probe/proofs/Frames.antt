@@ -111,15 +111,15 @@ module _ (k : ListKind) (a : Address) (l : List Address) where
   faults-summed w x y z c d e f ce de ee fe we xe ye ze = rw (we, xe, ye, ze, ce, de, ee, fe) refl
 
 module _ (s : List ℕ) (a : Address) (r : Reading) (re : r ≡ reading s) where
-  pub no-faults-rann : (p : PathInfo) → r ≡ Announcement p → 0 ≡ faultsIn s a
-  unfolding faultsIn
-  no-faults-rann p e = rw (← re, e) refl
-
   pub no-faults-refused : (n : ℕ) → r ≡ Refused n → 0 ≡ faultsIn s a
   unfolding faultsIn
   no-faults-refused n e = rw (← re, e) refl
 
   module _ (b : Address) (be : b ≡ a) (x : ℕ) (part : List ℕ) (pe : part ≡ listPart s) where
+    pub faults-rann : (p : PathInfo) → r ≡ Announcement p → x ≡ faults NumberedAddresses b (addressesIn NumberedAddresses part) → x ≡ faultsIn s a
+    unfolding faultsIn
+    faults-rann p e xe = rw (xe, be, ← re, e, pe) refl
+
     pub faults-rreq : (f : RreqFields) → r ≡ Request f → x ≡ faults Targets b (addressesIn Targets part) → x ≡ faultsIn s a
     unfolding faultsIn
     faults-rreq f e xe = rw (xe, be, ← re, e, pe) refl

@@ -43,7 +43,7 @@ readNumbers s numbers = unlessRefused (reading s) numbers (record { answer = 0; 
 
 -- ---- an element written again
 
--- octets written from place at on, or 2 if they do not fit in there
+-- octets written from place at on, or 2 if they do not fit in there (a call asks of its output at once what it may need)
 unfoldable pub written : List ℕ → ℕ → List ℕ → Probed
 written out at p = cond (leb (at + length p) (length out)) (record { answer = 0; memory = over out at p }) (record { answer = 2; memory = out })
 
@@ -57,7 +57,7 @@ abbrev pub faults : ListKind → Address → List Address → ℕ
 faults k a l = cond (anyForbidden k l) 1 0 + cond (twice l) 2 0 + cond (onesBesideOthers l) 4 0 + cond (among a l) 8 0
 
 abbrev pub faultsRead : Reading → List ℕ → Address → ℕ
-faultsRead (Announcement p) part a = 0
+faultsRead (Announcement p) part a = faults NumberedAddresses a (addressesIn NumberedAddresses part)
 faultsRead (Request f) part a = faults Targets a (addressesIn Targets part)
 faultsRead (Reply f) part a = faults NumberedAddresses a (addressesIn NumberedAddresses part)
 faultsRead (Error flags) part a = faults NumberedAddresses a (addressesIn NumberedAddresses part)

@@ -7,7 +7,7 @@ use element::write;
 use table::address::Address;
 ghost use mathlib.Core.Path.{_≡_};
 ghost use mathlib.Core.List.{flatMap};
-ghost use Prim.Native.Nat.{_+_, _/_, _%_, _≤_};
+ghost use Prim.Native.Nat.{_+_, _%_, _≤_};
 ghost use lib.Dec.{leb};
 ghost use lib.ListN.{length};
 ghost use Rattle.octets.specs.LittleEndian.{over};
@@ -64,6 +64,7 @@ pub fn write_rann(out: &mut [u8], at: usize, to: Address, path: PathInfo) -> u32
 
 // Its destinations from the lent list part.
 pub fn write_rreq(out: &mut [u8], at: usize, to: Address, f: RreqFields, part: &[u8]) -> u32
+    requires { ⌜ 11 ≤ length (now part) ⌝ }
     requires { ⌜ length (now part) ≤ 220 ⌝ }
     requires { ⌜ length (now part) % 11 ≡ 0 ⌝ }
     ensures { λ r. ⌜ record { answer = r; memory = now (out .exit) } ≡ written (now (out .entry)) at (writeFrame to (rreq f (targetsIn (now (part .entry))))) ⌝ }
@@ -77,6 +78,7 @@ pub fn write_rreq(out: &mut [u8], at: usize, to: Address, f: RreqFields, part: &
 
 // Its destinations one by one.
 pub fn write_rreq_singly(out: &mut [u8], at: usize, to: Address, f: RreqFields, part: &[u8]) -> u32
+    requires { ⌜ 11 ≤ length (now part) ⌝ }
     requires { ⌜ length (now part) ≤ 220 ⌝ }
     requires { ⌜ length (now part) % 11 ≡ 0 ⌝ }
     ensures { λ r. ⌜ record { answer = r; memory = now (out .exit) } ≡ written (now (out .entry)) at (writeFrame to (rreq f (targetsIn (now (part .entry))))) ⌝ }
@@ -102,6 +104,7 @@ pub fn write_rrep(out: &mut [u8], at: usize, to: Address, f: RrepFields, part: &
 }
 
 pub fn write_rerr(out: &mut [u8], at: usize, to: Address, flags: u8, part: &[u8]) -> u32
+    requires { ⌜ 10 ≤ length (now part) ⌝ }
     requires { ⌜ length (now part) ≤ 250 ⌝ }
     requires { ⌜ length (now part) % 10 ≡ 0 ⌝ }
     ensures { λ r. ⌜ record { answer = r; memory = now (out .exit) } ≡ written (now (out .entry)) at (writeFrame to (rerr flags (numberedIn (now (part .entry))))) ⌝ }

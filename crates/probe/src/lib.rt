@@ -43,6 +43,7 @@ fn write_rreq(
     part: &[u8],
     singly: u32,
 ) -> u32
+    requires { ⌜ 11 ≤ length (now part) ⌝ }
     requires { ⌜ length (now part) ≤ 220 ⌝ }
     requires { ⌜ length (now part) % 11 ≡ 0 ⌝ }
     ensures { λ r. ⌜ record { answer = r; memory = now (out .exit) } ≡ written (now (out .entry)) at (writeFrame to (rreq f (targetsIn (now (part .entry))))) ⌝ }
@@ -97,14 +98,19 @@ fn faults_of(part: &[u8], kind: ListKind, address: Address) -> u32
         + value_if(list::is_among(part, kind, address), 8)
 }
 
-// What is wrong with the addresses of the list: a sum of 1, 2, 4 and 8, as the definition says.
+// What is wrong with the addresses of the list, as a sum: 1 one that may not be a destination, 2 one that stands twice, 4
+// all ones beside others, 8 the given address among them.
 #[no_mangle]
 pub extern "C" fn probe_faults(element: &[u8], address: &[u8; 6]) -> u32
     ensures { λ r. ⌜ r ≡ faultsIn (now (element .entry)) (addressOf (now (address .entry))) ⌝ }
 {
     let a = address::read(address);
     match read::read(element) {
-        Reading::Announcement(_) => 0,
+        Reading::Announcement(_) => faults_of(
+            read::list_part(element),
+            ListKind::NumberedAddresses,
+            a,
+        ),
         Reading::Request(_) => faults_of(read::list_part(element), ListKind::Targets, a),
         Reading::Reply(_) => faults_of(read::list_part(element), ListKind::NumberedAddresses, a),
         Reading::Error(_) => faults_of(read::list_part(element), ListKind::NumberedAddresses, a),

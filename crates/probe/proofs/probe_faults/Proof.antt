@@ -1,7 +1,7 @@
 -- `probe::probe_faults` meets its contract: answer by answer of the reader. Assumes nothing.
 use borrow.Author.Needs.{needs}
-use Rattle.element.proofs.Readings.{request-room, reply-room, error-room}
-use Rattle.probe.proofs.Frames.{no-faults-rann, no-faults-refused, faults-rreq, faults-rrep, faults-rerr}
+use Rattle.element.proofs.Readings.{announcement-room, request-room, reply-room, error-room}
+use Rattle.probe.proofs.Frames.{no-faults-refused, faults-rann, faults-rreq, faults-rrep, faults-rerr}
 use Rattle.probe.proofs.probe_faults.Statement.{statement}
 use Rattle.probe.proofs.probe_faults.Tie as tie
 
@@ -12,6 +12,8 @@ probe-faults-spec =
     (λ c κs. search needs)
     (λ c κs. search needs)
     (λ c. search needs)
+    (λ c κs. search announcement-room)
+    (λ c κs. search needs)
     (λ c. search needs)
     (λ c κs. search request-room)
     (λ c κs. search needs)
@@ -22,7 +24,7 @@ probe-faults-spec =
     (λ c κs. search error-room)
     (λ c κs. search needs)
     (λ c. search needs)
-    (λ c. search no-faults-rann)
+    (λ c. search faults-rann)
     (λ c. search faults-rreq)
     (λ c. search faults-rrep)
     (λ c. search faults-rerr)

@@ -1,6 +1,6 @@
--- `element::read::list_part` meets its contract: what is left after the fixed part. Assumes nothing.
+-- `element::read::list_part` meets its contract: what is left from there on. Assumes nothing.
 use borrow.Author.Needs.{needs}
-use Rattle.element.proofs.Cases.{id-there, start-within, list-left}
+use Rattle.element.proofs.Cases.{list-left}
 use Rattle.element.proofs.read.list_part.Statement.{statement}
 use Rattle.element.proofs.read.list_part.Tie as tie
 
@@ -8,10 +8,8 @@ pub list-part-spec : {M : Type 1} → statement M
 list-part-spec =
     tie.close
     (tie.spec
-    (λ c κs. search (needs, id-there))
     (λ c κs. search needs)
-    (λ c κs. search needs)
-    (λ c. search (needs, start-within))
-    (λ c. search (needs, start-within))
+    (λ c. search needs)
+    (λ c. search needs)
     (λ c. search needs)
     (λ c. search list-left))

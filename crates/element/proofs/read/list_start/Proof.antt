@@ -1,5 +1,6 @@
--- `element::read::list_start` meets its contract: type by type. Assumes nothing.
+-- `element::read::list_start` meets its contract: the Length of its type without entries, and two. Assumes nothing.
 use borrow.Author.Needs.{needs}
+use Rattle.element.proofs.Cases.{starts-there}
 use Rattle.element.proofs.read.list_start.Statement.{statement}
 use Rattle.element.proofs.read.list_start.Tie as tie
 
@@ -7,11 +8,9 @@ pub list-start-spec : {M : Type 1} → statement M
 list-start-spec =
     tie.close
     (tie.spec
+    (λ c κs. search needs)
+    (λ c κs. search needs)
+    (λ c κs. search needs)
     (λ c. search needs)
     (λ c. search needs)
-    (λ c. search needs)
-    (λ c. search needs)
-    (λ c. cc)
-    (λ c. cc)
-    (λ c. cc)
-    (λ c. cc))
+    (λ c. search starts-there))

@@ -13,7 +13,7 @@ write-rerr-spec =
     (λ c κs. search needs)
     (λ c. search needs)
     (λ c. search (no-room, rerr-size))
-    (λ c κs. search (needs, start-room))
+    (λ c κs. (search needs, (search needs, search start-room)))
     (λ c κs. search (needs, list-room))
     (λ c. search needs)
     (λ c. search (wrote, rerr-size, rerr-listed)))

@@ -12,6 +12,6 @@ write-rreq-spec =
     (λ c κs. search needs)
     (λ c. search needs)
     (λ c. search (no-room, rreq-size))
-    (λ c κs. search (needs, whole-room))
+    (λ c κs. (search needs, (search needs, (search needs, search whole-room))))
     (λ c. search needs)
     (λ c. search (wrote, rreq-size)))

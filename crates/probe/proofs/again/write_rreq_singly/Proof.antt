@@ -13,7 +13,7 @@ write-rreq-singly-spec =
     (λ c κs. search needs)
     (λ c. search needs)
     (λ c. search (no-room, rreq-size))
-    (λ c κs. search (needs, start-room))
+    (λ c κs. (search needs, (search needs, search start-room)))
     (λ c κs. search (needs, list-room))
     (λ c. search needs)
     (λ c. search (wrote, rreq-size, rreq-listed)))
