@@ -8,7 +8,7 @@ use hwmp_tests::tables;
 /// The last clock, so that no table is ahead of it.
 const CLOCK: u64 = (1 << 48) - 1;
 
-/// Several tables in turn, so that the branches taken are not learned by heart.
+/// Several tables in turn, so that the processor cannot predict every branch.
 const TABLES: usize = 8;
 
 pub struct Input {

@@ -9,7 +9,7 @@ use hwmp_tests::tables;
 
 use crate::timing::Call;
 
-/// Several elements in turn, so that the branches taken are not learned by heart.
+/// Several elements in turn, so that the processor cannot predict every branch.
 const ELEMENTS: usize = 8;
 
 /// What every point's output has at least.

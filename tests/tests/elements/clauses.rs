@@ -52,9 +52,9 @@ fn p3_lengths_of_a_rreq() {
     refused(&rreq(37, 2), 8);
     refused(&rreq(246, 19), 8);
     refused(&rreq(246, 21), 8);
-    // 001 counts one octet more.
+    // The draft has 27 + 11N.
     refused(&rreq(38, 1), 8);
-    // Length 257 would be 259 octets; no octet says so, 1 and 255 being the nearest.
+    // No octet can say 257, so 259 octets are refused whatever it says.
     for length in 0..=255 {
         let mut long = zeros(130, 255, Some((27, 21)));
         long.resize(259, 0);

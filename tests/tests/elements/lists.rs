@@ -1,6 +1,6 @@
-//! The faults of a list by refusals 9 and 10 of document 01, worked out by hand and asked of
-//! the library and the reference alike. The dependents of a RREP are judged as the
-//! destinations of a RERR are.
+//! The faults of a list of destinations by refusals 9 and 10 of document 01, worked out by
+//! hand and asked of the library and the reference alike. Document 01 asks nothing of the
+//! dependents of a RREP; judged as a RERR's destinations they test the function once more.
 
 use crate::asking::BOTH;
 

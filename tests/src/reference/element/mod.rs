@@ -75,7 +75,8 @@ impl<'a> Element<'a> {
         }
     }
 
-    /// Writes receiver and element into the output, from place `at` on.
+    /// Writes receiver and element into the output, from place `at` on. Refused as an output
+    /// too short if they do not fit there; a call judges its output once, and before this.
     pub fn write(
         &self,
         to: Address,

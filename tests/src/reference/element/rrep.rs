@@ -89,7 +89,8 @@ impl<'a> Rrep<'a> {
         lay_fixed(element, fixed).copy_from_slice(self.list());
     }
 
-    /// The dependents judged as the destinations of a RERR would be.
+    /// The dependents judged as the destinations of a RERR would be, for the comparison
+    /// alone: document 01 leaves them unread.
     pub(super) fn faults(&self, given: Address) -> u32 {
         list::faults_of_individuals(self.dependents(), given)
     }
