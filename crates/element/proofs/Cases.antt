@@ -5,7 +5,7 @@ use mathlib.Core.Path.{_≡_, refl, sym, ap, _∙_}
 use mathlib.Core.Bool.{Bool, true, false, _&&_, _||_, not, cond}
 use mathlib.Core.List.{List, [], _∷_, _++_}
 use lib.Dec.{eqb, ltb}
-use lib.ListN.{length, getD, take, drop, length-drop, List·getD-eq-default}
+use lib.ListN.{length, getD, take, drop, length-drop, drop-of-length-le, List·getD-eq-default}
 use lib.Seq.{take-all}
 use native.Mathlib.Omega.{arith}
 use native.Mathlib.Nat.{add-zero}
@@ -153,16 +153,6 @@ module _ (s : List ℕ) (k : Kind) (h : 2 + lengthWith k 0 ≤ length s) where
   pub rerr-there : k ≡ Rerr → 2 + 1 ≤ length s
   rerr-there e = let l = rw e at h in omega arith
 
--- ---- the list part
-
-module _ (s : List ℕ) where
-  pub starts-there : (id : ℕ) → id ≡ numberAt 1 s 0 → (k : Kind) → k ≡ kindWith id → (long : ℕ) → long ≡ lengthWith k 0 → 2 + long ≡ 2 + lengthWith (kindIn s) 0
-  starts-there id ide k ke long le = ap (λ (l : ℕ). 2 + l) (le ∙ ap (λ (j : Kind). lengthWith j 0) (ke ∙ ap kindWith (ide ∙ one-octet s 0)))
-
-  pub list-left : (start : ℕ) → start ≡ 2 + lengthWith (kindIn s) 0 → take (length s - start) (drop start s) ≡ listPart s
-  unfolding listPart
-  list-left start e = take-all (length s - start) (drop start s) (rw (length-drop start s) (omega arith)) ∙ ap (λ (n : ℕ). drop n s) e
-
 module _ (s : List ℕ) where
   pub path-read : (at : ℕ) {a b c d e f g : ℕ}
       → a ≡ numberAt 1 s 2 → b ≡ numberAt 1 s 3 → c ≡ numberAt 1 s 4
@@ -188,3 +178,18 @@ module _ (s : List ℕ) where
     pub rerr-flags : k ≡ Rerr → (x : ℕ) → x ≡ numberAt 1 s 2 → Error x ≡ fixedFields (readAs k s)
     unfolding readAs fieldsAt
     rerr-flags ke x e = rw (ke, e) refl
+
+-- ---- the list part
+
+module _ (s : List ℕ) where
+  pub starts-there : (id : ℕ) → id ≡ getD s 0 0 → (k : Kind) → k ≡ kindWith id → (long : ℕ) → long ≡ lengthWith k 0 → 2 + long ≡ 2 + lengthWith (kindIn s) 0
+  starts-there id ide k ke long le = rw (le, ke, ide) refl
+
+  module _ (start : ℕ) (e : start ≡ 2 + lengthWith (kindIn s) 0) where
+    pub list-beyond : length s < start → [] ≡ listPart s
+    unfolding listPart
+    list-beyond l = sym (drop-of-length-le s {i = 2 + lengthWith (kindIn s) 0} (omega arith))
+
+    pub list-left : take (length s - start) (drop start s) ≡ listPart s
+    unfolding listPart
+    list-left = take-all (length s - start) (drop start s) (rw (length-drop start s) (omega arith)) ∙ ap (λ (n : ℕ). drop n s) e

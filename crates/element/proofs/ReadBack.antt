@@ -29,7 +29,7 @@ abbrev pub EntriesFit : Element → Type 0
 EntriesFit (rann p) = Unit {0}
 EntriesFit (rreq f targets) = All FitsTarget targets
 EntriesFit (rrep f dependents) = All FitsNumbered dependents
-EntriesFit (rerr flags lost) = All FitsNumbered lost
+EntriesFit (rerr flags destinations) = All FitsNumbered destinations
 
 -- the fields and the entries fit their widths, and there are as many entries as there may be
 pub record Fits (e : Element) : Type 0 where
@@ -60,14 +60,14 @@ unfolding writeElement fixedOctets fieldOctets numberOctets
 count-there (rann p) = refl
 count-there (rreq f targets) = refl
 count-there (rrep f dependents) = refl
-count-there (rerr flags lost) = refl
+count-there (rerr flags destinations) = refl
 
 kind-there : (e : Element) → kindIn (writeElement e) ≡ kindOf e
 unfolding writeElement fixedOctets kindWith
 kind-there (rann p) = refl
 kind-there (rreq f targets) = refl
 kind-there (rrep f dependents) = refl
-kind-there (rerr flags lost) = refl
+kind-there (rerr flags destinations) = refl
 
 -- ---- what is written is read back
 
@@ -75,7 +75,7 @@ made : (e : Element) → EntriesFit e → elementAs (kindOf e) (fieldNumbers e) 
 made (rann p) f = refl
 made (rreq g targets) f = ap (rreq g) (targets-read targets f)
 made (rrep g dependents) f = ap (rrep g) (addresses-read dependents f)
-made (rerr flags lost) f = ap (rerr flags) (addresses-read lost f)
+made (rerr flags destinations) f = ap (rerr flags) (addresses-read destinations f)
 
 pub read-back : (e : Element) → Fits e → readElement (writeElement e) ≡ e
 unfolding readElement readAs
@@ -134,7 +134,7 @@ list-octets : (e : Element) → Octets (listOctets e)
 list-octets (rann p) = octets-nil
 list-octets (rreq f targets) = targets-octets targets
 list-octets (rrep f dependents) = addresses-octets dependents
-list-octets (rerr flags lost) = addresses-octets lost
+list-octets (rerr flags destinations) = addresses-octets destinations
 
 count-octets : (k : Kind) (n : ℕ) → n < 256 → Octets (countPart k n)
 count-octets Rann n l = octets-nil

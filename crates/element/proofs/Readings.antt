@@ -119,9 +119,6 @@ module _ (s : List ℕ) (r : Reading) (re : r ≡ reading s) (q : Reading) (e : 
   read-so : Accepted s (kindRead q) r
   read-so = subst (λ (p : Reading). Accepted s (kindRead p) r) e (accepted s r re (ap isRefused e ∙ no-refusal))
 
-  list-room : 2 + lengthWith (kindIn s) 0 ≤ length s
-  list-room = rw (read-so .kind) (omega (arith, read-so .passes .size, least-length (kindRead q) (countAs (kindRead q) s)))
-
   module _ (part : List ℕ) (pe : part ≡ listPart s) where
     part-is : part ≡ drop (2 + lengthWith (kindRead q) 0) s
     unfolding listPart
@@ -145,12 +142,9 @@ module _ (s : List ℕ) (r : Reading) (re : r ≡ reading s) (q : Reading) (e : 
   fields-are : q ≡ fixedFields (readAs (kindRead q) s)
   fields-are = sym e ∙ read-so .fields
 
--- which are then the fields of the answer: by the injectivity of its case
+-- answer by answer; that its fields are those of the element follows from its case (`cc`)
 module _ (s : List ℕ) (r : Reading) (re : r ≡ reading s) where
   module _ (p : PathInfo) (e : r ≡ Announcement p) where
-    pub announcement-room : 2 + lengthWith (kindIn s) 0 ≤ length s
-    announcement-room = list-room s r re (Announcement p) e refl
-
     -- the list part of a RANN is empty
     pub announcement-list : listPart s ≡ []
     announcement-list = length-nil (listPart s) (omega (arith, entries s r re (Announcement p) e refl (listPart s) refl))
@@ -162,9 +156,6 @@ module _ (s : List ℕ) (r : Reading) (re : r ≡ reading s) where
         element-is s r re (Announcement p) e refl (listPart s) refl ∙ ap rann (cc)
 
   module _ (f : RreqFields) (e : r ≡ Request f) where
-    pub request-room : 2 + lengthWith (kindIn s) 0 ≤ length s
-    request-room = list-room s r re (Request f) e refl
-
     module _ (part : List ℕ) (pe : part ≡ listPart s) where
       -- it has as many entries as the count octet says
       pub request-entries : length part ≡ 11 * getD s 27 0
@@ -186,9 +177,6 @@ module _ (s : List ℕ) (r : Reading) (re : r ≡ reading s) where
           element-is s r re (Request f) e refl part pe ∙ ap (λ (g : RreqFields). rreq g (targetsIn part)) (cc)
 
   module _ (f : RrepFields) (e : r ≡ Reply f) where
-    pub reply-room : 2 + lengthWith (kindIn s) 0 ≤ length s
-    reply-room = list-room s r re (Reply f) e refl
-
     module _ (part : List ℕ) (pe : part ≡ listPart s) where
       -- it has as many entries as the count octet says
       pub reply-entries : length part ≡ 10 * getD s 33 0
@@ -207,9 +195,6 @@ module _ (s : List ℕ) (r : Reading) (re : r ≡ reading s) where
           element-is s r re (Reply f) e refl part pe ∙ ap (λ (g : RrepFields). rrep g (numberedIn part)) (cc)
 
   module _ (flags : ℕ) (e : r ≡ Error flags) where
-    pub error-room : 2 + lengthWith (kindIn s) 0 ≤ length s
-    error-room = list-room s r re (Error flags) e refl
-
     module _ (part : List ℕ) (pe : part ≡ listPart s) where
       -- it has as many entries as the count octet says
       pub error-entries : length part ≡ 10 * getD s 3 0

@@ -182,18 +182,19 @@ pub fn read(element: &[u8]) -> Reading
 
 // Where the list begins: after what an element of this type has without entries.
 fn list_start(element: &[u8]) -> usize
-    requires { ⌜ 1 ≤ length (now element) ⌝ }
     ensures { λ r. ⌜ r ≡ 2 + lengthWith (kindIn (now (element .entry))) 0 ⌝ }
 {
-    let kind = kind_with(octets::read_u8(element, 0));
+    let kind = kind_with(octet_or_zero(element, 0));
     2 + length_with(kind, 0) as usize
 }
 
-// The entries of an element that was read, as that part of the caller's octets; empty for a RANN.
+// The entries of an element, as that part of the caller's octets; empty for a RANN, and for octets that end before the list.
 pub fn list_part(element: &[u8]) -> &[u8]
-    requires { ⌜ 2 + lengthWith (kindIn (now element)) 0 ≤ length (now element) ⌝ }
     ensures { λ r. ⌜ now r ≡ listPart (now (element .entry)) ⌝ }
 {
     let start = list_start(element);
+    if element.len() < start {
+        return &element[..0];
+    }
     &element[start..]
 }

@@ -33,7 +33,7 @@ abbrev pub entryNumbers : Element → List ℕ
 entryNumbers (rann p) = []
 entryNumbers (rreq f targets) = flatMap targetNumbers targets
 entryNumbers (rrep f dependents) = flatMap numberedNumbers dependents
-entryNumbers (rerr flags lost) = flatMap numberedNumbers lost
+entryNumbers (rerr flags destinations) = flatMap numberedNumbers destinations
 
 unfoldable pub elementNumbers : Element → List ℕ
 elementNumbers e = fixedNumbers (kindOf e) (countOf e) (fieldNumbers e) ++ entryNumbers e

@@ -62,8 +62,15 @@ pub fn write_rann(out: &mut [u8], at: usize, to: Address, path: PathInfo) -> u32
     0
 }
 
-// Its destinations from the lent list part.
-pub fn write_rreq(out: &mut [u8], at: usize, to: Address, f: RreqFields, part: &[u8]) -> u32
+// Where singly is 0 its destinations are written from the lent list part, else one by one.
+pub fn write_rreq(
+    out: &mut [u8],
+    at: usize,
+    to: Address,
+    f: RreqFields,
+    part: &[u8],
+    singly: u32,
+) -> u32
     requires { ⌜ 11 ≤ length (now part) ⌝ }
     requires { ⌜ length (now part) ≤ 220 ⌝ }
     requires { ⌜ length (now part) % 11 ≡ 0 ⌝ }
@@ -72,19 +79,9 @@ pub fn write_rreq(out: &mut [u8], at: usize, to: Address, f: RreqFields, part: &
     if !has_room(out, at, 34 + part.len()) {
         return 2;
     }
-    write::write_rreq(out, at, to, f, part);
-    0
-}
-
-// Its destinations one by one.
-pub fn write_rreq_singly(out: &mut [u8], at: usize, to: Address, f: RreqFields, part: &[u8]) -> u32
-    requires { ⌜ 11 ≤ length (now part) ⌝ }
-    requires { ⌜ length (now part) ≤ 220 ⌝ }
-    requires { ⌜ length (now part) % 11 ≡ 0 ⌝ }
-    ensures { λ r. ⌜ record { answer = r; memory = now (out .exit) } ≡ written (now (out .entry)) at (writeFrame to (rreq f (targetsIn (now (part .entry))))) ⌝ }
-{
-    if !has_room(out, at, 34 + part.len()) {
-        return 2;
+    if singly == 0 {
+        write::write_rreq(out, at, to, f, part);
+        return 0;
     }
     let list = write::start_rreq(out, at, to, f, part.len() / 11);
     write_targets(out, list, part);

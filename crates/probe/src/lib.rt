@@ -3,7 +3,6 @@
 mod again;
 mod numbers;
 
-use element::RreqFields;
 use element::list;
 use element::list::ListKind;
 use element::read;
@@ -12,14 +11,10 @@ use table::address;
 use table::address::Address;
 ghost use mathlib.Core.Path.{_≡_};
 ghost use mathlib.Core.Bool.{cond};
-ghost use Prim.Native.Nat.{_%_, _≤_};
-ghost use lib.ListN.{length};
+ghost use Prim.Native.Nat.{_≤_};
 ghost use Rattle.table.specs.Address.{addressOf};
-ghost use Rattle.element.specs.Element.{rreq};
-ghost use Rattle.element.specs.Entries.{targetsIn};
 ghost use Rattle.element.specs.Lists.{addressesIn};
-ghost use Rattle.element.specs.Octets.{writeFrame};
-ghost use Rattle.probe.specs.Probes.{faults, faultsIn, readNumbers, written, writtenAgain};
+ghost use Rattle.probe.specs.Probes.{faults, faultsIn, readNumbers, writtenAgain};
 
 // Answers 6, 7 or 8, or 0 and writes the element's numbers in the order of its octets, entries too.
 #[no_mangle]
@@ -33,25 +28,6 @@ pub extern "C" fn probe_read(element: &[u8], numbers: &mut [u64; 71]) -> u32
         Reading::Error(flags) => numbers::put_rerr(numbers, flags, read::list_part(element)),
         Reading::Refused(n) => n,
     }
-}
-
-fn write_rreq(
-    out: &mut [u8],
-    at: usize,
-    to: Address,
-    f: RreqFields,
-    part: &[u8],
-    singly: u32,
-) -> u32
-    requires { ⌜ 11 ≤ length (now part) ⌝ }
-    requires { ⌜ length (now part) ≤ 220 ⌝ }
-    requires { ⌜ length (now part) % 11 ≡ 0 ⌝ }
-    ensures { λ r. ⌜ record { answer = r; memory = now (out .exit) } ≡ written (now (out .entry)) at (writeFrame to (rreq f (targetsIn (now (part .entry))))) ⌝ }
-{
-    if singly == 0 {
-        return again::write_rreq(out, at, to, f, part);
-    }
-    again::write_rreq_singly(out, at, to, f, part)
 }
 
 // Writes the element again as a frame from place at on. Answers 0; 6, 7 or 8; or 2 if it does not fit in there. Where singly
@@ -69,7 +45,14 @@ pub extern "C" fn probe_write(
     let receiver = address::read(to);
     match read::read(element) {
         Reading::Announcement(path) => again::write_rann(out, at, receiver, path),
-        Reading::Request(f) => write_rreq(out, at, receiver, f, read::list_part(element), singly),
+        Reading::Request(f) => again::write_rreq(
+            out,
+            at,
+            receiver,
+            f,
+            read::list_part(element),
+            singly,
+        ),
         Reading::Reply(f) => again::write_rrep(out, at, receiver, f, read::list_part(element)),
         Reading::Error(flags) => again::write_rerr(
             out,

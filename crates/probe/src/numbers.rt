@@ -3,7 +3,6 @@ use element::PathInfo;
 use element::RrepFields;
 use element::RreqFields;
 use element::list;
-use element::list::ListKind;
 use element::write;
 ghost use mathlib.Core.Path.{_≡_};
 ghost use mathlib.Core.List.{flatMap};

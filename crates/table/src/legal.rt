@@ -6,7 +6,7 @@ use crate::row::Row;
 use crate::search;
 ghost use mathlib.Core.Path.{_≡_};
 ghost use mathlib.Core.Bool.{_&&_, _||_};
-ghost use Prim.Native.Nat.{_+_, _*_, _%_, _≤_};
+ghost use Prim.Native.Nat.{_+_, _%_, _≤_};
 ghost use lib.ListN.{length};
 ghost use lib.Dec.{eqb};
 ghost use Rattle.table.specs.Row.{headOk, boundsOk, isFree, isHeld, statusOk, isOther, isUnnumbered, rowOk};

@@ -5,7 +5,7 @@ use counters::Metric;
 use counters::RequestId;
 use counters::SequenceNumber;
 ghost use mathlib.Core.Path.{_≡_};
-ghost use Prim.Native.Nat.{_+_, _*_, _≤_};
+ghost use Prim.Native.Nat.{_+_, _≤_};
 ghost use lib.ListN.{length};
 ghost use Rattle.table.specs.Row.{active, freeRow, freshHead, invalidated, numbered, raised, renewed};
 ghost use Rattle.table.specs.Layout.{headAt, headNumbers, place, putHead, putRow, rowAt, rowNumbers};

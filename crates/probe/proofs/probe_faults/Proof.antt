@@ -1,6 +1,5 @@
 -- `probe::probe_faults` meets its contract: answer by answer of the reader. Assumes nothing.
 use borrow.Author.Needs.{needs}
-use Rattle.element.proofs.Readings.{announcement-room, request-room, reply-room, error-room}
 use Rattle.probe.proofs.Frames.{no-faults-refused, faults-rann, faults-rreq, faults-rrep, faults-rerr}
 use Rattle.probe.proofs.probe_faults.Statement.{statement}
 use Rattle.probe.proofs.probe_faults.Tie as tie
@@ -12,16 +11,16 @@ probe-faults-spec =
     (λ c κs. search needs)
     (λ c κs. search needs)
     (λ c. search needs)
-    (λ c κs. search announcement-room)
+    (λ c κs. search needs)
     (λ c κs. search needs)
     (λ c. search needs)
-    (λ c κs. search request-room)
+    (λ c κs. search needs)
     (λ c κs. search needs)
     (λ c. search needs)
-    (λ c κs. search reply-room)
+    (λ c κs. search needs)
     (λ c κs. search needs)
     (λ c. search needs)
-    (λ c κs. search error-room)
+    (λ c κs. search needs)
     (λ c κs. search needs)
     (λ c. search needs)
     (λ c. search faults-rann)

@@ -1,6 +1,6 @@
 -- `probe::probe_read` meets its contract: answer by answer of the reader. Assumes nothing.
 use borrow.Author.Needs.{needs}
-use Rattle.element.proofs.Readings.{request-room, request-short, reply-room, reply-short, error-room, error-short}
+use Rattle.element.proofs.Readings.{request-short, reply-short, error-short}
 use Rattle.probe.proofs.Elements.{read-rann, read-rreq, read-rrep, read-rerr, read-refused}
 use Rattle.probe.proofs.probe_read.Statement.{statement}
 use Rattle.probe.proofs.probe_read.Tie as tie
@@ -13,13 +13,13 @@ probe-read-spec =
     (λ c. search needs)
     (λ c κs. search needs)
     (λ c. search needs)
-    (λ c κs. search request-room)
+    (λ c κs. search needs)
     (λ c κs. search (needs, request-short))
     (λ c. search needs)
-    (λ c κs. search reply-room)
+    (λ c κs. search needs)
     (λ c κs. search (needs, reply-short))
     (λ c. search needs)
-    (λ c κs. search error-room)
+    (λ c κs. search needs)
     (λ c κs. search (needs, error-short))
     (λ c. search needs)
     (λ c. search read-rann)

@@ -1,6 +1,6 @@
 -- `probe::probe_write` meets its contract: answer by answer of the reader. Assumes nothing.
 use borrow.Author.Needs.{needs}
-use Rattle.element.proofs.Readings.{request-room, request-some, request-short, request-whole, reply-room, reply-short, reply-whole, error-room, error-some, error-short, error-whole}
+use Rattle.element.proofs.Readings.{request-some, request-short, request-whole, reply-short, reply-whole, error-some, error-short, error-whole}
 use Rattle.probe.proofs.Frames.{again-rann, again-rreq, again-rrep, again-rerr, again-refused}
 use Rattle.probe.proofs.probe_write.Statement.{statement}
 use Rattle.probe.proofs.probe_write.Tie as tie
@@ -14,13 +14,13 @@ probe-write-spec =
     (λ c. search needs)
     (λ c κs. search needs)
     (λ c. search needs)
-    (λ c κs. search request-room)
+    (λ c κs. search needs)
     (λ c κs. search (request-some, request-short, request-whole))
     (λ c. search needs)
-    (λ c κs. search reply-room)
+    (λ c κs. search needs)
     (λ c κs. search (reply-short, reply-whole))
     (λ c. search needs)
-    (λ c κs. search error-room)
+    (λ c κs. search needs)
     (λ c κs. search (error-some, error-short, error-whole))
     (λ c. search needs)
     (λ c. search needs)

@@ -1,6 +1,6 @@
--- `element::read::list_part` meets its contract: what is left from there on. Assumes nothing.
+-- `element::read::list_part` meets its contract: what is left from there on, if anything. Assumes nothing.
 use borrow.Author.Needs.{needs}
-use Rattle.element.proofs.Cases.{list-left}
+use Rattle.element.proofs.Cases.{list-beyond, list-left}
 use Rattle.element.proofs.read.list_part.Statement.{statement}
 use Rattle.element.proofs.read.list_part.Tie as tie
 
@@ -9,6 +9,8 @@ list-part-spec =
     tie.close
     (tie.spec
     (λ c κs. search needs)
+    (λ c. search needs)
+    (λ c. search list-beyond)
     (λ c. search needs)
     (λ c. search needs)
     (λ c. search needs)

@@ -1,6 +1,7 @@
--- `probe::again::write_rreq` meets its contract: written if it fits. Assumes nothing.
+-- `probe::again::write_rreq` meets its contract: written if it fits, both ways alike. Assumes nothing.
 use borrow.Author.Needs.{needs}
-use Rattle.probe.proofs.Frames.{whole-room, no-room, wrote, rreq-size}
+use Rattle.element.proofs.Written.{rreq-listed}
+use Rattle.probe.proofs.Frames.{whole-room, start-room, list-room, no-room, wrote, rreq-size}
 use Rattle.probe.proofs.again.write_rreq.Statement.{statement}
 use Rattle.probe.proofs.again.write_rreq.Tie as tie
 
@@ -14,4 +15,8 @@ write-rreq-spec =
     (λ c. search (no-room, rreq-size))
     (λ c κs. (search needs, (search needs, (search needs, search whole-room))))
     (λ c. search needs)
-    (λ c. search (wrote, rreq-size)))
+    (λ c. search (wrote, rreq-size))
+    (λ c κs. (search needs, (search needs, search start-room)))
+    (λ c κs. search (needs, list-room))
+    (λ c. search needs)
+    (λ c. search (wrote, rreq-size, rreq-listed)))
