@@ -1,2 +1,3 @@
--- The laws of the comparison, for this crate's proofs and its callers'.
+-- The laws of the comparison and of ranks, for this crate's proofs and its callers'.
 pub mod Laws
+pub mod Rank

@@ -14,12 +14,7 @@ use Rattle.element.specs.declared.NumberedAddress.{NumberedAddress}
 use Rattle.element.specs.declared.Target.{Target}
 use Rattle.element.specs.Element.{numberedNumbers, targetNumbers}
 use Rattle.element.specs.Layout.{numberedWidths, targetWidths}
-use Rattle.element.specs.Entries.{each, numberedFrom, numberedAt, numberedList, numberedOctets, targetFrom, targetAt, targetList, targetOctets}
-
--- every entry has the property
-unfoldable pub All : {A : Type 0} → (A → Type 0) → List A → Type 0
-All P [] = Unit {0}
-All P (x ∷ xs) = P x × All P xs
+use Rattle.element.specs.Entries.{each, All, numberedFrom, numberedAt, numberedList, numberedOctets, targetFrom, targetAt, targetList, targetOctets}
 
 module _ {A : Type 0} (size : ℕ) (ws : List ℕ) (from : List ℕ → A) (numbers : A → List ℕ)
     (wide : total ws ≡ size) (as-many : (x : A) → length ws ≡ length (numbers x)) where

@@ -15,11 +15,11 @@ use Rattle.element.specs.declared.Kind.{Kind}
 use Rattle.element.specs.declared.Kind.the-variants.{Rann, Rreq, Rrep, Rerr}
 use Rattle.element.specs.Element.{Element, rann, rreq, rrep, rerr, kindOf, countOf, fieldNumbers}
 use Rattle.element.specs.Layout.{idOf, known, kindWith, lengthWith, countOk, fits, fieldWidths, numberedWidths, targetWidths}
-use Rattle.element.specs.Entries.{each, numberedAt, targetAt}
+use Rattle.element.specs.Entries.{All, each, numberedAt, targetAt}
 use Rattle.element.specs.Octets.{kindIn, countAs, wrongLength, otherId, misfit, fieldsAs, listAs, listPart, elementAs, readAs, readElement, fixedFields, reading, countPart, fixedOctets, listOctets, writeElement}
 use Rattle.element.proofs.Lengths.{least-length, id-octet, length-octet, count-octet}
 use Rattle.element.proofs.Scans.{each-length}
-use Rattle.element.proofs.ListParts.{All, FitsTarget, FitsNumbered, targets-octets, targets-read, targets-made, addresses-octets, addresses-read, addresses-made}
+use Rattle.element.proofs.ListParts.{FitsTarget, FitsNumbered, targets-octets, targets-read, targets-made, addresses-octets, addresses-read, addresses-made}
 use Rattle.element.proofs.Sizes.{fixed-length, element-length}
 use Rattle.element.proofs.Readings.{Passed, passed}
 
@@ -223,7 +223,7 @@ write-back s o a b c = written s (kindIn s) o (passed s a b c)
 
 -- ---- and these fields fit
 
-all-each : {A : Type 0} (P : A → Type 0) (f : ℕ → A) → ((i : ℕ) → P (f i)) → (i n : ℕ) → All P (each f i n)
+pub all-each : {A : Type 0} (P : A → Type 0) (f : ℕ → A) → ((i : ℕ) → P (f i)) → (i n : ℕ) → All P (each f i n)
 unfolding All each
 all-each P f h i zero = tt
 all-each P f h i (suc n) = (h i, all-each P f h (suc i) n)

@@ -1,4 +1,4 @@
--- The entries of a list part, by index and one after another. Assumes nothing.
+-- Entries of a list: by index, one after another, and what holds of all. Those of an element's list part. Assumes nothing.
 use Prim.Native.Nat.{ℕ, zero, suc, _*_, _/_}
 use mathlib.Core.List.{List, [], _∷_}
 use lib.ListN.{length, getD}
@@ -12,6 +12,11 @@ use Rattle.element.specs.Layout.{numberedWidths, targetWidths}
 unfoldable pub each : {A : Type 0} → (ℕ → A) → ℕ → ℕ → List A
 each f i zero = []
 each f i (suc n) = f i ∷ each f (suc i) n
+
+-- every entry has the property
+unfoldable pub All : {A : Type 0} → (A → Type 0) → List A → Type 0
+All P [] = Unit {0}
+All P (x ∷ xs) = P x × All P xs
 
 -- ---- address 6, number 4
 

@@ -5,5 +5,6 @@ pub mod HeadAndRows
 pub mod Heads
 pub mod Lookup
 pub mod WellFormed
+pub mod HeldRows
 mod Marks
 pub mod Places

@@ -3,9 +3,10 @@ use Prim.Native.Nat.{ℕ, _^_, _<_}
 use mathlib.Core.Path.{_≡_, refl, ap}
 use mathlib.Core.Bool.{Bool, true, false, not, and-eq-true-iff}
 use mathlib.Core.List.{List}
+use mathlib.Core.Logic.{_⊎_, inl, inr}
 use native.Mathlib.Decide.{ℕ-discrete}
 use native.Mathlib.Omega.{arith, ne-cases}
-use borrow.Author.Tests.{eqb-true, eq-eqb, not-true}
+use borrow.Author.Tests.{eqb-true, eqb-false, eq-eqb, ne-eqb, not-true}
 use Rattle.octets.specs.LittleEndian.{zeros}
 use Rattle.octets.proofs.Laws.{number-same}
 use Rattle.table.specs.declared.address.Address.{Address}
@@ -37,6 +38,19 @@ same-is a b e = address-is a b (eqb-true (a .0) (b .0) e)
 
 pub same-itself : (a : Address) → same a a ≡ true
 same-itself a = eq-eqb (a .0) (a .0) refl
+
+pub differ : (a b : Address) → (a ≡ b → ⊥) → same a b ≡ false
+differ a b n = ne-eqb (a .0) (b .0) (λ e. n (address-is a b e))
+
+pub not-same : (a b : Address) → same a b ≡ false → a ≡ b → ⊥
+not-same a b e q = eqb-false (a .0) (b .0) e (ap (λ (x : Address). x .0) q)
+
+pub equal-or-not : (a b : Address) → (a ≡ b) ⊎ (a ≡ b → ⊥)
+equal-or-not a b = by (same a b) refl
+  where
+    by : (c : Bool) → same a b ≡ c → (a ≡ b) ⊎ (a ≡ b → ⊥)
+    by true e = inl (same-is a b e)
+    by false e = inr (not-same a b e)
 
 -- the octets of an address are read back as that address
 pub address-back : (a : Address) → a .0 < 256 ^ 6 → addressOf (octetsOf a) ≡ a
