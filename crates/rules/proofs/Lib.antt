@@ -1,3 +1,11 @@
 -- The laws of rulings, and theorems about all calls.
+pub mod NoWorse
 pub mod Rulings
+pub mod Alls
+pub mod Tables
+pub mod Learning
+pub mod Falling
+pub mod Sending
+pub mod Accepted
+pub mod CallsKeep
 pub mod StaysTable

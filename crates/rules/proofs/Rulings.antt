@@ -4,6 +4,7 @@ use mathlib.Core.Bool.{Bool, true, false, cond}
 use mathlib.Core.List.{List, [], _∷_}
 use Prim.Native.Nat.{ℕ}
 use native.Mathlib.Omega.{arith}
+use lib.Dec.{eqb}
 use Rattle.rules.specs.Decision.{refused, accepted, Check, Ruling, judged, decide}
 
 -- no check applies
@@ -23,3 +24,16 @@ judged-accepted (k ∷ checks) a u e = by (k .applies) refl e (judged-accepted c
 -- an accepted call passed all checks, and came to its outcome
 pub passed : {A : Type 0} (r : Ruling A) (u : A) → decide r ≡ accepted u → Passed (r .checks) × (r .otherwise ≡ u)
 passed r u e = judged-accepted (r .checks) (r .otherwise) u e
+
+-- the test of the check with this number: for a numeral and a written list it computes
+abbrev pub testOf : ℕ → List Check → Bool
+testOf n [] = false
+testOf n (k ∷ checks) = cond (eqb (k .number) n) (k .applies) (testOf n checks)
+
+pub passed-check : (n : ℕ) (checks : List Check) → Passed checks → testOf n checks ≡ false
+passed-check n [] h = refl
+passed-check n (k ∷ checks) h = by (eqb (k .number) n) (passed-check n checks (h .1))
+  where
+    by : (b : Bool) → testOf n checks ≡ false → cond b (k .applies) (testOf n checks) ≡ false
+    by true rest = h .0
+    by false rest = rest

@@ -1,4 +1,16 @@
 pub mod Decision
+pub mod Lists
+pub mod Flags
+pub mod Outcome
 pub mod Fresh
 pub mod Forget
 pub mod NextHop
+pub mod Learn
+pub mod Destinations
+pub mod Onward
+pub mod Errors
+pub mod Receive
+pub mod Originate
+pub mod Break
+pub mod Calls
+pub mod Walk

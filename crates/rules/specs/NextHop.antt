@@ -1,6 +1,6 @@
 -- Find a next hop. Assumes nothing.
 use Prim.Native.Nat.{ℕ, _-_, _^_}
-use mathlib.Core.Bool.{Bool, false, not}
+use mathlib.Core.Bool.{Bool, not}
 use mathlib.Core.List.{List}
 use mathlib.Core.Option.{Option, none, some}
 use lib.Dec.{ltb}
@@ -10,12 +10,12 @@ use Rattle.table.specs.Address.{individual}
 use Rattle.table.specs.Row.{active}
 use Rattle.table.specs.Layout.{sized}
 use Rattle.table.specs.Table.{clock, isTable, rowFor}
+use Rattle.rules.specs.Lists.{has}
 use Rattle.rules.specs.Decision.{Decision, Ruling, decide, refuse_when_, accept, _>>_}
 
 -- the row is there and active at clock c
 abbrev pub activeAt : ℕ → Option Row → Bool
-activeAt c (some r) = active c r
-activeAt c none = false
+activeAt c row = has (active c) row
 
 -- the next hop of a row that is there
 abbrev pub nextOf : Option Row → Address

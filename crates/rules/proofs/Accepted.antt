@@ -1,0 +1,138 @@
+-- What the checks tell of an element that is accepted. Assumes nothing.
+use Prim.Native.Nat.{ℕ, _-_, _^_, _<_, _≤_}
+use mathlib.Core.Path.{_≡_, refl, sym, ap, subst, _∙_}
+use mathlib.Core.Bool.{Bool, true, false, not, _||_}
+use mathlib.Core.List.{List}
+use mathlib.Core.Option.{some, Option·none-ne-some, Option·some-injective}
+use lib.Dec.{eqb, ltb}
+use native.Mathlib.Omega.{arith}
+use borrow.Author.Tests.{ltb-false, eqb-false, not-false}
+use Rattle.octets.specs.LittleEndian.{Octets}
+use Rattle.octets.proofs.Laws.{FitFields}
+use Rattle.table.specs.declared.address.Address.{Address}
+use Rattle.table.specs.Address.{individual, same}
+use Rattle.table.specs.Row.{isOther}
+use Rattle.table.specs.Table.{own, freeRows}
+use Rattle.element.specs.declared.PathInfo.{PathInfo}
+use Rattle.element.specs.declared.list.ListKind.the-variants.{Targets}
+use Rattle.element.specs.Element.{Element, rann, rreq, rrep, rerr}
+use Rattle.element.specs.Octets.{readElement}
+use Rattle.element.specs.Lists.{anyForbidden}
+use Rattle.element.proofs.ReadBack.{Fits, read-fits}
+use Rattle.rules.specs.Decision.{Check}
+use Rattle.rules.specs.Lists.{has}
+use Rattle.rules.specs.Learn.{Arrival, metricHere}
+use Rattle.rules.specs.Receive.{pathOf, ofPath, targetAddresses, hasBadAddress, isStale, matchesNothing, rowsNeeded, receiving}
+use Rattle.rules.proofs.Rulings.{Passed, passed-check}
+use Rattle.rules.proofs.Tables.{Whole, whole}
+use Rattle.rules.proofs.Learning.{PathFits, Heard}
+
+-- an element that passed all checks
+pub record Accepted (t : List ℕ) (a : Arrival) (e : Element) : Type 0 where
+  pub whole : Whole t
+  pub clock : a .clock ≤ 2 ^ 48 - 1
+  pub fits : Fits e
+  pub heard : (p : PathInfo) → pathOf e ≡ some p → Heard t a p
+  pub matched : matchesNothing t a e ≡ false
+
+pub path-fits : (e : Element) → Fits e → (p : PathInfo) → pathOf e ≡ some p → PathFits p
+unfolding FitFields
+path-fits (rann q) f p is =
+    let g = f .fields in
+    subst PathFits (Option·some-injective q p is)
+    (record {
+      flags = g .0;
+      hops = g .1 .0;
+      ttl = g .1 .1 .0;
+      subject = g .1 .1 .1 .0;
+      number = g .1 .1 .1 .1 .0;
+      lifetime = g .1 .1 .1 .1 .1 .0;
+      metric = g .1 .1 .1 .1 .1 .1 .0;
+    })
+path-fits (rreq q targets) f p is =
+    let g = f .fields in
+    subst PathFits (Option·some-injective (q .path) p is)
+    (record {
+      flags = g .0;
+      hops = g .1 .0;
+      ttl = g .1 .1 .0;
+      subject = g .1 .1 .1 .1 .0;
+      number = g .1 .1 .1 .1 .1 .0;
+      lifetime = g .1 .1 .1 .1 .1 .1 .0;
+      metric = g .1 .1 .1 .1 .1 .1 .1 .0;
+    })
+path-fits (rrep q dependents) f p is =
+    let g = f .fields in
+    subst PathFits (Option·some-injective (q .path) p is)
+    (record {
+      flags = g .0;
+      hops = g .1 .0;
+      ttl = g .1 .1 .0;
+      subject = g .1 .1 .1 .0;
+      number = g .1 .1 .1 .1 .0;
+      lifetime = g .1 .1 .1 .1 .1 .0;
+      metric = g .1 .1 .1 .1 .1 .1 .0;
+    })
+path-fits (rerr flags destinations) f p is = absurd (Option·none-ne-some p is)
+
+first-false : (b c : Bool) → (not b || c) ≡ false → b ≡ true
+first-false true c e = refl
+first-false false c e = let z : _≡_ {A = ℕ} 0 1 = cc in absurd (omega arith)
+
+subject-individual : (e : Element) → hasBadAddress e ≡ false → (p : PathInfo) → pathOf e ≡ some p → individual (p .subject) ≡ true
+unfolding hasBadAddress
+subject-individual (rann q) ok p is = subst (λ (x : PathInfo). individual (x .subject) ≡ true) (Option·some-injective q p is) (not-false _ ok)
+subject-individual (rreq q targets) ok p is =
+    subst (λ (x : PathInfo). individual (x .subject) ≡ true) (Option·some-injective (q .path) p is)
+    (first-false (individual (q .path .subject)) (anyForbidden Targets (targetAddresses targets)) ok)
+subject-individual (rrep q dependents) ok p is =
+    subst (λ (x : PathInfo). individual (x .subject) ≡ true) (Option·some-injective (q .path) p is)
+    (first-false (individual (q .path .subject)) (not (individual (q .source .address))) ok)
+subject-individual (rerr flags destinations) ok p is = absurd (Option·none-ne-some p is)
+
+other-of : (a x : Address) → individual x ≡ true → same x a ≡ false → isOther a x ≡ true
+unfolding isOther
+other-of a x i n = rw (i, n)
+
+-- a test of an element's path that does not apply
+path-test : (test : PathInfo → Bool) (e : Element) → ofPath test e ≡ false → (p : PathInfo) → pathOf e ≡ some p → test p ≡ false
+path-test test e h p is = ap (has test) (sym is) ∙ h
+
+module _ (t : List ℕ) (room : ℕ) (a : Arrival) (s : List ℕ) (octets : Octets t) (transmitter-fits : a .transmitter .0 < 256 ^ 6)
+    (s-octets : Octets s) (h : Passed (receiving t room a s .checks)) where
+  abbrev checks : List Check
+  checks = receiving t room a s .checks
+
+  t-whole : Whole t
+  t-whole = whole t octets (passed-check 1 checks h) (passed-check 21 checks h)
+
+  element-fits : Fits (readElement s)
+  element-fits = read-fits s s-octets (passed-check 6 checks h) (passed-check 7 checks h) (passed-check 8 checks h)
+
+  clock-fits : a .clock ≤ 2 ^ 48 - 1
+  clock-fits = ltb-false (2 ^ 48 - 1) (a .clock) (passed-check 3 checks h)
+
+  path-heard : (p : PathInfo) → pathOf (readElement s) ≡ some p → Heard t a p
+  path-heard p is =
+      let fits : PathFits p = path-fits (readElement s) element-fits p is in
+      let own-subject = path-test (λ (q : PathInfo). same (q .subject) (own t)) (readElement s) (passed-check 24 checks h) p is in
+      let hops = path-test (λ (q : PathInfo). eqb (q .hops .0) 255) (readElement s) (passed-check 12 checks h) p is in
+      let metric = path-test (λ (q : PathInfo). ltb (2 ^ 32 - 2) (metricHere a q .0)) (readElement s) (passed-check 13 checks h) p is in
+      let room = path-test (λ (q : PathInfo). ltb (freeRows t) (rowsNeeded t a q)) (readElement s) (passed-check 27 checks h) p is in
+      record {
+        whole = t-whole;
+        fits = fits;
+        transmitter-fits = transmitter-fits;
+        clock = clock-fits;
+        link = omega (arith, eqb-false (a .link .0) 0 (passed-check 5 checks h));
+        transmitter = other-of (own t) (a .transmitter) (not-false _ (passed-check 4 checks h)) (passed-check 23 checks h);
+        subject = other-of (own t) (p .subject) (subject-individual (readElement s) (passed-check 9 checks h) p is) own-subject;
+        hops = omega (arith, fits .hops, eqb-false (p .hops .0) 255 hops);
+        metric = ltb-false (2 ^ 32 - 2) (metricHere a p .0) metric;
+        fresh = path-test (isStale t a) (readElement s) (passed-check 25 checks h) p is;
+        room = ltb-false (freeRows t) (rowsNeeded t a p) room;
+      }
+
+  pub accepted-element : Accepted t a (readElement s)
+  accepted-element =
+      record { whole = t-whole; clock = clock-fits; fits = element-fits; heard = path-heard; matched = passed-check 26 checks h }

@@ -1,0 +1,77 @@
+-- A property of every entry of a list, through the operations on lists. Assumes nothing.
+use Prim.Native.Nat.{ℕ, zero, suc, _+_, _<_, _≤_}
+use mathlib.Core.Path.{_≡_}
+use mathlib.Core.Bool.{Bool, true, false, _||_, cond}
+use mathlib.Core.List.{List, [], _∷_, _++_, map, flatMap}
+use lib.ListN.{length, take, drop}
+use native.Mathlib.Omega.{arith}
+use Rattle.element.specs.Entries.{each, All}
+use Rattle.rules.specs.Lists.{any, those}
+
+module _ {A : Type 0} (P : A → Type 0) where
+  pub all-one : (x : A) → P x → All P (x ∷ [])
+  unfolding All
+  all-one x h = (h, tt)
+
+  pub all-append : (l l′ : List A) → All P l → All P l′ → All P (l ++ l′)
+  unfolding All
+  all-append [] l′ h h′ = h′
+  all-append (x ∷ l) l′ h h′ = (h .0, all-append l l′ (h .1) h′)
+
+  pub all-between : (f : ℕ → A) (i n : ℕ) → ((k : ℕ) → i ≤ k → k < i + n → P (f k)) → All P (each f i n)
+  unfolding All each
+  all-between f i zero h = tt
+  all-between f i (suc n) h = (h i (omega arith) (omega arith), all-between f (suc i) n (λ k l m. h k (omega arith) (omega arith)))
+
+  pub all-take : (n : ℕ) (l : List A) → All P l → All P (take n l)
+  unfolding All
+  all-take zero l h = tt
+  all-take (suc n) [] h = tt
+  all-take (suc n) (x ∷ l) h = (h .0, all-take n l (h .1))
+
+  pub all-drop : (n : ℕ) (l : List A) → All P l → All P (drop n l)
+  unfolding All
+  all-drop zero l h = h
+  all-drop (suc n) [] h = tt
+  all-drop (suc n) (x ∷ l) h = all-drop n l (h .1)
+
+  pub all-those : (p : A → Bool) (l : List A) → All P l → All P (those p l)
+  unfolding All those
+  all-those p [] h = tt
+  all-those p (x ∷ l) h = by (p x) (all-those p l (h .1))
+    where
+      by : (b : Bool) → All P (those p l) → All P (cond b (x ∷ those p l) (those p l))
+      by true rest = (h .0, rest)
+      by false rest = rest
+
+module _ {A B : Type 0} (Q : B → Type 0) where
+  pub all-map : (P : A → Type 0) (f : A → B) → ((x : A) → P x → Q (f x)) → (l : List A) → All P l → All Q (map f l)
+  unfolding All
+  all-map P f h [] k = tt
+  all-map P f h (x ∷ l) k = (h x (k .0), all-map P f h l (k .1))
+
+  pub all-flat-map : (P : A → Type 0) (f : A → List B) → ((x : A) → P x → All Q (f x)) → (l : List A) → All P l → All Q (flatMap f l)
+  unfolding All flatMap
+  all-flat-map P f h [] k = tt
+  all-flat-map P f h (x ∷ l) k = all-append Q (f x) (flatMap f l) (h x (k .0)) (all-flat-map P f h l (k .1))
+
+-- ---- how many pass a test
+
+module _ {A : Type 0} (p : A → Bool) where
+  pub those-fewer : (l : List A) → length (those p l) ≤ length l
+  unfolding those
+  those-fewer [] = omega arith
+  those-fewer (x ∷ l) = by (p x) (those-fewer l)
+    where
+      by : (b : Bool) → length (those p l) ≤ length l → length (cond b (x ∷ those p l) (those p l)) ≤ length (x ∷ l)
+      by true rest = omega arith
+      by false rest = omega arith
+
+  pub those-some : (l : List A) → any p l ≡ true → 1 ≤ length (those p l)
+  unfolding those any
+  those-some [] e = let z : _≡_ {A = ℕ} 0 1 = cc in absurd (omega arith)
+  those-some (x ∷ l) e = by (p x) e (those-some l)
+    where
+      by : (b : Bool) → (b || any p l) ≡ true → (any p l ≡ true → 1 ≤ length (those p l)) → 1 ≤ length (cond b (x ∷ those p l) (those p l))
+      by true e rest = omega arith
+      by false e rest = rest e

@@ -1,0 +1,262 @@
+-- Every accepted call leaves a table, and emits elements that fit their octets. Assumes nothing.
+use Prim.Native.Nat.{ℕ, _-_, _*_, _/_, _%_, _^_, _<_, _≤_}
+use mathlib.Core.Path.{_≡_, refl, _∙_}
+use mathlib.Core.Bool.{Bool, true, false, not, _&&_, _||_, cond, and-eq-true-iff, true≢false}
+use mathlib.Core.List.{List, [], _∷_, map}
+use mathlib.Core.Option.{Option, none, some}
+use lib.Dec.{eqb, leb, ltb}
+use lib.ListN.{length, length-map}
+use native.Mathlib.Omega.{arith}
+use borrow.Author.Tests.{ltb-false, ltb-true, leb-true, not-false, ne-eqb}
+use Rattle.octets.specs.LittleEndian.{Octets, fieldsAt}
+use Rattle.octets.proofs.Laws.{FitFields, fields-fit}
+use Rattle.counters.specs.declared.SequenceNumber.{SequenceNumber}
+use Rattle.counters.specs.Numbers.{stepped, nextNumber, nextRequest}
+use Rattle.table.specs.declared.address.Address.{Address}
+use Rattle.table.specs.declared.row.Row.{Row}
+use Rattle.table.specs.Layout.{headAt, putHead}
+use Rattle.table.specs.Table.{number, requestId, clock, rowFor}
+use Rattle.table.proofs.HeadAndRows.{FitRow}
+use Rattle.table.proofs.Lookup.{row-fits-its-octets}
+use Rattle.element.specs.declared.NumberedAddress.{NumberedAddress}
+use Rattle.element.specs.declared.PathInfo.{PathInfo}
+use Rattle.element.specs.declared.RreqFields.{RreqFields}
+use Rattle.element.specs.declared.RrepFields.{RrepFields}
+use Rattle.element.specs.declared.Target.{Target}
+use Rattle.element.specs.Element.{Element, rann, rreq, rrep, rerr}
+use Rattle.element.specs.Octets.{readElement}
+use Rattle.element.specs.Entries.{All}
+use Rattle.element.proofs.Scans.{each-length}
+use Rattle.element.proofs.ListParts.{FitsTarget, FitsNumbered}
+use Rattle.element.proofs.ReadBack.{Fits, all-each}
+use Rattle.rules.specs.Decision.{Check, accepted}
+use Rattle.rules.specs.Lists.{any, those}
+use Rattle.rules.specs.Outcome.{Frame, Effect, headWith}
+use Rattle.rules.specs.Learn.{Arrival, learnt}
+use Rattle.rules.specs.Destinations.{Answered, allAnswered}
+use Rattle.rules.specs.Onward.{rreqOnward}
+use Rattle.rules.specs.Errors.{matches, brokenEntries}
+use Rattle.rules.specs.Receive.{matchesNothing, rannReceived, rrepReceived, rreqReceived, rerrReceived, received, receiving, receive}
+use Rattle.rules.specs.Originate.{ownPath, announced, requested, Item, itemWidths, itemAt, itemsIn, itemsFit, knownNumber, askedFor, asking, ask, announcing, announce, allWithDOAndRF, requestingAsRoot, rootRequest}
+use Rattle.rules.specs.Break.{brokenOff, breaking, breakNeighbour}
+use Rattle.rules.specs.Calls.{Call, receives, asks, announces, requestsAsRoot, breaks, outcome, OperandsFit}
+use Rattle.rules.proofs.Rulings.{passed, passed-check}
+use Rattle.rules.proofs.Alls.{all-append, all-map, all-those, those-fewer, those-some}
+use Rattle.rules.proofs.Tables.{Whole, whole, Keeps, Leaves, own-fits, number-fits, request-fits, clock-small, head-leaves}
+use Rattle.rules.proofs.Learning.{PathFits, Heard, learnt-keeps}
+use Rattle.rules.proofs.Falling.{next-fits, break-keeps, error-keeps}
+use Rattle.rules.proofs.Sending.{FramesFit, AnsweredFits, to-all-fits, rann-fits, rreq-fits, rerr-fits, rann-onward-fits, rreq-onward-fits, rrep-onward-fits, all-answered-fits, entries-fit, errors-fit}
+use Rattle.rules.proofs.Accepted.{Accepted, accepted-element}
+
+-- the call leaves a table of the same point, and emits what fits
+pub record Kept (t : List ℕ) (e : Effect) : Type 0 where
+  pub leaves : Leaves t (e .table)
+  pub frames : FramesFit (e .frames)
+
+-- ---- receive
+
+module _ (t : List ℕ) (a : Arrival) where
+  -- the table with the counters as they were, at the call's clock
+  module _ (e : Element) (ok : Accepted t a e) (u : List ℕ) (k : Keeps t u) where
+    at-clock : (n : SequenceNumber) → n .0 < 256 ^ 4 → Leaves t (putHead u (headWith n (requestId t) (a .clock) (headAt t)))
+    at-clock n fits = head-leaves t u (ok .whole) k n (requestId t) (a .clock) fits (request-fits t (ok .whole)) (ok .clock)
+
+  rann-kept : (p : PathInfo) → Accepted t a (rann p) → Kept t (rannReceived t a p)
+  unfolding rannReceived
+  rann-kept p ok =
+      let h : Heard t a p = ok .heard p refl in
+      record {
+        leaves = at-clock (rann p) ok (learnt a p t) (learnt-keeps t a p h) (number t) (number-fits t (ok .whole));
+        frames = rann-onward-fits a p (h .fits) (h .hops) (h .metric) (learnt a p t);
+      }
+
+  rrep-kept : (f : RrepFields) (dependents : List NumberedAddress) → Accepted t a (rrep f dependents) → Kept t (rrepReceived t a f dependents)
+  unfolding rrepReceived FitFields
+  rrep-kept f dependents ok =
+      let h : Heard t a (f .path) = ok .heard (f .path) refl in
+      let g = ok .fits .fields in
+      record {
+        leaves = at-clock (rrep f dependents) ok (learnt a (f .path) t) (learnt-keeps t a (f .path) h) (number t) (number-fits t (ok .whole));
+        frames = rrep-onward-fits a f (h .fits) (h .hops) (h .metric) (learnt a (f .path) t) dependents
+            (g .1 .1 .1 .1 .1 .1 .1 .0, (g .1 .1 .1 .1 .1 .1 .1 .1 .0, tt)) (ok .fits .entries) (ok .fits .count);
+      }
+
+  rreq-kept : (f : RreqFields) (targets : List Target) → Accepted t a (rreq f targets) → Kept t (rreqReceived t a f targets)
+  unfolding rreqReceived FitFields
+  rreq-kept f targets ok =
+      let h : Heard t a (f .path) = ok .heard (f .path) refl in
+      let u : List ℕ = learnt a (f .path) t in
+      let k : Keeps t u = learnt-keeps t a (f .path) h in
+      let done : Answered = allAnswered u a (f .path) (number t) targets in
+      let fit : AnsweredFits (length targets) done = all-answered-fits u (k .whole) a (f .path) (h .fits) (number t) (number-fits t (ok .whole)) targets (ok .fits .entries) in
+      let few = leb-true (length targets) 20 (and-eq-true-iff (leb 1 (length targets)) (leb (length targets) 20) .0 (ok .fits .count) .1) in
+      record {
+        leaves = at-clock (rreq f targets) ok u k (done .number) (fit .number);
+        frames = all-append (λ (x : Frame). Fits (x .element)) (done .replies) (rreqOnward u a f (done .kept)) (fit .replies)
+            (rreq-onward-fits a f (ok .fits .fields .1 .1 .1 .0) (h .fits) (h .hops) (h .metric) u (done .kept) (fit .kept) (omega (arith, few, fit .fewer)));
+      }
+
+  rerr-kept : (flags : ℕ) (destinations : List NumberedAddress) → Accepted t a (rerr flags destinations) → Kept t (rerrReceived t a flags destinations)
+  unfolding rerrReceived matchesNothing FitFields
+  rerr-kept flags destinations ok =
+      let test : NumberedAddress → Bool = matches t (a .clock) (a .transmitter) in
+      let few = leb-true (length destinations) 25 (and-eq-true-iff (leb 1 (length destinations)) (leb (length destinations) 25) .0 (ok .fits .count) .1) in
+      record {
+        leaves = at-clock (rerr flags destinations) ok _
+            (error-keeps (a .clock) (a .transmitter) destinations (ok .fits .entries) t (ok .whole)) (number t) (number-fits t (ok .whole));
+        frames = to-all-fits (rerr flags (those test destinations))
+            (rerr-fits flags (those test destinations) (ok .fits .fields .0) (all-those FitsNumbered test destinations (ok .fits .entries))
+            (those-some test destinations (not-false (any test destinations) (ok .matched))) (omega (arith, few, those-fewer test destinations)));
+      }
+
+  received-kept : (e : Element) → Accepted t a e → Kept t (received t a e)
+  unfolding received
+  received-kept (rann p) ok = rann-kept p ok
+  received-kept (rreq f targets) ok = rreq-kept f targets ok
+  received-kept (rrep f dependents) ok = rrep-kept f dependents ok
+  received-kept (rerr flags destinations) ok = rerr-kept flags destinations ok
+
+-- ---- originating
+
+module _ (t : List ℕ) (w : Whole t) where
+  own-path-fits : (flags lifetime : ℕ) → flags < 256 ^ 1 → lifetime < 256 ^ 4 → PathFits (ownPath t flags lifetime)
+  unfolding ownPath
+  own-path-fits flags lifetime f l =
+      record {
+        flags = f;
+        hops = omega arith;
+        ttl = omega arith;
+        subject = own-fits t w;
+        number = next-fits (number t);
+        lifetime = l;
+        metric = omega arith;
+      }
+
+  same-table : Keeps t t
+  same-table = record { whole = w; head = refl; length = refl }
+
+  request-next-fits : nextRequest (requestId t) .0 < 256 ^ 4
+  unfolding stepped
+  request-next-fits = omega arith
+
+  announced-kept : (flags lifetime : ℕ) → flags < 256 ^ 1 → lifetime < 256 ^ 4 → Kept t (announced t flags lifetime)
+  unfolding announced
+  announced-kept flags lifetime f l =
+      record {
+        leaves = head-leaves t t w same-table (nextNumber (number t)) (requestId t) (clock t) (next-fits (number t)) (request-fits t w) (clock-small t w);
+        frames = to-all-fits (rann (ownPath t flags lifetime)) (rann-fits (ownPath t flags lifetime) (own-path-fits flags lifetime f l));
+      }
+
+  requested-kept : (flags lifetime : ℕ) (targets : List Target) → flags < 256 ^ 1 → lifetime < 256 ^ 4 → All FitsTarget targets
+      → 1 ≤ length targets → length targets ≤ 20 → Kept t (requested t flags lifetime targets)
+  unfolding requested
+  requested-kept flags lifetime targets f l fit one few =
+      record {
+        leaves = head-leaves t t w same-table (nextNumber (number t)) (nextRequest (requestId t)) (clock t) (next-fits (number t)) request-next-fits
+            (clock-small t w);
+        frames = to-all-fits _ (rreq-fits _ targets request-next-fits (own-path-fits flags lifetime f l) fit one few);
+      }
+
+  -- the items of an ask
+  known-number-fits : (d : Address) (o : Option Row) → rowFor t d ≡ o → knownNumber o .0 < 256 ^ 4
+  unfolding knownNumber FitRow FitFields
+  known-number-fits d none e = omega arith
+  known-number-fits d (some r) e = by (eqb (r .known) 1)
+    where
+      by : (b : Bool) → cond b (r .number) (record { 0 = 0 }) .0 < 256 ^ 4
+      by true = row-fits-its-octets t d r e (w .octets) .1 .1 .1 .1 .1 .1 .0
+      by false = omega arith
+
+  abbrev FitsItem : Item → Type 0
+  FitsItem i = (i .flags < 256 ^ 1) × (i .address .0 < 256 ^ 6)
+
+  item-fits : (s : List ℕ) → Octets s → (i : ℕ) → FitsItem (itemAt s i)
+  unfolding itemAt fieldsAt FitFields
+  item-fits s o i = let f = fields-fit itemWidths s (7 * i) 0 o in (f .0, f .1 .0)
+
+  asked-fits : (i : Item) → FitsItem i → FitsTarget (askedFor t i)
+  unfolding askedFor FitFields
+  asked-fits i f = (f .0, (f .1, (known-number-fits (i .address) (rowFor t (i .address)) refl, tt)))
+
+  asked-all-fit : (s : List ℕ) → Octets s → All FitsTarget (map (askedFor t) (itemsIn s))
+  asked-all-fit s o = all-map FitsTarget FitsItem (askedFor t) asked-fits (itemsIn s) (all-each FitsItem (itemAt s) (item-fits s o) 0 (length s / 7))
+
+items-count : (s : List ℕ) → itemsFit s ≡ true → (1 ≤ length s / 7) × (length s / 7 ≤ 20)
+unfolding itemsFit
+items-count s e =
+    let p = and-eq-true-iff (eqb (length s % 7) 0 && leb 7 (length s)) (leb (length s) 140) .0 e in
+    let q = and-eq-true-iff (eqb (length s % 7) 0) (leb 7 (length s)) .0 (p .0) in
+    let low = leb-true 7 (length s) (q .1) in
+    let high = leb-true (length s) 140 (p .1) in
+    (omega arith, omega arith)
+
+-- flags of a root request are 0, 1, 4 or 5
+root-flags-small : (flags : ℕ) → not (eqb flags 0 || eqb flags 1 || eqb flags 4 || eqb flags 5) ≡ false → flags < 256 ^ 1
+root-flags-small flags e = by (ltb flags 6) refl
+  where
+    by : (b : Bool) → ltb flags 6 ≡ b → flags < 256 ^ 1
+    by true l = omega (arith, ltb-true flags 6 l)
+    by false l =
+        let large = ltb-false flags 6 l in
+        absurd
+        (true≢false
+        (rw (ne-eqb flags 0 (λ q. omega arith), ne-eqb flags 1 (λ q. omega arith), ne-eqb flags 4 (λ q. omega arith), ne-eqb flags 5 (λ q. omega arith)) at e))
+
+-- ---- every call
+
+module _ (t : List ℕ) (octets : Octets t) (room : ℕ) where
+  receive-kept : (a : Arrival) (s : List ℕ) → a .transmitter .0 < 256 ^ 6 → Octets s → (e : Effect) → receive t room a s ≡ accepted e → Kept t e
+  unfolding receive
+  receive-kept a s fits o e is =
+      let p = passed (receiving t room a s) e is in
+      rw (← p .1) (received-kept t a (readElement s) (accepted-element t room a s octets fits o (p .0)))
+
+  ask-kept : (lifetime : ℕ) (s : List ℕ) → lifetime < 256 ^ 4 → Octets s → (e : Effect) → ask t room lifetime s ≡ accepted e → Kept t e
+  unfolding ask
+  ask-kept lifetime s l o e is =
+      let p = passed (asking t room lifetime s) e is in
+      let checks : List Check = asking t room lifetime s .checks in
+      let w : Whole t = whole t octets (passed-check 1 checks (p .0)) (passed-check 21 checks (p .0)) in
+      let targets : List Target = map (askedFor t) (itemsIn s) in
+      let count = items-count s (not-false (itemsFit s) (passed-check 8 checks (p .0))) in
+      let long : length targets ≡ length s / 7 = length-map (itemsIn s) (askedFor t) ∙ each-length (itemAt s) 0 (length s / 7) in
+      rw (← p .1) (requested-kept t w 0 lifetime targets (omega arith) l (asked-all-fit t w s o) (omega (arith, count, long)) (omega (arith, count, long)))
+
+  announce-kept : (flags lifetime : ℕ) → lifetime < 256 ^ 4 → (e : Effect) → announce t room flags lifetime ≡ accepted e → Kept t e
+  unfolding announce
+  announce-kept flags lifetime l e is =
+      let p = passed (announcing t room flags lifetime) e is in
+      let checks : List Check = announcing t room flags lifetime .checks in
+      let w : Whole t = whole t octets (passed-check 1 checks (p .0)) (passed-check 21 checks (p .0)) in
+      rw (← p .1) (announced-kept t w flags lifetime (omega (arith, ltb-false 1 flags (passed-check 10 checks (p .0)))) l)
+
+  root-kept : (flags lifetime : ℕ) → lifetime < 256 ^ 4 → (e : Effect) → rootRequest t room flags lifetime ≡ accepted e → Kept t e
+  unfolding rootRequest All FitFields
+  root-kept flags lifetime l e is =
+      let p = passed (requestingAsRoot t room flags lifetime) e is in
+      let checks : List Check = requestingAsRoot t room flags lifetime .checks in
+      let w : Whole t = whole t octets (passed-check 1 checks (p .0)) (passed-check 21 checks (p .0)) in
+      rw (← p .1)
+      (requested-kept t w flags lifetime (allWithDOAndRF ∷ []) (root-flags-small flags (passed-check 10 checks (p .0))) l
+      ((omega arith, (omega arith, (omega arith, tt))), tt) (omega arith) (omega arith))
+
+  break-kept : (c : ℕ) (neighbour : Address) (e : Effect) → breakNeighbour t room c neighbour ≡ accepted e → Kept t e
+  unfolding breakNeighbour brokenOff
+  break-kept c neighbour e is =
+      let p = passed (breaking t room c neighbour) e is in
+      let checks : List Check = breaking t room c neighbour .checks in
+      let w : Whole t = whole t octets (passed-check 1 checks (p .0)) (passed-check 21 checks (p .0)) in
+      rw (← p .1)
+      (record {
+        leaves = head-leaves t _ w (break-keeps c neighbour t w) (number t) (requestId t) c (number-fits t w) (request-fits t w)
+            (ltb-false (2 ^ 48 - 1) c (passed-check 3 checks (p .0)));
+        frames = errors-fit (brokenEntries t c neighbour) (entries-fit t octets c neighbour);
+      })
+
+  pub call-kept : (call : Call) → OperandsFit call → (e : Effect) → outcome t room call ≡ accepted e → Kept t e
+  unfolding outcome
+  call-kept (receives a s) fit e is = receive-kept a s (fit .0) (fit .1) e is
+  call-kept (asks lifetime items) fit e is = ask-kept lifetime items (fit .0) (fit .1) e is
+  call-kept (announces flags lifetime) fit e is = announce-kept flags lifetime fit e is
+  call-kept (requestsAsRoot flags lifetime) fit e is = root-kept flags lifetime fit e is
+  call-kept (breaks c neighbour) fit e is = break-kept c neighbour e is

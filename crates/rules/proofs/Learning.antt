@@ -1,0 +1,326 @@
+-- Steps 1 and 2 of receiving a RREQ, RREP or RANN: what they make of the row of a destination, and that the table stays one.
+-- Assumes nothing.
+use Prim.Native.Nat.{ℕ, _+_, _-_, _^_, _<_, _≤_}
+use mathlib.Core.Path.{_≡_, refl, sym, ap, subst, _∙_}
+use mathlib.Core.Bool.{Bool, true, false, _&&_, _||_, cond}
+use mathlib.Core.List.{List}
+use mathlib.Core.Option.{Option, none, some}
+use mathlib.Core.Logic.{⊎-elim}
+use lib.Dec.{eqb, ltb}
+use lib.ListN.{length}
+use native.Mathlib.Omega.{arith}
+use borrow.Author.Tests.{eqb-true}
+use Rattle.octets.proofs.Laws.{FitFields}
+use Rattle.table.specs.declared.address.Address.{Address}
+use Rattle.table.specs.declared.row.Head.{Head}
+use Rattle.table.specs.declared.row.Row.{Row}
+use Rattle.table.specs.Address.{same}
+use Rattle.table.specs.Row.{isUnnumbered, isOther, isHeld, active, renewed, numbered}
+use Rattle.table.specs.Table.{own, rowFor, newRows, freeRows, store}
+use Rattle.table.proofs.HeadAndRows.{FitRow}
+use Rattle.table.proofs.HeldRows.{Held, held-says, held-is}
+use Rattle.table.proofs.Lookup.{row-destination, row-is-held, row-fits-its-octets, store-found, store-other, store-free, store-legal, store-length, store-head, store-octets}
+use Rattle.table.proofs.WellFormed.{same-itself, differ, not-same, equal-or-not}
+use Rattle.element.specs.declared.PathInfo.{PathInfo}
+use Rattle.rules.specs.Learn.{Arrival, metricHere, rowOrNew, expiryOf, subjectRow, transmitterRow, takesLink, subjectLearnt, transmitterLearnt, learnt}
+use Rattle.rules.specs.Receive.{isStale, rowsNeeded}
+use Rattle.rules.proofs.Tables.{Whole, Keeps}
+
+-- the fields of a path fit their octets
+pub record PathFits (p : PathInfo) : Type 0 where
+  pub flags : p .flags < 256 ^ 1
+  pub hops : p .hops .0 < 256 ^ 1
+  pub ttl : p .ttl < 256 ^ 1
+  pub subject : p .subject .0 < 256 ^ 6
+  pub number : p .number .0 < 256 ^ 4
+  pub lifetime : p .lifetime < 256 ^ 4
+  pub metric : p .metric .0 < 256 ^ 4
+
+-- what the checks tell of a path that is accepted
+pub record Heard (t : List ℕ) (a : Arrival) (p : PathInfo) : Type 0 where
+  pub whole : Whole t
+  pub fits : PathFits p
+  pub transmitter-fits : a .transmitter .0 < 256 ^ 6
+  pub clock : a .clock ≤ 2 ^ 48 - 1
+  pub link : 1 ≤ a .link .0
+  pub transmitter : isOther (own t) (a .transmitter) ≡ true
+  pub subject : isOther (own t) (p .subject) ≡ true
+  pub hops : p .hops .0 < 255
+  pub metric : metricHere a p .0 ≤ 2 ^ 32 - 2
+  pub fresh : isStale t a p ≡ false
+  pub room : rowsNeeded t a p ≤ freeRows t
+
+-- ---- the row that a step changes
+
+record Basis (d : Address) (r : Row) : Type 0 where
+  destination : r .destination ≡ d
+  zero : r .zero ≡ 0
+  known : r .known ≤ 1
+  unnumbered : eqb (r .known) 1 ≡ false → r .number .0 ≡ 0
+  expiry : r .expiry ≤ 2 ^ 48 + 2 ^ 32
+  fits : FitRow r
+
+unnumbered-number : (r : Row) → (eqb (r .known) 1 || isUnnumbered r) ≡ true → eqb (r .known) 1 ≡ false → r .number .0 ≡ 0
+unfolding isUnnumbered
+unnumbered-number r e k = by (eqb (r .number .0) 0) refl (rw k at e)
+  where
+    by : (b : Bool) → eqb (r .number .0) 0 ≡ b → (b && eqb (r .hops .0) 1 && same (r .next) (r .destination)) ≡ true → r .number .0 ≡ 0
+    by true q e = eqb-true (r .number .0) 0 q
+    by false q e = let z : _≡_ {A = ℕ} 0 1 = cc in absurd (omega arith)
+
+basis : (t : List ℕ) → Whole t → (d : Address) → d .0 < 256 ^ 6 → (o : Option Row) → rowFor t d ≡ o → Basis d (rowOrNew d o)
+unfolding FitRow FitFields
+basis t w d small none e =
+    record {
+      destination = refl;
+      zero = refl;
+      known = omega arith;
+      unnumbered = λ _. refl;
+      expiry = omega arith;
+      fits = (omega arith, (omega arith, (omega arith, (omega arith, (small, (omega arith, (omega arith, (omega arith, (omega arith, tt)))))))));
+    }
+basis t w d small (some r) e =
+    let h : Held (own t) r = held-says (own t) r (row-is-held t d r e (w .legal)) in
+    record {
+      destination = row-destination t d r e;
+      zero = h .zero;
+      known = h .known;
+      unnumbered = unnumbered-number r (h .numbered);
+      expiry = h .expiry;
+      fits = row-fits-its-octets t d r e (w .octets);
+    }
+
+expiry-small : (c lifetime : ℕ) (r : Row) → c ≤ 2 ^ 48 - 1 → lifetime < 256 ^ 4 → r .expiry ≤ 2 ^ 48 + 2 ^ 32 → expiryOf c lifetime r ≤ 2 ^ 48 + 2 ^ 32
+unfolding expiryOf
+expiry-small c lifetime r hc hl hr = by (active c r && ltb (c + lifetime) (r .expiry))
+  where
+    by : (b : Bool) → cond b (r .expiry) (c + lifetime) ≤ 2 ^ 48 + 2 ^ 32
+    by true = hr
+    by false = omega arith
+
+module _ (t : List ℕ) (a : Arrival) (p : PathInfo) (h : Heard t a p) where
+  -- step 1
+  module _ (r : Row) (b : Basis (p .subject) r) where
+    subject-fits : FitRow (subjectRow a p r)
+    unfolding FitRow FitFields subjectRow renewed numbered
+    subject-fits =
+        let f = b .fits in
+        let e = expiry-small (a .clock) (p .lifetime) r (h .clock) (h .fits .lifetime) (b .expiry) in
+        let m = h .metric in
+        let k = h .hops in (
+          omega arith,
+          (
+            omega arith,
+            (
+              omega arith,
+              (
+                f .1 .1 .1 .0,
+                (
+                  f .1 .1 .1 .1 .0,
+                  (h .transmitter-fits, (h .fits .number, (omega arith, (omega arith, tt)))),
+                ),
+              ),
+            ),
+          ),
+        )
+
+    subject-held : Held (own t) (subjectRow a p r)
+    unfolding subjectRow renewed numbered
+    subject-held =
+        record {
+          status = (omega arith, omega arith);
+          known = omega arith;
+          zero = b .zero;
+          destination = ap (isOther (own t)) (b .destination) ∙ h .subject;
+          next = h .transmitter;
+          metric = omega (arith, h .link);
+          expiry = expiry-small (a .clock) (p .lifetime) r (h .clock) (h .fits .lifetime) (b .expiry);
+          numbered = refl;
+        }
+
+  -- step 2
+  module _ (r : Row) (b : Basis (a .transmitter) r) where
+    transmitter-row-fits : FitRow (transmitterRow a (p .lifetime) r)
+    unfolding FitRow FitFields transmitterRow renewed
+    transmitter-row-fits =
+        let f = b .fits in
+        let e = expiry-small (a .clock) (p .lifetime) r (h .clock) (h .fits .lifetime) (b .expiry) in
+        let m = h .metric in (
+          omega arith,
+          (
+            f .1 .0,
+            (
+              omega arith,
+              (
+                f .1 .1 .1 .0,
+                (
+                  f .1 .1 .1 .1 .0,
+                  (h .transmitter-fits, (f .1 .1 .1 .1 .1 .1 .0, (omega arith, (omega arith, tt)))),
+                ),
+              ),
+            ),
+          ),
+        )
+
+    transmitter-held : Held (own t) (transmitterRow a (p .lifetime) r)
+    unfolding transmitterRow renewed isUnnumbered
+    transmitter-held =
+        record {
+          status = (omega arith, omega arith);
+          known = b .known;
+          zero = b .zero;
+          destination = ap (isOther (own t)) (b .destination) ∙ h .transmitter;
+          next = h .transmitter;
+          metric = h .link;
+          expiry = expiry-small (a .clock) (p .lifetime) r (h .clock) (h .fits .lifetime) (b .expiry);
+          numbered = by (eqb (r .known) 1) refl;
+        }
+      where
+        by : (k : Bool) → eqb (r .known) 1 ≡ k → (k || (eqb (r .number .0) 0 && true && same (a .transmitter) (r .destination))) ≡ true
+        by true e = refl
+        by false e = rw (b .unnumbered e, b .destination, same-itself (a .transmitter))
+
+-- ---- a row that is stored
+
+-- u is t with the row r stored for d
+record Stored (t : List ℕ) (d : Address) (r : Row) (u : List ℕ) : Type 0 where
+  keeps : Keeps t u
+  here : rowFor u d ≡ some r
+  others : (e : Address) → (d ≡ e → ⊥) → rowFor u e ≡ rowFor t e
+  free : freeRows u + newRows (rowFor t d) ≡ freeRows t
+
+stored : (t : List ℕ) → Whole t → (d : Address) (r : Row) → r .destination ≡ d → Held (own t) r → FitRow r
+    → newRows (rowFor t d) ≤ freeRows t → Stored t d r (store t r)
+stored t w d r is held fit room =
+    let ok : isHeld (own t) r ≡ true = held-is (own t) r held in
+    let there : newRows (rowFor t (r .destination)) ≤ freeRows t = rw is room in
+    record {
+      keeps = record {
+        whole = record {
+          octets = store-octets t r (w .octets);
+          long = rw store-length (w .long);
+          legal = store-legal t r (w .legal) ok fit there;
+        };
+        head = store-head t r;
+        length = store-length t r;
+      };
+      here = ap (rowFor (store t r)) (sym is) ∙ store-found t r (w .legal) ok fit there;
+      others = λ e n. store-other t r (w .legal) ok fit there e (differ (r .destination) e (λ q. n (sym is ∙ q)));
+      free = ap (λ (x : Address). freeRows (store t r) + newRows (rowFor t x)) (sym is) ∙ store-free t r (w .legal) ok fit there;
+    }
+
+keeps-trans : {t u v : List ℕ} → Keeps t u → Keeps u v → Keeps t v
+keeps-trans k l = record { whole = l .whole; head = l .head ∙ k .head; length = l .length ∙ k .length }
+
+-- ---- the row of a destination d before and after
+
+-- step 2: the transmitter's row is made or changed, and no other
+pub data Renewal (d : Address) (a : Arrival) (lifetime : ℕ) (o o′ : Option Row) : Type 0 where
+  renewal : a .transmitter ≡ d → takesLink a o ≡ true → o′ ≡ some (transmitterRow a lifetime (rowOrNew d o)) → Renewal d a lifetime o o′
+  left : o′ ≡ o → Renewal d a lifetime o o′
+
+-- steps 1 and 2
+pub data Learning (d : Address) (a : Arrival) (p : PathInfo) (o o′ : Option Row) : Type 0 where
+  subject : p .subject ≡ d → o′ ≡ some (subjectRow a p (rowOrNew d o)) → Learning d a p o o′
+  other : (p .subject ≡ d → ⊥) → Renewal d a (p .lifetime) o o′ → Learning d a p o o′
+
+module _ (t : List ℕ) (a : Arrival) (p : PathInfo) (h : Heard t a p) where
+  -- the table after step 1
+  u : List ℕ
+  u = subjectLearnt a p t
+
+  first : Stored t (p .subject) (subjectRow a p (rowOrNew (p .subject) (rowFor t (p .subject)))) u
+  unfolding u subjectLearnt rowsNeeded subjectRow renewed numbered
+  first =
+      let r : Row = rowOrNew (p .subject) (rowFor t (p .subject)) in
+      let b : Basis (p .subject) r = basis t (h .whole) (p .subject) (h .fits .subject) (rowFor t (p .subject)) refl in
+      stored t (h .whole) (p .subject) (subjectRow a p r) (b .destination) (subject-held t a p h r b) (subject-fits t a p h r b) (omega (arith, h .room))
+
+  module _ (apart : a .transmitter ≡ p .subject → ⊥) where
+    row-before : rowFor u (a .transmitter) ≡ rowFor t (a .transmitter)
+    row-before = first .others (a .transmitter) (λ q. apart (sym q))
+
+    room-left : newRows (rowFor u (a .transmitter)) ≤ freeRows u
+    unfolding rowsNeeded
+    room-left =
+        let room = rw (differ (a .transmitter) (p .subject) apart) at (h .room) in
+        rw row-before (omega (arith, room, first .free))
+
+    second : Stored u (a .transmitter) (transmitterRow a (p .lifetime) (rowOrNew (a .transmitter) (rowFor u (a .transmitter))))
+        (store u (transmitterRow a (p .lifetime) (rowOrNew (a .transmitter) (rowFor u (a .transmitter)))))
+    unfolding transmitterRow renewed
+    second =
+        let r : Row = rowOrNew (a .transmitter) (rowFor u (a .transmitter)) in
+        let w : Whole u = first .keeps .whole in
+        let b : Basis (a .transmitter) r = basis u w (a .transmitter) (h .transmitter-fits) (rowFor u (a .transmitter)) refl in
+        let same-own : own t ≡ own u = ap (λ (g : Head). g .own) (sym (first .keeps .head)) in
+        stored u w (a .transmitter) (transmitterRow a (p .lifetime) r) (b .destination)
+        (subst (λ (x : Address). Held x (transmitterRow a (p .lifetime) r)) same-own (transmitter-held t a p h r b))
+        (transmitter-row-fits t a p h r b) room-left
+
+    -- the table after both steps
+    both-keep : Keeps t (transmitterLearnt a (p .lifetime) u)
+    unfolding transmitterLearnt
+    both-keep = by (takesLink a (rowFor u (a .transmitter)))
+      where
+        by : (b : Bool) → Keeps t (cond b (store u (transmitterRow a (p .lifetime) (rowOrNew (a .transmitter) (rowFor u (a .transmitter))))) u)
+        by true = keeps-trans (first .keeps) (second .keeps)
+        by false = first .keeps
+
+    renewal-there : Renewal (a .transmitter) a (p .lifetime) (rowFor u (a .transmitter)) (rowFor (transmitterLearnt a (p .lifetime) u) (a .transmitter))
+    unfolding transmitterLearnt
+    renewal-there = by (takesLink a (rowFor u (a .transmitter))) refl
+      where
+        by : (b : Bool) → takesLink a (rowFor u (a .transmitter)) ≡ b
+            → Renewal (a .transmitter) a (p .lifetime) (rowFor u (a .transmitter))
+            (rowFor (cond b (store u (transmitterRow a (p .lifetime) (rowOrNew (a .transmitter) (rowFor u (a .transmitter))))) u) (a .transmitter))
+        by true e = renewal refl e (second .here)
+        by false e = left refl
+
+    renewal-elsewhere : (d : Address) → (a .transmitter ≡ d → ⊥) → rowFor (transmitterLearnt a (p .lifetime) u) d ≡ rowFor u d
+    unfolding transmitterLearnt
+    renewal-elsewhere d n = by (takesLink a (rowFor u (a .transmitter)))
+      where
+        by : (b : Bool)
+            → rowFor (cond b (store u (transmitterRow a (p .lifetime) (rowOrNew (a .transmitter) (rowFor u (a .transmitter))))) u) d ≡ rowFor u d
+        by true = second .others d n
+        by false = refl
+
+    renewal-at : (d : Address) → Renewal d a (p .lifetime) (rowFor u d) (rowFor (transmitterLearnt a (p .lifetime) u) d)
+    renewal-at d =
+        ⊎-elim
+        (λ e. subst (λ (x : Address). Renewal x a (p .lifetime) (rowFor u x) (rowFor (transmitterLearnt a (p .lifetime) u) x)) e renewal-there)
+        (λ n. left (renewal-elsewhere d n)) (equal-or-not (a .transmitter) d)
+
+  first-at : (d : Address) → p .subject ≡ d → rowFor u d ≡ some (subjectRow a p (rowOrNew d (rowFor t d)))
+  first-at d e = subst (λ (x : Address). rowFor u x ≡ some (subjectRow a p (rowOrNew x (rowFor t x)))) e (first .here)
+
+  alone : (d : Address) → Learning d a p (rowFor t d) (rowFor u d)
+  alone d = ⊎-elim (λ e. subject e (first-at d e)) (λ n. other n (left (first .others d n))) (equal-or-not (p .subject) d)
+
+  with-transmitter : (a .transmitter ≡ p .subject → ⊥) → (d : Address)
+      → Learning d a p (rowFor t d) (rowFor (transmitterLearnt a (p .lifetime) u) d)
+  with-transmitter apart d =
+      ⊎-elim (λ e. subject e (renewal-elsewhere apart d (λ k. apart (k ∙ sym e)) ∙ first-at d e))
+      (λ n. other n (rw (← first .others d n) (renewal-at apart d)))
+      (equal-or-not (p .subject) d)
+
+  -- what becomes of the row of each destination
+  pub learning : (d : Address) → Learning d a p (rowFor t d) (rowFor (learnt a p t) d)
+  unfolding learnt u
+  learning d = by (same (a .transmitter) (p .subject)) refl
+    where
+      by : (b : Bool) → same (a .transmitter) (p .subject) ≡ b
+          → Learning d a p (rowFor t d) (rowFor (cond b (subjectLearnt a p t) (transmitterLearnt a (p .lifetime) (subjectLearnt a p t))) d)
+      by true e = alone d
+      by false e = with-transmitter (not-same (a .transmitter) (p .subject) e) d
+
+  -- the table stays one
+  pub learnt-keeps : Keeps t (learnt a p t)
+  unfolding learnt u
+  learnt-keeps = by (same (a .transmitter) (p .subject)) refl
+    where
+      by : (b : Bool) → same (a .transmitter) (p .subject) ≡ b
+          → Keeps t (cond b (subjectLearnt a p t) (transmitterLearnt a (p .lifetime) (subjectLearnt a p t)))
+      by true e = first .keeps
+      by false e = both-keep (not-same (a .transmitter) (p .subject) e)

@@ -1,0 +1,91 @@
+-- No call makes a row worse: as long as numbers stay inside a window of 2^31, the rank of a known number and its metric only
+-- gets better. These four facts are all that loop freedom needs of the rules' numbers. Assumes nothing.
+use Prim.Native.Nat.{ℕ, _-_, _^_, _<_, _≤_}
+use mathlib.Core.Path.{_≡_, refl, ap}
+use mathlib.Core.Bool.{Bool, true, false, _||_, cond}
+use mathlib.Core.List.{List}
+use mathlib.Core.Option.{Option, none, some}
+use lib.Dec.{eqb, leb, ltb}
+use native.Mathlib.Nat.{le-refl}
+use native.Mathlib.Omega.{arith}
+use borrow.Author.Tests.{ltb-true, leb-true, eqb-true}
+use Rattle.counters.specs.declared.SequenceNumber.{SequenceNumber}
+use Rattle.counters.specs.Numbers.{nextNumber, newer}
+use Rattle.counters.proofs.Rank.{Window, AtLeast, level, not-stale, newer-ahead, next-ahead}
+use Rattle.table.specs.declared.address.Address.{Address}
+use Rattle.table.specs.declared.row.Row.{Row}
+use Rattle.table.specs.Row.{active, invalidated, raised}
+use Rattle.table.specs.Table.{rowFor}
+use Rattle.element.specs.declared.NumberedAddress.{NumberedAddress}
+use Rattle.element.specs.declared.PathInfo.{PathInfo}
+use Rattle.rules.specs.Learn.{Arrival, metricHere, takesLink}
+use Rattle.rules.specs.Errors.{isThrough, isLostBy, numberBeside, erred, afterError, broken, afterBreak}
+use Rattle.rules.specs.Receive.{isStaleFor, isStale}
+
+-- the number of a row, where it is known, lies in the window
+abbrev pub InWindow : ℕ → Row → Type 0
+InWindow base r = eqb (r .known) 1 ≡ true → Window base (r .number)
+
+module _ (base : ℕ) (small : base < 2 ^ 32) where
+  -- a path that refusal 25 lets through is at least as good as the row
+  pub path-no-worse : (t : List ℕ) (a : Arrival) (p : PathInfo) → isStale t a p ≡ false → (r : Row) → rowFor t (p .subject) ≡ some r
+      → eqb (r .known) 1 ≡ true → Window base (p .number) → Window base (r .number)
+      → AtLeast base (p .number) (metricHere a p .0) (r .number) (r .metric .0)
+  unfolding isStale isStaleFor
+  path-no-worse t a p fresh r found known new old = not-stale small new old (rw (found, known) at fresh)
+
+  -- a row that breaks or is hit by an error stays as it is, or goes down with a rank at least as good
+  pub data Falls (r r′ : Row) : Type 0 where
+    stays : r′ ≡ r → Falls r r′
+    falls : eqb (r′ .status) 1 ≡ false → r′ .known ≡ r .known
+        → (eqb (r .known) 1 ≡ true → AtLeast base (r′ .number) (r′ .metric .0) (r .number) (r .metric .0)) → Falls r r′
+
+  invalid-falls : (r : Row) → Falls r (invalidated r)
+  unfolding invalidated
+  invalid-falls r = falls refl refl (λ _. level refl (le-refl (r .metric .0)))
+
+  raised-falls : (n : SequenceNumber) (r : Row) → (eqb (r .known) 1 ≡ true → AtLeast base n (2 ^ 32 - 1) (r .number) (r .metric .0))
+      → Falls r (raised n (invalidated r))
+  unfolding raised invalidated
+  raised-falls n r h = falls refl refl h
+
+  pub break-falls : (c : ℕ) (neighbour : Address) (r : Row) → InWindow base r → InWindow base (afterBreak c neighbour r)
+      → Falls r (afterBreak c neighbour r)
+  unfolding afterBreak broken raised invalidated
+  break-falls c neighbour r near = at (isThrough c neighbour r)
+    where
+      at : (b : Bool) → InWindow base (cond b (broken r) r) → Falls r (cond b (broken r) r)
+      at false near′ = stays refl
+      at true near′ = by (eqb (r .known) 1) refl near′
+        where
+          by : (b : Bool) → eqb (r .known) 1 ≡ b → InWindow base (cond b (raised (nextNumber (r .number)) (invalidated r)) (invalidated r))
+              → Falls r (cond b (raised (nextNumber (r .number)) (invalidated r)) (invalidated r))
+          by true k near′ = raised-falls (nextNumber (r .number)) r (λ _. next-ahead small (near k) (near′ k))
+          by false k near′ = invalid-falls r
+
+  pub error-falls : (c : ℕ) (transmitter : Address) (named : List NumberedAddress) (r : Row) → InWindow base r
+      → InWindow base (afterError c transmitter named r) → Falls r (afterError c transmitter named r)
+  unfolding afterError erred raised invalidated
+  error-falls c transmitter named r near = at (isLostBy c transmitter r) (numberBeside (r .destination) named)
+    where
+      at : (b : Bool) (o : Option SequenceNumber) → InWindow base (cond b (erred o r) r) → Falls r (cond b (erred o r) r)
+      at false o near′ = stays refl
+      at true none near′ = stays refl
+      at true (some n) near′ = by (newer n (r .number)) refl near′
+        where
+          by : (b : Bool) → newer n (r .number) ≡ b → InWindow base (cond b (raised n (invalidated r)) (invalidated r))
+              → Falls r (cond b (raised n (invalidated r)) (invalidated r))
+          by true e near′ = raised-falls n r (λ k. newer-ahead small (near′ k) (near k) e)
+          by false e near′ = invalid-falls r
+
+-- a transmitter's row of known number is changed only if that makes its metric no worse
+pub link-no-worse : (a : Arrival) (r : Row) → takesLink a (some r) ≡ true → eqb (r .known) 1 ≡ true → a .link .0 ≤ r .metric .0
+unfolding takesLink
+link-no-worse a r h known = by (active (a .clock) r) h
+  where
+    known-not-zero : eqb (r .known) 0 ≡ false
+    known-not-zero = ap (λ k. eqb k 0) (eqb-true (r .known) 1 known)
+
+    by : (b : Bool) → cond b (ltb (a .link .0) (r .metric .0)) (eqb (r .known) 0 || leb (a .link .0) (r .metric .0)) ≡ true → a .link .0 ≤ r .metric .0
+    by true e = omega (arith, ltb-true (a .link .0) (r .metric .0) e)
+    by false e = leb-true (a .link .0) (r .metric .0) (rw known-not-zero at e)

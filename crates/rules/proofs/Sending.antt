@@ -1,0 +1,309 @@
+-- Every element that a call emits fits its octets and has as many entries as it may have. Assumes nothing.
+use Prim.Native.Nat.{ℕ, _+_, _-_, _*_, _/_, _^_, _<_, _≤_}
+use mathlib.Core.Path.{_≡_, refl}
+use mathlib.Core.Bool.{Bool, true, false, cond}
+use mathlib.Core.List.{List, [], _∷_}
+use mathlib.Core.Option.{Option, none, some}
+use lib.Dec.{eqb, leb, ltb}
+use lib.ListN.{length, take, drop, length-append, length-take, length-drop}
+use native.Mathlib.Omega.{arith}
+use borrow.Author.Tests.{le-leb}
+use Rattle.octets.specs.LittleEndian.{Octets}
+use Rattle.octets.proofs.Laws.{FitFields}
+use Rattle.counters.specs.declared.SequenceNumber.{SequenceNumber}
+use Rattle.counters.specs.declared.HopCount.{HopCount}
+use Rattle.counters.specs.declared.Metric.{Metric}
+use Rattle.counters.specs.Numbers.{stepped, nextNumber}
+use Rattle.table.specs.declared.address.Address.{Address}
+use Rattle.table.specs.declared.row.Row.{Row}
+use Rattle.table.specs.Address.{same}
+use Rattle.table.specs.Row.{active, invalidated, raised}
+use Rattle.table.specs.Layout.{rows, rowAt}
+use Rattle.table.specs.Table.{own, rowFor}
+use Rattle.table.proofs.HeadAndRows.{FitRow, row-fits}
+use Rattle.table.proofs.Lookup.{row-fits-its-octets}
+use Rattle.element.specs.declared.NumberedAddress.{NumberedAddress}
+use Rattle.element.specs.declared.PathInfo.{PathInfo}
+use Rattle.element.specs.declared.RreqFields.{RreqFields}
+use Rattle.element.specs.declared.RrepFields.{RrepFields}
+use Rattle.element.specs.declared.Target.{Target}
+use Rattle.element.specs.Element.{Element, rann, rreq, rrep, rerr}
+use Rattle.element.specs.Lists.{allOnes}
+use Rattle.element.specs.Entries.{each, All}
+use Rattle.element.proofs.ListParts.{FitsTarget, FitsNumbered}
+use Rattle.element.proofs.ReadBack.{Fits, all-each}
+use Rattle.rules.specs.Flags.{replyWanted, unicast, hasRF, withDO}
+use Rattle.rules.specs.Outcome.{Frame}
+use Rattle.rules.specs.Learn.{Arrival, metricHere}
+use Rattle.rules.specs.Destinations.{Answered, reply, answeredNumber, answersFor, forOneself, forAll, forAnother, answered, allAnswered, keptAfterReply}
+use Rattle.rules.specs.Onward.{onward, towards, toAll, whileAlive, rannOnward, rreqOnward, rrepOnward}
+use Rattle.rules.specs.Errors.{isThrough, broken, brokenEntry, brokenEntries, errorAt, errorsFor}
+use Rattle.rules.proofs.Alls.{all-one, all-append, all-between, all-take, all-drop, all-flat-map}
+use Rattle.rules.proofs.Tables.{Whole, own-fits}
+use Rattle.rules.proofs.Learning.{PathFits}
+use Rattle.rules.proofs.Falling.{next-fits}
+
+abbrev pub FramesFit : List Frame → Type 0
+FramesFit frames = All (λ (f : Frame). Fits (f .element)) frames
+
+none-fits : FramesFit []
+unfolding All
+none-fits = tt
+
+pub to-all-fits : (e : Element) → Fits e → FramesFit (toAll e)
+to-all-fits e f = all-one (λ (x : Frame). Fits (x .element)) (record { receiver = allOnes; element = e }) f
+
+towards-fits : (c : ℕ) (e : Element) → Fits e → (o : Option Row) → FramesFit (towards c e o)
+unfolding towards
+towards-fits c e f none = none-fits
+towards-fits c e f (some r) = by (active c r)
+  where
+    by : (b : Bool) → FramesFit (cond b (record { receiver = r .next; element = e } ∷ []) [])
+    by true = all-one (λ (x : Frame). Fits (x .element)) (record { receiver = r .next; element = e }) f
+    by false = none-fits
+
+while-alive-fits : (p : PathInfo) (frames : List Frame) → FramesFit frames → FramesFit (whileAlive p frames)
+while-alive-fits p frames f = by (ltb (p .ttl) 2)
+  where
+    by : (b : Bool) → FramesFit (cond b [] frames)
+    by true = none-fits
+    by false = f
+
+-- ---- elements whose path fits
+
+pub rann-fits : (p : PathInfo) → PathFits p → Fits (rann p)
+unfolding FitFields
+rann-fits p f =
+    record {
+      fields = (f .flags, (f .hops, (f .ttl, (f .subject, (f .number, (f .lifetime, (f .metric, tt)))))));
+      entries = tt;
+      count = refl;
+    }
+
+pub rreq-fits : (f : RreqFields) (targets : List Target) → f .request .0 < 256 ^ 4 → PathFits (f .path) → All FitsTarget targets
+    → 1 ≤ length targets → length targets ≤ 20 → Fits (rreq f targets)
+unfolding FitFields
+rreq-fits f targets i p entries one few =
+    record {
+      fields = (p .flags, (p .hops, (p .ttl, (i, (p .subject, (p .number, (p .lifetime, (p .metric, tt))))))));
+      entries = entries;
+      count = rw (le-leb 1 (length targets) one, le-leb (length targets) 20 few);
+    }
+
+rrep-fits : (f : RrepFields) (dependents : List NumberedAddress) → PathFits (f .path) → FitsNumbered (f .source) → All FitsNumbered dependents
+    → leb (length dependents) 22 ≡ true → Fits (rrep f dependents)
+unfolding FitFields
+rrep-fits f dependents p source entries few =
+    record {
+      fields = (p .flags, (p .hops, (p .ttl, (p .subject, (p .number, (p .lifetime, (p .metric, (source .0, (source .1 .0, tt)))))))));
+      entries = entries;
+      count = few;
+    }
+
+pub rerr-fits : (flags : ℕ) (entries : List NumberedAddress) → flags < 256 ^ 1 → All FitsNumbered entries → 1 ≤ length entries → length entries ≤ 25
+    → Fits (rerr flags entries)
+unfolding FitFields
+rerr-fits flags entries f fit one few =
+    record { fields = (f, tt); entries = fit; count = rw (le-leb 1 (length entries) one, le-leb (length entries) 25 few) }
+
+-- ---- what goes on
+
+module _ (a : Arrival) (p : PathInfo) (f : PathFits p) (hops : p .hops .0 < 255) (metric : metricHere a p .0 ≤ 2 ^ 32 - 2) where
+  onward-fits : PathFits (onward a p)
+  unfolding onward
+  onward-fits =
+      let t = f .ttl in
+      record {
+        flags = f .flags;
+        hops = omega arith;
+        ttl = omega arith;
+        subject = f .subject;
+        number = f .number;
+        lifetime = f .lifetime;
+        metric = omega arith;
+      }
+
+  pub rann-onward-fits : (t : List ℕ) → FramesFit (rannOnward t a p)
+  unfolding rannOnward
+  rann-onward-fits t = while-alive-fits p _ (to-all-fits (rann (onward a p)) (rann-fits (onward a p) onward-fits))
+
+module _ (a : Arrival) (f : RreqFields) (request : f .request .0 < 256 ^ 4) (fits : PathFits (f .path)) (hops : f .path .hops .0 < 255)
+    (metric : metricHere a (f .path) .0 ≤ 2 ^ 32 - 2) where
+  pub rreq-onward-fits : (t : List ℕ) (kept : List Target) → All FitsTarget kept → length kept ≤ 20 → FramesFit (rreqOnward t a f kept)
+  unfolding rreqOnward
+  rreq-onward-fits t [] fit few = none-fits
+  rreq-onward-fits t (q ∷ qs) fit few = while-alive-fits (f .path) _ (by (unicast (f .path)))
+    where
+      e : Element
+      e = rreq (record { request = f .request; path = onward a (f .path) }) (q ∷ qs)
+
+      e-fits : Fits e
+      e-fits = rreq-fits _ (q ∷ qs) request (onward-fits a (f .path) fits hops metric) fit (omega arith) few
+
+      by : (b : Bool) → FramesFit (cond b (towards (a .clock) e (rowFor t (q .address))) (toAll e))
+      by true = towards-fits (a .clock) e e-fits (rowFor t (q .address))
+      by false = to-all-fits e e-fits
+
+module _ (a : Arrival) (f : RrepFields) (fits : PathFits (f .path)) (hops : f .path .hops .0 < 255)
+    (metric : metricHere a (f .path) .0 ≤ 2 ^ 32 - 2) where
+  pub rrep-onward-fits : (t : List ℕ) (dependents : List NumberedAddress) → FitsNumbered (f .source) → All FitsNumbered dependents
+      → leb (length dependents) 22 ≡ true → FramesFit (rrepOnward t a f dependents)
+  unfolding rrepOnward
+  rrep-onward-fits t dependents source fit few = by (same (f .source .address) (own t))
+    where
+      e : Element
+      e = rrep (record { path = onward a (f .path); source = f .source }) dependents
+
+      by : (b : Bool) → FramesFit (cond b [] (towards (a .clock) e (rowFor t (f .source .address))))
+      by true = none-fits
+      by false =
+          towards-fits (a .clock) e (rrep-fits _ dependents (onward-fits a (f .path) fits hops metric) source fit few) (rowFor t (f .source .address))
+
+-- ---- the destinations of a RREQ
+
+pub record AnsweredFits (n : ℕ) (x : Answered) : Type 0 where
+  pub number : x .number .0 < 256 ^ 4
+  pub replies : FramesFit (x .replies)
+  pub kept : All FitsTarget (x .kept)
+  pub fewer : length (x .kept) ≤ n
+
+with-do-fits : (q : Target) → FitsTarget q → FitsTarget (withDO q)
+unfolding FitFields withDO
+with-do-fits q f = let k = f .0 in (omega arith, f .1)
+
+answered-number-fits : (self requested : SequenceNumber) → answeredNumber self requested .0 < 256 ^ 4
+unfolding answeredNumber stepped
+answered-number-fits self requested = omega arith
+
+-- the table t is that after steps 1 and 2
+module _ (t : List ℕ) (w : Whole t) (a : Arrival) (p : PathInfo) (f : PathFits p) where
+  reply-fits : (d : Address) (n : SequenceNumber) (hops : HopCount) (metric : Metric) → d .0 < 256 ^ 6 → n .0 < 256 ^ 4 → hops .0 < 256 ^ 1
+      → metric .0 < 256 ^ 4 → FramesFit (reply a p d n hops metric ∷ [])
+  unfolding reply FitFields All
+  reply-fits d n hops metric d-fits n-fits hops-fit metric-fits =
+      all-one (λ (x : Frame). Fits (x .element)) (reply a p d n hops metric)
+      (rrep-fits _ []
+      (record { flags = omega arith; hops = hops-fit; ttl = omega arith; subject = d-fits; number = n-fits; lifetime = f .lifetime; metric = metric-fits })
+      (f .subject, (f .number, tt)) tt refl)
+
+  own-reply-fits : (n : SequenceNumber) → n .0 < 256 ^ 4 → FramesFit (reply a p (own t) n (record { 0 = 0 }) (record { 0 = 0 }) ∷ [])
+  own-reply-fits n fits = reply-fits (own t) n (record { 0 = 0 }) (record { 0 = 0 }) (own-fits t w) fits (omega arith) (omega arith)
+
+  module _ (n : SequenceNumber) (n-fits : n .0 < 256 ^ 4) (q : Target) (q-fits : FitsTarget q) where
+    kept-on-fits : AnsweredFits 1 (record { number = n; replies = []; kept = q ∷ [] })
+    kept-on-fits = record { number = n-fits; replies = none-fits; kept = all-one FitsTarget q q-fits; fewer = omega arith }
+
+    oneself-fits : AnsweredFits 1 (forOneself t a p n q)
+    unfolding forOneself All
+    oneself-fits =
+        let fits = answered-number-fits n (q .number) in
+        record { number = fits; replies = own-reply-fits (answeredNumber n (q .number)) fits; kept = tt; fewer = omega arith }
+
+    all-fits : AnsweredFits 1 (forAll t a p n q)
+    unfolding forAll
+    all-fits = by (replyWanted p)
+      where
+        by : (b : Bool) → AnsweredFits 1 (cond b
+            (record { number = nextNumber n; replies = reply a p (own t) (nextNumber n) (record { 0 = 0 }) (record { 0 = 0 }) ∷ []; kept = q ∷ [] })
+            (record { number = n; replies = []; kept = q ∷ [] }))
+        by true =
+            record {
+              number = next-fits n;
+              replies = own-reply-fits (nextNumber n) (next-fits n);
+              kept = all-one FitsTarget q q-fits;
+              fewer = omega arith;
+            }
+        by false = kept-on-fits
+
+    row-reply-fits : (r : Row) → FitRow r → FramesFit (reply a p (r .destination) (r .number) (r .hops) (r .metric) ∷ [])
+    unfolding FitRow FitFields
+    row-reply-fits r g =
+        reply-fits (r .destination) (r .number) (r .hops) (r .metric) (g .1 .1 .1 .1 .0) (g .1 .1 .1 .1 .1 .1 .0) (g .1 .1 .0) (g .1 .1 .1 .1 .1 .1 .1 .0)
+
+    kept-after-fits : All FitsTarget (keptAfterReply q) × (length (keptAfterReply q) ≤ 1)
+    unfolding All
+    kept-after-fits = by (hasRF q)
+      where
+        by : (b : Bool) → All FitsTarget (cond b (withDO q ∷ []) []) × (length (cond b (withDO q ∷ []) []) ≤ 1)
+        by true = (all-one FitsTarget (withDO q) (with-do-fits q q-fits), omega arith)
+        by false = (tt, omega arith)
+
+    another-fits : (o : Option Row) → rowFor t (q .address) ≡ o → AnsweredFits 1 (forAnother t a p n q o)
+    unfolding forAnother
+    another-fits none e = kept-on-fits
+    another-fits (some r) e = by (answersFor (a .clock) q r)
+      where
+        by : (b : Bool) → AnsweredFits 1 (cond b
+            (record { number = n; replies = reply a p (r .destination) (r .number) (r .hops) (r .metric) ∷ []; kept = keptAfterReply q })
+            (record { number = n; replies = []; kept = q ∷ [] }))
+        by true =
+            record {
+              number = n-fits;
+              replies = row-reply-fits r (row-fits-its-octets t (q .address) r e (w .octets));
+              kept = kept-after-fits .0;
+              fewer = kept-after-fits .1;
+            }
+        by false = kept-on-fits
+
+    answered-fits : AnsweredFits 1 (answered t a p n q)
+    unfolding answered
+    answered-fits = by (same (q .address) (own t)) (same (q .address) allOnes)
+      where
+        by : (b b′ : Bool) → AnsweredFits 1 (cond b (forOneself t a p n q) (cond b′ (forAll t a p n q) (forAnother t a p n q (rowFor t (q .address)))))
+        by true b′ = oneself-fits
+        by false true = all-fits
+        by false false = another-fits (rowFor t (q .address)) refl
+
+  pub all-answered-fits : (n : SequenceNumber) → n .0 < 256 ^ 4 → (targets : List Target) → All FitsTarget targets
+      → AnsweredFits (length targets) (allAnswered t a p n targets)
+  unfolding allAnswered All
+  all-answered-fits n n-fits [] fit = record { number = n-fits; replies = none-fits; kept = tt; fewer = omega arith }
+  all-answered-fits n n-fits (q ∷ qs) fit =
+      let this : Answered = answered t a p n q in
+      let this-fits : AnsweredFits 1 this = answered-fits n n-fits q (fit .0) in
+      let rest : Answered = allAnswered t a p (this .number) qs in
+      let rest-fits : AnsweredFits (length qs) rest = all-answered-fits (this .number) (this-fits .number) qs (fit .1) in
+      record {
+        number = rest-fits .number;
+        replies = all-append (λ (x : Frame). Fits (x .element)) (this .replies) (rest .replies) (this-fits .replies) (rest-fits .replies);
+        kept = all-append FitsTarget (this .kept) (rest .kept) (this-fits .kept) (rest-fits .kept);
+        fewer = omega (arith, length-append (this .kept) (rest .kept), this-fits .fewer, rest-fits .fewer);
+      }
+
+-- ---- the errors of a break
+
+broken-number-fits : (r : Row) → FitRow r → broken r .number .0 < 256 ^ 4
+unfolding broken raised invalidated FitRow FitFields
+broken-number-fits r f = by (eqb (r .known) 1)
+  where
+    by : (b : Bool) → cond b (raised (nextNumber (r .number)) (invalidated r)) (invalidated r) .number .0 < 256 ^ 4
+    by true = next-fits (r .number)
+    by false = f .1 .1 .1 .1 .1 .1 .0
+
+module _ (t : List ℕ) (o : Octets t) (c : ℕ) (neighbour : Address) where
+  entry-fits : (r : Row) → FitRow r → All FitsNumbered (brokenEntry c neighbour r)
+  unfolding brokenEntry All FitFields FitRow
+  entry-fits r f = by (isThrough c neighbour r)
+    where
+      by : (b : Bool) → All FitsNumbered (cond b (record { address = r .destination; number = broken r .number } ∷ []) [])
+      by true = ((f .1 .1 .1 .1 .0, (broken-number-fits r f, tt)), tt)
+      by false = tt
+
+  pub entries-fit : All FitsNumbered (brokenEntries t c neighbour)
+  unfolding brokenEntries
+  entries-fit =
+      all-flat-map FitsNumbered FitRow (brokenEntry c neighbour) entry-fits (each (rowAt t) 0 (rows t))
+      (all-each FitRow (rowAt t) (λ i. row-fits t i o) 0 (rows t))
+
+error-at-fits : (entries : List NumberedAddress) → All FitsNumbered entries → (i : ℕ) → i < (length entries + 24) / 25 → Fits (errorAt entries i .element)
+unfolding errorAt
+error-at-fits entries fit i l =
+    let part : List NumberedAddress = drop (25 * i) entries in
+    let long : length part ≡ length entries - 25 * i = length-drop (25 * i) entries in
+    rerr-fits 0 (take 25 part) (omega arith) (all-take FitsNumbered 25 part (all-drop FitsNumbered (25 * i) entries fit))
+    (omega (arith, long, length-take 25 part)) (omega (arith, length-take 25 part))
+
+pub errors-fit : (entries : List NumberedAddress) → All FitsNumbered entries → FramesFit (errorsFor entries)
+unfolding errorsFor
+errors-fit entries fit =
+    all-between (λ (x : Frame). Fits (x .element)) (errorAt entries) 0 ((length entries + 24) / 25) (λ k _ l. error-at-fits entries fit k (omega (arith, l)))

@@ -1,0 +1,35 @@
+-- Report a broken neighbour. Assumes nothing.
+use Prim.Native.Nat.{ℕ, _-_, _^_}
+use mathlib.Core.Bool.{not}
+use mathlib.Core.List.{List}
+use lib.Dec.{ltb}
+use Rattle.table.specs.declared.address.Address.{Address}
+use Rattle.table.specs.declared.row.Row.{Row}
+use Rattle.table.specs.Address.{individual, same}
+use Rattle.table.specs.Layout.{sized, headAt, putHead}
+use Rattle.table.specs.Table.{own, number, requestId, clock, isTable, eachHeld}
+use Rattle.rules.specs.Decision.{Decision, Ruling, decide, refuse_when_, accept, _>>_}
+use Rattle.rules.specs.Outcome.{Effect, headWith}
+use Rattle.rules.specs.Errors.{afterBreak, brokenEntries, errorsFor}
+
+-- each held row is changed by f, the clock is stored, and the rows that break are announced
+unfoldable pub brokenOff : (Row → Row) → List ℕ → ℕ → Address → Effect
+brokenOff f t c neighbour =
+    record {
+      table = putHead (eachHeld f t) (headWith (number t) (requestId t) c (headAt t));
+      frames = errorsFor (brokenEntries t c neighbour);
+    }
+
+abbrev pub breaking : List ℕ → ℕ → ℕ → Address → Ruling Effect
+breaking t room c neighbour = do
+  refuse 1 when not (sized t)
+  refuse 2 when ltb room 1560
+  refuse 3 when ltb (2 ^ 48 - 1) c
+  refuse 4 when not (individual neighbour)
+  refuse 21 when not (isTable t)
+  refuse 22 when ltb c (clock t)
+  refuse 23 when same neighbour (own t)
+  accept (brokenOff (afterBreak c neighbour) t c neighbour)
+
+unfoldable pub breakNeighbour : List ℕ → ℕ → ℕ → Address → Decision Effect
+breakNeighbour t room c neighbour = decide (breaking t room c neighbour)

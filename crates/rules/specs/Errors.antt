@@ -1,0 +1,76 @@
+-- 'Errors and breaks': which rows are lost, what becomes of them, and the errors that name them. Assumes nothing.
+use Prim.Native.Nat.{ℕ, _+_, _*_, _/_}
+use mathlib.Core.Bool.{Bool, _&&_, cond}
+use mathlib.Core.List.{List, [], _∷_, flatMap}
+use mathlib.Core.Option.{Option, none, some}
+use lib.Dec.{eqb}
+use lib.ListN.{length, take, drop}
+use Rattle.counters.specs.declared.SequenceNumber.{SequenceNumber}
+use Rattle.counters.specs.Numbers.{nextNumber, newer}
+use Rattle.table.specs.declared.address.Address.{Address}
+use Rattle.table.specs.declared.row.Row.{Row}
+use Rattle.table.specs.Address.{same}
+use Rattle.table.specs.Row.{active, invalidated, raised}
+use Rattle.table.specs.Layout.{rows, rowAt}
+use Rattle.table.specs.Table.{rowFor}
+use Rattle.element.specs.declared.NumberedAddress.{NumberedAddress}
+use Rattle.element.specs.Element.{rerr}
+use Rattle.element.specs.Entries.{each}
+use Rattle.element.specs.Lists.{allOnes}
+use Rattle.rules.specs.Lists.{has}
+use Rattle.rules.specs.Outcome.{Frame}
+
+-- an active row with this next hop
+unfoldable pub isThrough : ℕ → Address → Row → Bool
+isThrough c hop r = active c r && same (r .next) hop
+
+-- ---- a received RERR
+
+-- an active row of known number whose next hop is the transmitter
+unfoldable pub isLostBy : ℕ → Address → Row → Bool
+isLostBy c transmitter r = isThrough c transmitter r && eqb (r .known) 1
+
+-- a destination that the RERR names and whose row is so
+unfoldable pub matches : List ℕ → ℕ → Address → NumberedAddress → Bool
+matches t c transmitter m = has (isLostBy c transmitter) (rowFor t (m .address))
+
+-- the number beside a destination that is named
+unfoldable pub numberBeside : Address → List NumberedAddress → Option SequenceNumber
+numberBeside d [] = none
+numberBeside d (m ∷ named) = cond (same (m .address) d) (some (m .number)) (numberBeside d named)
+
+-- a match is invalidated; if the received number is newer, the row takes it and metric 4,294,967,295
+unfoldable pub erred : Option SequenceNumber → Row → Row
+erred none r = r
+erred (some n) r = cond (newer n (r .number)) (raised n (invalidated r)) (invalidated r)
+
+-- a row after a RERR
+unfoldable pub afterError : ℕ → Address → List NumberedAddress → Row → Row
+afterError c transmitter named r = cond (isLostBy c transmitter r) (erred (numberBeside (r .destination) named) r) r
+
+-- ---- a broken neighbour
+
+-- a row that breaks is invalidated; if its number is known, it is stepped by one and metric becomes 4,294,967,295
+unfoldable pub broken : Row → Row
+broken r = cond (eqb (r .known) 1) (raised (nextNumber (r .number)) (invalidated r)) (invalidated r)
+
+-- a row after a break
+unfoldable pub afterBreak : ℕ → Address → Row → Row
+afterBreak c neighbour r = cond (isThrough c neighbour r) (broken r) r
+
+-- its entry in an error, with the number that the break leaves
+unfoldable pub brokenEntry : ℕ → Address → Row → List NumberedAddress
+brokenEntry c neighbour r =
+    cond (isThrough c neighbour r) (record { address = r .destination; number = broken r .number } ∷ []) []
+
+-- the entries of all rows that break, in table order
+unfoldable pub brokenEntries : List ℕ → ℕ → Address → List NumberedAddress
+brokenEntries t c neighbour = flatMap (brokenEntry c neighbour) (each (rowAt t) 0 (rows t))
+
+-- 25 to a RERR: the RERR number i has those from 25 i on
+unfoldable pub errorAt : List NumberedAddress → ℕ → Frame
+errorAt entries i = record { receiver = allOnes; element = rerr 0 (take 25 (drop (25 * i) entries)) }
+
+-- to all ones, flags 0; none, no frame
+unfoldable pub errorsFor : List NumberedAddress → List Frame
+errorsFor entries = each (errorAt entries) 0 ((length entries + 24) / 25)

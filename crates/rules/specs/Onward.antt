@@ -1,0 +1,64 @@
+-- What goes on, and to whom. Assumes nothing.
+use Prim.Native.Nat.{ℕ, _-_}
+use mathlib.Core.Bool.{cond}
+use mathlib.Core.List.{List, [], _∷_}
+use mathlib.Core.Option.{Option, none, some}
+use lib.Dec.{ltb}
+use Rattle.table.specs.declared.row.Row.{Row}
+use Rattle.table.specs.Address.{same}
+use Rattle.table.specs.Row.{active}
+use Rattle.table.specs.Table.{own, rowFor}
+use Rattle.element.specs.declared.PathInfo.{PathInfo}
+use Rattle.element.specs.declared.NumberedAddress.{NumberedAddress}
+use Rattle.element.specs.declared.Target.{Target}
+use Rattle.element.specs.declared.RreqFields.{RreqFields}
+use Rattle.element.specs.declared.RrepFields.{RrepFields}
+use Rattle.element.specs.Element.{Element, rann, rreq, rrep}
+use Rattle.element.specs.Lists.{allOnes}
+use Rattle.rules.specs.Flags.{unicast}
+use Rattle.rules.specs.Outcome.{Frame}
+use Rattle.rules.specs.Learn.{Arrival, metricHere, hopsHere}
+
+-- the three changes: hop count + 1, TTL - 1, metric + link
+unfoldable pub onward : Arrival → PathInfo → PathInfo
+onward a p =
+    record {
+      flags = p .flags;
+      hops = hopsHere p;
+      ttl = p .ttl - 1;
+      subject = p .subject;
+      number = p .number;
+      lifetime = p .lifetime;
+      metric = metricHere a p;
+    }
+
+abbrev pub toAll : Element → List Frame
+toAll e = record { receiver = allOnes; element = e } ∷ []
+
+-- to the active next hop of a destination, and not at all if there is none
+unfoldable pub towards : ℕ → Element → Option Row → List Frame
+towards c e none = []
+towards c e (some r) = cond (active c r) (record { receiver = r .next; element = e } ∷ []) []
+
+-- if TTL is at least 2
+abbrev pub whileAlive : PathInfo → List Frame → List Frame
+whileAlive p frames = cond (ltb (p .ttl) 2) [] frames
+
+-- The table t is that after steps 1 and 2.
+module _ (t : List ℕ) (a : Arrival) where
+  -- RANN goes on to all ones
+  unfoldable pub rannOnward : PathInfo → List Frame
+  rannOnward p = whileAlive p (toAll (rann (onward a p)))
+
+  -- RREQ goes on with the kept destinations, if there are any: to all ones, or if unicast towards its destination
+  unfoldable pub rreqOnward : RreqFields → List Target → List Frame
+  rreqOnward f [] = []
+  rreqOnward f (q ∷ qs) =
+      let e : Element = rreq (record { request = f .request; path = onward a (f .path) }) (q ∷ qs) in
+      whileAlive (f .path) (cond (unicast (f .path)) (towards (a .clock) e (rowFor t (q .address))) (toAll e))
+
+  -- RREP goes on towards its source, unless that is this point
+  unfoldable pub rrepOnward : RrepFields → List NumberedAddress → List Frame
+  rrepOnward f dependents =
+      cond (same (f .source .address) (own t)) []
+      (towards (a .clock) (rrep (record { path = onward a (f .path); source = f .source }) dependents) (rowFor t (f .source .address)))

@@ -1,0 +1,135 @@
+-- 'Originating': ask, announce and root request. Each takes the next own number; hop count 0, TTL 31, metric 0, to all ones.
+-- Assumes nothing.
+use Prim.Native.Nat.{ℕ, _*_, _/_, _%_}
+use mathlib.Core.Bool.{Bool, not, _&&_, _||_, cond}
+use mathlib.Core.List.{List, [], _∷_, map}
+use mathlib.Core.Option.{Option, none, some}
+use lib.Dec.{eqb, leb, ltb}
+use lib.ListN.{length, getD}
+use Rattle.octets.specs.LittleEndian.{fieldsAt}
+use Rattle.counters.specs.declared.SequenceNumber.{SequenceNumber}
+use Rattle.counters.specs.Numbers.{nextNumber, nextRequest}
+use Rattle.table.specs.declared.address.Address.{Address}
+use Rattle.table.specs.declared.row.Row.{Row}
+use Rattle.table.specs.Layout.{sized, headAt, putHead}
+use Rattle.table.specs.Table.{own, number, requestId, clock, isTable, rowFor}
+use Rattle.element.specs.declared.PathInfo.{PathInfo}
+use Rattle.element.specs.declared.Target.{Target}
+use Rattle.element.specs.declared.list.ListKind.the-variants.{NumberedAddresses}
+use Rattle.element.specs.Element.{rann, rreq}
+use Rattle.element.specs.Entries.{each}
+use Rattle.element.specs.Lists.{allOnes, anyForbidden, among, twice}
+use Rattle.rules.specs.Decision.{Decision, Ruling, decide, refuse_when_, accept, _>>_}
+use Rattle.rules.specs.Lists.{any}
+use Rattle.rules.specs.Outcome.{Effect, headWith}
+use Rattle.rules.specs.Onward.{toAll}
+
+-- ---- what all three have in common
+
+-- what the point t says of itself, under its next own number
+unfoldable pub ownPath : List ℕ → ℕ → ℕ → PathInfo
+ownPath t flags lifetime =
+    record {
+      flags = flags;
+      hops = record { 0 = 0 };
+      ttl = 31;
+      subject = own t;
+      number = nextNumber (number t);
+      lifetime = lifetime;
+      metric = record { 0 = 0 };
+    }
+
+-- an announcement: the own number steps
+unfoldable pub announced : List ℕ → ℕ → ℕ → Effect
+announced t flags lifetime =
+    record {
+      table = putHead t (headWith (nextNumber (number t)) (requestId t) (clock t) (headAt t));
+      frames = toAll (rann (ownPath t flags lifetime));
+    }
+
+-- a request for these destinations: the own number and the request ID step
+unfoldable pub requested : List ℕ → ℕ → ℕ → List Target → Effect
+requested t flags lifetime targets =
+    record {
+      table = putHead t (headWith (nextNumber (number t)) (nextRequest (requestId t)) (clock t) (headAt t));
+      frames = toAll (rreq (record { request = nextRequest (requestId t); path = ownPath t flags lifetime }) targets);
+    }
+
+-- ---- ask: items of flags 1 and address 6
+
+pub record Item : Type 0 where
+  pub flags : ℕ
+  pub address : Address
+
+abbrev pub itemWidths : List ℕ
+itemWidths = 1 ∷ 6 ∷ []
+
+abbrev pub itemFrom : List ℕ → Item
+itemFrom xs = record { flags = getD xs 0 0; address = record { 0 = getD xs 1 0 } }
+
+unfoldable pub itemAt : List ℕ → ℕ → Item
+itemAt s i = itemFrom (fieldsAt itemWidths s (7 * i) 0)
+
+abbrev pub itemsIn : List ℕ → List Item
+itemsIn s = each (itemAt s) 0 (length s / 7)
+
+abbrev pub itemAddresses : List Item → List Address
+itemAddresses items = map (λ (i : Item). i .address) items
+
+-- 8. for an ask: 7 octets an item, 1 to 20 items
+unfoldable pub itemsFit : List ℕ → Bool
+itemsFit s = eqb (length s % 7) 0 && leb 7 (length s) && leb (length s) 140
+
+-- a destination's number is the row's known one, else 0
+unfoldable pub knownNumber : Option Row → SequenceNumber
+knownNumber none = record { 0 = 0 }
+knownNumber (some r) = cond (eqb (r .known) 1) (r .number) (record { 0 = 0 })
+
+unfoldable pub askedFor : List ℕ → Item → Target
+askedFor t i = record { flags = i .flags; address = i .address; number = knownNumber (rowFor t (i .address)) }
+
+abbrev pub asking : List ℕ → ℕ → ℕ → List ℕ → Ruling Effect
+asking t room lifetime s = do
+  refuse 1 when not (sized t)
+  refuse 2 when ltb room 1560
+  refuse 8 when not (itemsFit s)
+  refuse 9 when anyForbidden NumberedAddresses (itemAddresses (itemsIn s))
+  refuse 10 when twice (itemAddresses (itemsIn s)) || any (λ (i : Item). ltb 3 (i .flags)) (itemsIn s)
+  refuse 11 when eqb lifetime 0
+  refuse 21 when not (isTable t)
+  refuse 24 when among (own t) (itemAddresses (itemsIn s))
+  accept (requested t 0 lifetime (map (askedFor t) (itemsIn s)))
+
+unfoldable pub ask : List ℕ → ℕ → ℕ → List ℕ → Decision Effect
+ask t room lifetime s = decide (asking t room lifetime s)
+
+-- ---- announce
+
+abbrev pub announcing : List ℕ → ℕ → ℕ → ℕ → Ruling Effect
+announcing t room flags lifetime = do
+  refuse 1 when not (sized t)
+  refuse 2 when ltb room 1560
+  refuse 10 when ltb 1 flags
+  refuse 11 when eqb lifetime 0
+  refuse 21 when not (isTable t)
+  accept (announced t flags lifetime)
+
+unfoldable pub announce : List ℕ → ℕ → ℕ → ℕ → Decision Effect
+announce t room flags lifetime = decide (announcing t room flags lifetime)
+
+-- ---- root request: all ones as its one destination with DO and RF set and number 0
+
+abbrev pub allWithDOAndRF : Target
+allWithDOAndRF = record { flags = 3; address = allOnes; number = record { 0 = 0 } }
+
+abbrev pub requestingAsRoot : List ℕ → ℕ → ℕ → ℕ → Ruling Effect
+requestingAsRoot t room flags lifetime = do
+  refuse 1 when not (sized t)
+  refuse 2 when ltb room 1560
+  refuse 10 when not (eqb flags 0 || eqb flags 1 || eqb flags 4 || eqb flags 5)
+  refuse 11 when eqb lifetime 0
+  refuse 21 when not (isTable t)
+  accept (requested t flags lifetime (allWithDOAndRF ∷ []))
+
+unfoldable pub rootRequest : List ℕ → ℕ → ℕ → ℕ → Decision Effect
+rootRequest t room flags lifetime = decide (requestingAsRoot t room flags lifetime)

@@ -1,0 +1,53 @@
+-- What an accepted call leaves that may emit: the octets of the table, and frames. Assumes nothing.
+use Prim.Native.Nat.{ℕ}
+use mathlib.Core.List.{List, flatMap}
+use lib.ListN.{length}
+use Rattle.octets.specs.LittleEndian.{over}
+use Rattle.counters.specs.declared.SequenceNumber.{SequenceNumber}
+use Rattle.counters.specs.declared.RequestId.{RequestId}
+use Rattle.table.specs.declared.address.Address.{Address}
+use Rattle.table.specs.declared.row.Head.{Head}
+use Rattle.element.specs.Element.{Element}
+use Rattle.element.specs.Octets.{writeFrame}
+use Rattle.rules.specs.Decision.{Decision, refused, accepted}
+
+-- a frame is a receiver address and an element
+pub record Frame : Type 0 where
+  pub receiver : Address
+  pub element : Element
+
+pub record Effect : Type 0 where
+  pub table : List ℕ
+  pub frames : List Frame
+
+-- the frames as octets, without gaps
+unfoldable pub frameOctets : List Frame → List ℕ
+frameOctets frames = flatMap (λ (f : Frame). writeFrame (f .receiver) (f .element)) frames
+
+-- the head of a point with this own number, request ID and latest clock
+unfoldable pub headWith : SequenceNumber → RequestId → ℕ → Head → Head
+headWith number request clock h =
+    record { own = h .own; zero2 = h .zero2; number = number; request = request; clock = clock; zero8 = h .zero8 }
+
+-- ---- at exit
+
+-- the answer, the numbers of frames and of octets written, and what stands in the table and in the output
+pub record Exit : Type 0 where
+  pub answer : ℕ
+  pub frames : ℕ
+  pub octets : ℕ
+  pub table : List ℕ
+  pub output : List ℕ
+
+-- An acceptance answers 0 and writes its frames from the start of the output; output beyond is unchanged.
+-- A refusal returns its number and else zeros, and nothing lent changes.
+unfoldable pub atExit : List ℕ → List ℕ → Decision Effect → Exit
+atExit t output (refused n) = record { answer = n; frames = 0; octets = 0; table = t; output = output }
+atExit t output (accepted e) =
+    record {
+      answer = 0;
+      frames = length (e .frames);
+      octets = length (frameOctets (e .frames));
+      table = e .table;
+      output = over output 0 (frameOctets (e .frames));
+    }

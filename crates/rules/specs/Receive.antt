@@ -1,0 +1,172 @@
+-- Receive an element. Assumes nothing.
+use Prim.Native.Nat.{ℕ, _+_, _-_, _^_}
+use mathlib.Core.Bool.{Bool, false, not, _&&_, _||_, cond}
+use mathlib.Core.List.{List, _++_, map}
+use mathlib.Core.Option.{Option, none, some}
+use lib.Dec.{eqb, leb, ltb}
+use lib.ListN.{length}
+use Rattle.counters.specs.Numbers.{older}
+use Rattle.table.specs.declared.address.Address.{Address}
+use Rattle.table.specs.declared.row.Row.{Row}
+use Rattle.table.specs.Address.{individual, same}
+use Rattle.table.specs.Layout.{sized, headAt, putHead}
+use Rattle.table.specs.Table.{own, number, requestId, clock, isTable, rowFor, newRows, freeRows, eachHeld}
+use Rattle.element.specs.declared.PathInfo.{PathInfo}
+use Rattle.element.specs.declared.NumberedAddress.{NumberedAddress}
+use Rattle.element.specs.declared.Target.{Target}
+use Rattle.element.specs.declared.RreqFields.{RreqFields}
+use Rattle.element.specs.declared.RrepFields.{RrepFields}
+use Rattle.element.specs.declared.list.ListKind.the-variants.{Targets, NumberedAddresses}
+use Rattle.element.specs.Element.{Element, rann, rreq, rrep, rerr}
+use Rattle.element.specs.Octets.{wrongLength, otherId, misfit, readElement}
+use Rattle.element.specs.Lists.{allOnes, anyForbidden, among, twice, onesBesideOthers}
+use Rattle.rules.specs.Decision.{Decision, Ruling, decide, refuse_when_, accept, _>>_}
+use Rattle.rules.specs.Lists.{any, those, has}
+use Rattle.rules.specs.Flags.{unicast}
+use Rattle.rules.specs.Outcome.{Effect, headWith}
+use Rattle.rules.specs.Learn.{Arrival, metricHere, learnt}
+use Rattle.rules.specs.Destinations.{Answered, allAnswered}
+use Rattle.rules.specs.Onward.{rannOnward, rreqOnward, rrepOnward, toAll}
+use Rattle.rules.specs.Errors.{matches, afterError}
+
+-- ---- what a RANN, a RREQ and a RREP have in common
+
+abbrev pub pathOf : Element → Option PathInfo
+pathOf (rann p) = some p
+pathOf (rreq f targets) = some (f .path)
+pathOf (rrep f dependents) = some (f .path)
+pathOf (rerr flags destinations) = none
+
+-- a test of these fields; a RERR lacks them, and the check is skipped
+abbrev pub ofPath : (PathInfo → Bool) → Element → Bool
+ofPath test e = has test (pathOf e)
+
+-- ---- turned away by the input
+
+abbrev pub targetAddresses : List Target → List Address
+targetAddresses targets = map (λ (q : Target). q .address) targets
+
+abbrev pub numberedAddresses : List NumberedAddress → List Address
+numberedAddresses l = map (λ (m : NumberedAddress). m .address) l
+
+-- 9. an originator, source or destination isn't individual; as a RREQ destination all ones is allowed too
+unfoldable pub hasBadAddress : Element → Bool
+hasBadAddress (rann p) = not (individual (p .subject))
+hasBadAddress (rreq f targets) = not (individual (f .path .subject)) || anyForbidden Targets (targetAddresses targets)
+hasBadAddress (rrep f dependents) = not (individual (f .path .subject)) || not (individual (f .source .address))
+hasBadAddress (rerr flags destinations) = anyForbidden NumberedAddresses (numberedAddresses destinations)
+
+-- several destinations or all ones
+unfoldable pub severalOrAll : List Address → Bool
+severalOrAll addresses = ltb 1 (length addresses) || among allOnes addresses
+
+-- 10. a destination twice; all ones beside others; a received originator among its destinations; a unicast RREQ with several
+-- destinations or all ones; RREP destination equal to source
+unfoldable pub hasBadList : Element → Bool
+hasBadList (rann p) = false
+hasBadList (rreq f targets) =
+    let addresses : List Address = targetAddresses targets in
+    twice addresses || onesBesideOthers addresses || among (f .path .subject) addresses
+    || (unicast (f .path) && severalOrAll addresses)
+hasBadList (rrep f dependents) = same (f .path .subject) (f .source .address)
+hasBadList (rerr flags destinations) = twice (numberedAddresses destinations)
+
+-- 14. RREP with TTL 0 or 1
+unfoldable pub isSpentReply : Element → Bool
+isSpentReply (rann p) = false
+isSpentReply (rreq f targets) = false
+isSpentReply (rrep f dependents) = ltb (f .path .ttl) 2
+isSpentReply (rerr flags destinations) = false
+
+-- ---- turned away by the state
+
+-- a known number, and the received one is older, or equal with received metric + link metric not smaller than the row's
+unfoldable pub isStaleFor : Arrival → PathInfo → Row → Bool
+isStaleFor a p r =
+    eqb (r .known) 1
+    && (older (p .number) (r .number) || (eqb (p .number .0) (r .number .0) && leb (r .metric .0) (metricHere a p .0)))
+
+-- 25. so is the row of that originator (for RREP: destination), active or not
+unfoldable pub isStale : List ℕ → Arrival → PathInfo → Bool
+isStale t a p = has (isStaleFor a p) (rowFor t (p .subject))
+
+-- 26. a RERR names no destination with an active row of known number whose next hop is the transmitter
+unfoldable pub matchesNothing : List ℕ → Arrival → Element → Bool
+matchesNothing t a (rann p) = false
+matchesNothing t a (rreq f targets) = false
+matchesNothing t a (rrep f dependents) = false
+matchesNothing t a (rerr flags destinations) = not (any (matches t (a .clock) (a .transmitter)) destinations)
+
+-- 27. new rows needed: the originator's (for RREP: destination's), and the transmitter's if that is a different address
+unfoldable pub rowsNeeded : List ℕ → Arrival → PathInfo → ℕ
+rowsNeeded t a p =
+    newRows (rowFor t (p .subject)) + cond (same (a .transmitter) (p .subject)) 0 (newRows (rowFor t (a .transmitter)))
+
+-- ---- what an accepted element does
+
+module _ (t : List ℕ) (a : Arrival) where
+  -- RANN, RREP: steps 1 and 2, and it goes on
+  unfoldable pub rannReceived : PathInfo → Effect
+  rannReceived p =
+      let u : List ℕ = learnt a p t in
+      record { table = putHead u (headWith (number t) (requestId t) (a .clock) (headAt t)); frames = rannOnward u a p }
+
+  unfoldable pub rrepReceived : RrepFields → List NumberedAddress → Effect
+  rrepReceived f dependents =
+      let u : List ℕ = learnt a (f .path) t in
+      record { table = putHead u (headWith (number t) (requestId t) (a .clock) (headAt t)); frames = rrepOnward u a f dependents }
+
+  -- RREQ: steps 1 and 2, the replies, and after them it goes on with the destinations that are kept
+  unfoldable pub rreqReceived : RreqFields → List Target → Effect
+  rreqReceived f targets =
+      let u : List ℕ = learnt a (f .path) t in
+      let done : Answered = allAnswered u a (f .path) (number t) targets in
+      record {
+        table = putHead u (headWith (done .number) (requestId t) (a .clock) (headAt t));
+        frames = done .replies ++ rreqOnward u a f (done .kept);
+      }
+
+  -- RERR: each match is invalidated; one RERR goes to all ones with the matches and flags as received, in that order
+  unfoldable pub rerrReceived : ℕ → List NumberedAddress → Effect
+  rerrReceived flags destinations =
+      record {
+        table = putHead (eachHeld (afterError (a .clock) (a .transmitter) destinations) t)
+            (headWith (number t) (requestId t) (a .clock) (headAt t));
+        frames = toAll (rerr flags (those (matches t (a .clock) (a .transmitter)) destinations));
+      }
+
+  unfoldable pub received : Element → Effect
+  received (rann p) = rannReceived p
+  received (rreq f targets) = rreqReceived f targets
+  received (rrep f dependents) = rrepReceived f dependents
+  received (rerr flags destinations) = rerrReceived flags destinations
+
+-- ---- the call: a table t, an output of `room` octets, and an element s that came in as a says
+
+abbrev pub receiving : List ℕ → ℕ → Arrival → List ℕ → Ruling Effect
+receiving t room a s = do
+  refuse 1 when not (sized t)
+  refuse 2 when ltb room 1560
+  refuse 3 when ltb (2 ^ 48 - 1) (a .clock)
+  refuse 4 when not (individual (a .transmitter))
+  refuse 5 when eqb (a .link .0) 0
+  refuse 6 when wrongLength s
+  refuse 7 when otherId s
+  refuse 8 when misfit s
+  refuse 9 when hasBadAddress (readElement s)
+  refuse 10 when hasBadList (readElement s)
+  refuse 11 when ofPath (λ p. eqb (p .lifetime) 0) (readElement s)
+  refuse 12 when ofPath (λ p. eqb (p .hops .0) 255) (readElement s)
+  refuse 13 when ofPath (λ p. ltb (2 ^ 32 - 2) (metricHere a p .0)) (readElement s)
+  refuse 14 when isSpentReply (readElement s)
+  refuse 21 when not (isTable t)
+  refuse 22 when ltb (a .clock) (clock t)
+  refuse 23 when same (a .transmitter) (own t)
+  refuse 24 when ofPath (λ p. same (p .subject) (own t)) (readElement s)
+  refuse 25 when ofPath (isStale t a) (readElement s)
+  refuse 26 when matchesNothing t a (readElement s)
+  refuse 27 when ofPath (λ p. ltb (freeRows t) (rowsNeeded t a p)) (readElement s)
+  accept (received t a (readElement s))
+
+unfoldable pub receive : List ℕ → ℕ → Arrival → List ℕ → Decision Effect
+receive t room a s = decide (receiving t room a s)

@@ -1,0 +1,89 @@
+-- The walk of document 01 over tables side by side, along rows that are active at a clock. (The walk of demand 3 goes along
+-- valid rows, expired or not: `met` in crate `loops`.) Assumes nothing.
+use Prim.Native.Nat.{ℕ, zero, suc, _+_, _-_, _*_, _/_, _^_}
+use mathlib.Core.Bool.{Bool, not, _&&_, _||_, cond}
+use mathlib.Core.List.{List, [], _∷_, map}
+use mathlib.Core.Option.{Option, none, some}
+use lib.Dec.{eqb, leb, ltb}
+use lib.ListN.{length, take, drop}
+use Rattle.table.specs.declared.address.Address.{Address}
+use Rattle.table.specs.declared.row.Row.{Row}
+use Rattle.table.specs.Address.{individual, same, addressOf}
+use Rattle.table.specs.Row.{active}
+use Rattle.table.specs.Layout.{sized}
+use Rattle.table.specs.Table.{clock, isTable, rowFor}
+use Rattle.element.specs.Entries.{each}
+use Rattle.element.specs.Lists.{among, twice}
+use Rattle.rules.specs.Decision.{Decision, Ruling, decide, refuse_when_, accept, _>>_}
+use Rattle.rules.specs.Lists.{any}
+
+-- ---- 1 to 16 tables of one length, side by side
+
+-- the length of each, and table i
+abbrev pub lengthOfEach : List ℕ → ℕ → ℕ
+lengthOfEach s count = length s / count
+
+unfoldable pub tableAt : List ℕ → ℕ → ℕ → List ℕ
+tableAt s long i = take long (drop (long * i) s)
+
+abbrev pub tablesIn : List ℕ → ℕ → List (List ℕ)
+tablesIn s count = each (tableAt s (lengthOfEach s count)) 0 count
+
+-- 1. count 1 to 16, and the octets are that many tables of one length
+unfoldable pub sideBySide : List ℕ → ℕ → Bool
+sideBySide s count =
+    leb 1 count && leb count 16 && eqb (count * lengthOfEach s count) (length s) && sized (tableAt s (lengthOfEach s count) 0)
+
+-- The own address is in the first six octets, table or not: 10 is judged before 21.
+abbrev pub points : List (List ℕ) → List Address
+points tables = map addressOf tables
+
+-- ---- the way
+
+pub record Walked : Type 0 where
+  pub answer : ℕ
+  pub hops : ℕ
+
+abbrev pub arrived : ℕ → Walked
+arrived hops = record { answer = 0; hops = hops }
+
+abbrev pub noWay : ℕ → Walked
+noWay hops = record { answer = 41; hops = hops }
+
+abbrev pub tooLong : ℕ → Walked
+tooLong hops = record { answer = 42; hops = hops }
+
+-- the row for d of the point with address a, where that is a point
+unfoldable pub rowOfPoint : List (List ℕ) → Address → Address → Option Row
+rowOfPoint [] a d = none
+rowOfPoint (t ∷ tables) a d = cond (same (addressOf t) a) (rowFor t d) (rowOfPoint tables a d)
+
+module _ (tables : List (List ℕ)) (c : ℕ) (d : Address) where
+  -- the next hop is the destination, a point, or neither: the last is not counted
+  abbrev pub onTo : Address → ℕ → Walked → Walked
+  onTo next hops further = cond (same next d || among next (points tables)) further (noWay hops)
+
+  abbrev pub along : Option Row → ℕ → (Address → Walked) → Walked
+  along none hops further = noWay hops
+  along (some r) hops further = cond (active c r) (onTo (r .next) hops (further (r .next))) (noWay hops)
+
+  -- from a, with so many hops walked and so many left before there are as many as points
+  unfoldable pub follow : (left : ℕ) → Address → (hops : ℕ) → Walked
+  follow zero a hops = cond (same a d) (arrived hops) (tooLong hops)
+  follow (suc left) a hops =
+      cond (same a d) (arrived hops) (along (rowOfPoint tables a d) hops (λ next. follow left next (hops + 1)))
+
+-- ---- the call
+
+abbrev pub walking : List ℕ → ℕ → ℕ → Address → Address → Ruling Walked
+walking s count c start d = do
+  refuse 1 when not (sideBySide s count)
+  refuse 3 when ltb (2 ^ 48 - 1) c
+  refuse 9 when not (individual d)
+  refuse 10 when not (among start (points (tablesIn s count))) || twice (points (tablesIn s count))
+  refuse 21 when any (λ (t : List ℕ). not (isTable t)) (tablesIn s count)
+  refuse 22 when any (λ (t : List ℕ). ltb c (clock t)) (tablesIn s count)
+  accept (follow (tablesIn s count) c d count start 0)
+
+unfoldable pub walk : List ℕ → ℕ → ℕ → Address → Address → Decision Walked
+walk s count c start d = decide (walking s count c start d)
