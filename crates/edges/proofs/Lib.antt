@@ -1,0 +1,2 @@
+-- P1 to P8.
+pub mod AllEdges

@@ -1,0 +1,190 @@
+-- The edges P1 to P8 of document 01 as one list of tests of the definitions; tables and elements are octets. Assumes nothing.
+use Prim.Native.Nat.{ℕ, _+_, _*_}
+use mathlib.Core.Bool.{Bool, false, _&&_, _||_, not}
+use mathlib.Core.List.{List, [], _∷_, _++_}
+use lib.Dec.{eqb}
+use lib.ListN.{length, getD}
+use Rattle.octets.specs.LittleEndian.{zeros}
+use Rattle.counters.specs.Numbers.{newer, older}
+use Rattle.table.specs.declared.address.Address.{Address}
+use Rattle.table.specs.declared.row.Row.{Row}
+use Rattle.table.specs.Address.{same}
+use Rattle.table.specs.Layout.{putRow}
+use Rattle.table.specs.Row.{freeRow}
+use Rattle.table.specs.Places.{every}
+use Rattle.table.specs.Table.{number, rowFor, holds, fresh}
+use Rattle.element.specs.declared.PathInfo.{PathInfo}
+use Rattle.element.specs.declared.Target.{Target}
+use Rattle.element.specs.Element.{Element, rann, rreq, rrep, rerr}
+use Rattle.element.specs.Entries.{each}
+use Rattle.element.specs.Octets.{wrongLength, otherId, misfit, writeElement}
+use Rattle.rules.specs.Decision.{Decision, refused, accepted}
+use Rattle.rules.specs.Lists.{has}
+use Rattle.rules.specs.Outcome.{Frame, Effect}
+use Rattle.rules.specs.Receive.{receive}
+use Rattle.rules.specs.Break.{breakNeighbour}
+
+-- ---- addresses
+
+-- this point
+abbrev point : Address
+point = record { 0 = 2 }
+
+-- the transmitter of each element below, and the neighbour that breaks
+abbrev transmitter : Address
+transmitter = record { 0 = 4 }
+
+-- the originator of each RANN and RREQ below, and the destination that a RERR names
+abbrev originator : Address
+originator = record { 0 = 6 }
+
+-- the other points, numbered from 0
+abbrev other : ℕ → Address
+other i = record { 0 = 8 + 2 * i }
+
+-- ---- tables
+
+-- the row for d with next hop the transmitter and this status, number and metric; its expiry is 1000
+abbrev row : ℕ → Address → ℕ → ℕ → Row
+row status d n metric =
+    record {
+      status = status;
+      known = 1;
+      hops = record { 0 = 2 };
+      zero = 0;
+      destination = d;
+      next = transmitter;
+      number = record { 0 = n };
+      metric = record { 0 = metric };
+      expiry = 1000;
+    }
+
+-- a valid row for another point
+abbrev held : ℕ → Row
+held i = row 1 (other i) 1 10
+
+-- the table t with these rows from place i on
+abbrev withRows : List ℕ → ℕ → List Row → List ℕ
+withRows t i [] = t
+withRows t i (r ∷ rs) = withRows (putRow t i r) (i + 1) rs
+
+-- the table of this point with this own number and these rows
+abbrev tableOf : ℕ → List Row → List ℕ
+tableOf n rs = withRows (fresh (32 + 32 * length rs) point (record { 0 = n })) 0 rs
+
+-- ---- elements
+
+-- the fields of an element of the originator with this number and metric
+abbrev path : ℕ → ℕ → PathInfo
+path n metric =
+    record {
+      flags = 0;
+      hops = record { 0 = 1 };
+      ttl = 30;
+      subject = originator;
+      number = record { 0 = n };
+      lifetime = 1000;
+      metric = record { 0 = metric };
+    }
+
+-- a RANN with this number and metric
+abbrev announcement : ℕ → ℕ → List ℕ
+announcement n metric = writeElement (rann (path n metric))
+
+-- a RREQ with these destinations
+abbrev request : List Target → List ℕ
+request targets = writeElement (rreq (record { request = record { 0 = 1 }; path = path 1 5 }) targets)
+
+-- the destination d with this requested number
+abbrev target : Address → ℕ → Target
+target d n = record { flags = 0; address = d; number = record { 0 = n } }
+
+-- a RREQ for n other points
+abbrev requestFor : ℕ → List ℕ
+requestFor n = request (each (λ i. target (other i) 0) 0 n)
+
+-- a RERR that names d with number n
+abbrev error : Address → ℕ → List ℕ
+error d n = writeElement (rerr 0 (record { address = d; number = record { 0 = n } } ∷ []))
+
+-- ---- a call
+
+-- receive the element s at clock 0 over a link of this metric
+abbrev heard : List ℕ → ℕ → List ℕ → Decision Effect
+heard t link s = receive t 1560 (record { clock = 0; transmitter = transmitter; link = record { 0 = link } }) s
+
+-- ---- tests
+
+-- octets have this Length, and are not refused by 6, 7 or 8
+abbrev fitting : ℕ → List ℕ → Bool
+fitting long s = eqb (getD s 1 0) long && not (wrongLength s || otherId s || misfit s)
+
+-- a call is refused with n
+abbrev refusedWith : ℕ → Decision Effect → Bool
+refusedWith n (refused m) = eqb m n
+refusedWith n (accepted e) = false
+
+-- a call is accepted, and what it leaves passes this test
+abbrev acceptedWith : (Effect → Bool) → Decision Effect → Bool
+acceptedWith test (refused m) = false
+acceptedWith test (accepted e) = test e
+
+-- the originator's row then has this status, number and metric
+abbrev leavesRow : ℕ → ℕ → ℕ → Effect → Bool
+leavesRow status n metric e =
+    has (λ r. eqb (r .status) status && eqb (r .number .0) n && eqb (r .metric .0) metric) (rowFor (e .table) originator)
+
+-- an element is a reply for this point with number n
+abbrev isReply : ℕ → Element → Bool
+isReply n (rann p) = false
+isReply n (rreq f targets) = false
+isReply n (rrep f dependents) = same (f .path .subject) point && eqb (f .path .number .0) n
+isReply n (rerr flags destinations) = false
+
+-- the first frame has such a reply
+abbrev firstIsReply : ℕ → List Frame → Bool
+firstIsReply n [] = false
+firstIsReply n (f ∷ frames) = isReply n (f .element)
+
+-- the first frame has such a reply, and the own number is then n
+abbrev repliesWith : ℕ → Effect → Bool
+repliesWith n e = firstIsReply n (e .frames) && eqb (number (e .table) .0) n
+
+-- row i is then held for the originator, and row j for the transmitter
+abbrev takesRows : ℕ → ℕ → Effect → Bool
+takesRows i j e = holds (e .table) originator i && holds (e .table) transmitter j
+
+-- ---- the edges
+
+abbrev pub edges : List Bool
+edges =
+    -- P1: 0 is newer than 4,294,967,295
+    newer (record { 0 = 0 }) (record { 0 = 4294967295 })
+    -- P2: 2,147,483,648 and 0 are each older than the other
+    ∷ older (record { 0 = 2147483648 }) (record { 0 = 0 })
+    ∷ older (record { 0 = 0 }) (record { 0 = 2147483648 })
+    -- P3: RREQ Lengths 37 and 246 fit; 26 and 257 cannot: no N fits 26, and no octet is the Length of 259 octets
+    ∷ fitting 37 (requestFor 1)
+    ∷ fitting 246 (requestFor 20)
+    ∷ every (λ n. misfit (130 ∷ 26 ∷ zeros 25 ++ n ∷ [])) 256
+    ∷ every (λ long. wrongLength (130 ∷ long ∷ zeros 257)) 256
+    -- P4: RERR Length 2 is refused (8), 12 fits
+    ∷ refusedWith 8 (heard (tableOf 0 (row 1 originator 9 40 ∷ [])) 10 (132 ∷ 2 ∷ 0 ∷ 0 ∷ []))
+    ∷ fitting 12 (error originator 9)
+    ∷ acceptedWith (leavesRow 2 9 40) (heard (tableOf 0 (row 1 originator 9 40 ∷ [])) 10 (error originator 9))
+    -- P5: row number 9, metric 40; element 9, metric 25: link 15 is refused (25), link 14 gives 39
+    ∷ refusedWith 25 (heard (tableOf 0 (row 1 originator 9 40 ∷ freeRow ∷ [])) 15 (announcement 9 25))
+    ∷ acceptedWith (leavesRow 1 9 39) (heard (tableOf 0 (row 1 originator 9 40 ∷ freeRow ∷ [])) 14 (announcement 9 25))
+    -- P5 where that row isn't active
+    ∷ refusedWith 25 (heard (tableOf 0 (row 2 originator 9 40 ∷ freeRow ∷ [])) 15 (announcement 9 25))
+    ∷ acceptedWith (leavesRow 1 9 39) (heard (tableOf 0 (row 2 originator 9 40 ∷ freeRow ∷ [])) 14 (announcement 9 25))
+    -- P6: break on number 4,294,967,295, metric 30: number 0, metric 4,294,967,295
+    ∷ acceptedWith (leavesRow 2 0 4294967295)
+    (breakNeighbour (tableOf 0 (row 1 originator 4294967295 30 ∷ [])) 1560 0 transmitter)
+    -- P7: own 12, requested 40: reply 41; requested 5: 13
+    ∷ acceptedWith (repliesWith 41) (heard (tableOf 12 (freeRow ∷ freeRow ∷ [])) 10 (request (target point 40 ∷ [])))
+    ∷ acceptedWith (repliesWith 13) (heard (tableOf 12 (freeRow ∷ freeRow ∷ [])) 10 (request (target point 5 ∷ [])))
+    -- P8: R = 4, rows 0 and 2 held, two needed: 1 and 3 taken; rows 0, 1, 2 held: 27
+    ∷ acceptedWith (takesRows 1 3) (heard (tableOf 0 (held 0 ∷ freeRow ∷ held 1 ∷ freeRow ∷ [])) 10 (announcement 9 25))
+    ∷ refusedWith 27 (heard (tableOf 0 (held 0 ∷ held 1 ∷ held 2 ∷ freeRow ∷ [])) 10 (announcement 9 25))
+    ∷ []

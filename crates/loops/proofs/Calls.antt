@@ -1,0 +1,187 @@
+-- Each accepted call is `Fine`. Assumes nothing.
+use Prim.Native.Nat.{ℕ, _^_, _<_}
+use mathlib.Core.Path.{_≡_, refl, ap, subst, _∙_}
+use mathlib.Core.List.{List, _++_, List·Memᴰ}
+use mathlib.Core.Option.{some, Option·map}
+use mathlib.Core.Logic.{inl, inr}
+use Rattle.octets.specs.LittleEndian.{Octets}
+use Rattle.table.specs.declared.address.Address.{Address}
+use Rattle.table.specs.declared.row.Head.{Head}
+use Rattle.table.specs.declared.row.Row.{Row}
+use Rattle.table.specs.Layout.{putHead}
+use Rattle.table.specs.Table.{own, number, rowFor, eachHeld}
+use Rattle.table.proofs.Heads.{head-found}
+use Rattle.table.proofs.EachHeld.{KeepsRow, each-found}
+use Rattle.element.specs.declared.NumberedAddress.{NumberedAddress}
+use Rattle.element.specs.declared.PathInfo.{PathInfo}
+use Rattle.element.specs.declared.RreqFields.{RreqFields}
+use Rattle.element.specs.declared.RrepFields.{RrepFields}
+use Rattle.element.specs.declared.Target.{Target}
+use Rattle.element.specs.Element.{Element, rann, rreq, rrep, rerr}
+use Rattle.element.specs.Octets.{readElement}
+use Rattle.rules.specs.Decision.{accepted}
+use Rattle.rules.specs.Outcome.{Frame, Effect}
+use Rattle.rules.specs.Learn.{Arrival, learnt}
+use Rattle.rules.specs.Destinations.{Answered, allAnswered}
+use Rattle.rules.specs.Onward.{onward, toAll, rannOnward, rreqOnward, rrepOnward}
+use Rattle.rules.specs.Errors.{afterError, afterBreak, brokenEntries}
+use Rattle.rules.specs.Receive.{pathOf, rannReceived, rrepReceived, rreqReceived, rerrReceived, received, receiving, receive}
+use Rattle.rules.specs.Originate.{ownPath, announced, requested, asking, ask, announcing, announce, requestingAsRoot, rootRequest}
+use Rattle.rules.specs.Break.{brokenOff, breaking, breakNeighbour}
+use Rattle.rules.specs.Calls.{Call, receives, asks, announces, requestsAsRoot, breaks, outcome, OperandsFit}
+use Rattle.rules.proofs.Rulings.{passed}
+use Rattle.rules.proofs.Alls.{all-append}
+use Rattle.rules.proofs.NoWorse.{InWindow, Falls, break-falls, error-falls}
+use Rattle.rules.proofs.Learning.{Heard, learnt-keeps}
+use Rattle.rules.proofs.Falling.{break-keeps-row, error-keeps-row}
+use Rattle.rules.proofs.Accepted.{Accepted, accepted-element}
+use Rattle.rules.proofs.CallsKeep.{Kept, call-kept}
+use Rattle.loops.specs.Mesh.{Sent}
+use Rattle.loops.proofs.Invariant.{Near, Backed, pathIn, Sound, Fine, stay, backed-path, backed-none}
+use Rattle.loops.proofs.Moves.{changed-move, learnt-move, learnt-absent, learnt-stands}
+use Rattle.loops.proofs.Frames.{AllBacked, to-all-backed, errors-backed, rann-backed, rreq-backed, rrep-backed, replies-backed}
+
+-- an element that is received is one of the log, from its sender
+abbrev pub FromLog : List Sent → Call → Type 0
+FromLog log (receives a octets) = (s : Sent) × List·Memᴰ s log × (s .sender ≡ a .transmitter) × (s .octets ≡ octets)
+FromLog log (asks lifetime items) = Unit {0}
+FromLog log (announces flags lifetime) = Unit {0}
+FromLog log (requestsAsRoot flags lifetime) = Unit {0}
+FromLog log (breaks c neighbour) = Unit {0}
+
+-- ---- originating: no row is written, and what is sent is the point's own path
+
+module _ (d : Address) (base : ℕ) (log : List Sent) (t : List ℕ) where
+  originates : (h : Head) (e : Element) (flags lifetime : ℕ) → pathOf e ≡ some (ownPath t flags lifetime)
+      → Sound d base log t (record { table = putHead t h; frames = toAll e })
+  unfolding ownPath
+  originates h e flags lifetime is =
+      let row : rowFor (putHead t h) d ≡ rowFor t d = head-found t h d in
+      record {
+        move = rw row (stay (rowFor t d));
+        absent = λ self before. row ∙ before;
+        backed = to-all-backed d base (own t) (rowFor (putHead t h) d) e (rw is (backed-path _ inl));
+      }
+
+  requested-sound : (flags lifetime : ℕ) (targets : List Target) → Sound d base log t (requested t flags lifetime targets)
+  unfolding requested
+  requested-sound flags lifetime targets = originates _ _ flags lifetime refl
+
+  announced-sound : (flags lifetime : ℕ) → Sound d base log t (announced t flags lifetime)
+  unfolding announced
+  announced-sound flags lifetime = originates _ _ flags lifetime refl
+
+module _ (d : Address) (base : ℕ) (small : base < 2 ^ 32) (log : List Sent) (t : List ℕ) (octets : Octets t) (near : Near base (rowFor t d)) where
+  -- ---- rows that fall, under frames that bring no path
+
+  fallen-sound : (f : Row → Row) → KeepsRow f → ((r : Row) → InWindow base r → InWindow base (f r) → Falls base small r (f r))
+      → (h : Head) (frames : List Frame) → AllBacked d base (own t) (rowFor (putHead (eachHeld f t) h) d) frames
+      → Near base (rowFor (putHead (eachHeld f t) h) d) → Sound d base log t (record { table = putHead (eachHeld f t) h; frames = frames })
+  fallen-sound f keeps fall h frames backed near′ =
+      let row : rowFor (putHead (eachHeld f t) h) d ≡ Option·map f (rowFor t d) = head-found (eachHeld f t) h d ∙ each-found f keeps t octets d in
+      record {
+        move = rw row (changed-move small f fall (rowFor t d) near (rw row at near′));
+        absent = λ self before. row ∙ ap (Option·map f) before;
+        backed = backed;
+      }
+
+  break-sound : (c : ℕ) (neighbour : Address) → Near base (rowFor (brokenOff (afterBreak c neighbour) t c neighbour .table) d)
+      → Sound d base log t (brokenOff (afterBreak c neighbour) t c neighbour)
+  unfolding brokenOff
+  break-sound c neighbour =
+      fallen-sound (afterBreak c neighbour) (break-keeps-row c neighbour) (break-falls base small c neighbour) _ _
+      (errors-backed d base (own t) _ (brokenEntries t c neighbour))
+
+  -- ---- an element from the log
+
+  module _ (a : Arrival) (s : Sent) (logged : List·Memᴰ s log) (by : s .sender ≡ a .transmitter) where
+    -- steps 1 and 2, whichever of the three elements brings the path
+    module _ (p : PathInfo) (has : pathIn (s .octets) ≡ some p) (heard : Heard t a p) where
+      u : List ℕ
+      u = learnt a p t
+
+      same-point : own u ≡ own t
+      unfolding u
+      same-point = ap (λ (h : Head). h .own) (learnt-keeps t a p heard .head)
+
+      heard-sound : (h : Head) (frames : List Frame) → AllBacked d base (own u) (rowFor u d) frames
+          → Near base (rowFor (putHead u h) d) → Sound d base log t (record { table = putHead u h; frames = frames })
+      unfolding u
+      heard-sound h frames backed near′ =
+          let row : rowFor (putHead (learnt a p t) h) d ≡ rowFor (learnt a p t) d = head-found (learnt a p t) h d in
+          record {
+            move = rw row (learnt-move d base small log t a p heard s logged by has near (rw row at near′));
+            absent = λ self before. row ∙ learnt-absent d t a p heard self before;
+            backed = rw (row, ← same-point) backed;
+          }
+
+      onward-backed : Backed d base (own u) (rowFor u d) (some (onward a p))
+      unfolding u onward
+      onward-backed = backed-path _ (λ about. inr (learnt-stands d t a p heard base about))
+
+    rann-sound : (p : PathInfo) → pathIn (s .octets) ≡ some p → Heard t a p → Near base (rowFor (rannReceived t a p .table) d)
+        → Sound d base log t (rannReceived t a p)
+    unfolding rannReceived u
+    rann-sound p has heard =
+        heard-sound p has heard _ (rannOnward (learnt a p t) a p)
+        (rann-backed d base (own (learnt a p t)) (rowFor (learnt a p t) d) (learnt a p t) a p (onward-backed p has heard))
+
+    rrep-sound : (f : RrepFields) (dependents : List NumberedAddress) → pathIn (s .octets) ≡ some (f .path) → Heard t a (f .path)
+        → Near base (rowFor (rrepReceived t a f dependents .table) d) → Sound d base log t (rrepReceived t a f dependents)
+    unfolding rrepReceived u
+    rrep-sound f dependents has heard =
+        let v : List ℕ = learnt a (f .path) t in
+        heard-sound (f .path) has heard _ (rrepOnward (learnt a (f .path) t) a f dependents)
+        (rrep-backed d base (own v) (rowFor v d) v a f dependents (onward-backed (f .path) has heard))
+
+    rreq-sound : (f : RreqFields) (targets : List Target) → pathIn (s .octets) ≡ some (f .path) → Heard t a (f .path)
+        → Near base (rowFor (rreqReceived t a f targets .table) d) → Sound d base log t (rreqReceived t a f targets)
+    unfolding rreqReceived u
+    rreq-sound f targets has heard =
+        let v : List ℕ = learnt a (f .path) t in
+        let done : Answered = allAnswered v a (f .path) (number t) targets in
+        heard-sound (f .path) has heard _ (done .replies ++ rreqOnward v a f (done .kept))
+        (all-append (λ (g : Frame). Backed d base (own v) (rowFor v d) (pathOf (g .element))) (done .replies) (rreqOnward v a f (done .kept))
+        (replies-backed d base v a (f .path) (number t) targets)
+        (rreq-backed d base (own v) (rowFor v d) v a f (onward-backed (f .path) has heard) (done .kept)))
+
+    received-sound : (e : Element) → readElement (s .octets) ≡ e → Accepted t a e → Near base (rowFor (received t a e .table) d)
+        → Sound d base log t (received t a e)
+    unfolding received rerrReceived
+    received-sound (rann p) is ok = rann-sound p (ap pathOf is) (ok .heard p refl)
+    received-sound (rreq f targets) is ok = rreq-sound f targets (ap pathOf is) (ok .heard (f .path) refl)
+    received-sound (rrep f dependents) is ok = rrep-sound f dependents (ap pathOf is) (ok .heard (f .path) refl)
+    received-sound (rerr flags destinations) is ok =
+        fallen-sound (afterError (a .clock) (a .transmitter) destinations)
+        (error-keeps-row (a .clock) (a .transmitter) destinations (ok .fits .entries))
+        (error-falls base small (a .clock) (a .transmitter) destinations) _ _
+        (to-all-backed d base (own t) _ _ backed-none)
+
+  -- ---- every call
+
+  module _ (room : ℕ) where
+    call-sound : (call : Call) → OperandsFit call → FromLog log call → (e : Effect) → outcome t room call ≡ accepted e
+        → Near base (rowFor (e .table) d) → Sound d base log t e
+    unfolding outcome receive ask announce rootRequest breakNeighbour
+    call-sound (receives a octets′) fit from e is =
+        let p = passed (receiving t room a octets′) e is in
+        subst (λ (x : Effect). Near base (rowFor (x .table) d) → Sound d base log t x) (p .1)
+        (received-sound a (from .0) (from .1) (from .2) (readElement octets′) (ap readElement (from .3))
+        (accepted-element t room a octets′ octets (fit .0) (fit .1) (p .0)))
+    call-sound (asks lifetime items) fit from e is =
+        subst (λ (x : Effect). Near base (rowFor (x .table) d) → Sound d base log t x) (passed (asking t room lifetime items) e is .1)
+        (λ _. requested-sound d base log t _ _ _)
+    call-sound (announces flags lifetime) fit from e is =
+        subst (λ (x : Effect). Near base (rowFor (x .table) d) → Sound d base log t x) (passed (announcing t room flags lifetime) e is .1)
+        (λ _. announced-sound d base log t flags lifetime)
+    call-sound (requestsAsRoot flags lifetime) fit from e is =
+        subst (λ (x : Effect). Near base (rowFor (x .table) d) → Sound d base log t x) (passed (requestingAsRoot t room flags lifetime) e is .1)
+        (λ _. requested-sound d base log t _ _ _)
+    call-sound (breaks c neighbour) fit from e is =
+        subst (λ (x : Effect). Near base (rowFor (x .table) d) → Sound d base log t x) (passed (breaking t room c neighbour) e is .1)
+        (break-sound c neighbour)
+
+    pub call-fine : (call : Call) → OperandsFit call → FromLog log call → (e : Effect) → outcome t room call ≡ accepted e → Fine d base log t e
+    call-fine call fit from e is =
+        let k : Kept t e = call-kept t octets room call fit e is in
+        record { own = k .leaves .own; frames = k .frames; sound = call-sound call fit from e is }

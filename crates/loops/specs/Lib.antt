@@ -1,0 +1,3 @@
+pub mod Mesh
+pub mod Premise
+pub mod Statements

@@ -1,0 +1,144 @@
+-- A mesh: points with their tables, the elements that they have sent, and lists of their calls. Assumes nothing.
+use Prim.Native.Nat.{ℕ, zero, suc, _+_, _*_}
+use mathlib.Core.Bool.{Bool, true, false, _&&_, cond}
+use mathlib.Core.List.{List, [], _∷_, _++_, map}
+use mathlib.Core.Option.{Option, none, some}
+use lib.Dec.{eqb}
+use lib.ListN.{getElem?}
+use Rattle.counters.specs.declared.SequenceNumber.{SequenceNumber}
+use Rattle.counters.specs.declared.Metric.{Metric}
+use Rattle.table.specs.declared.address.Address.{Address}
+use Rattle.table.specs.declared.row.Row.{Row}
+use Rattle.table.specs.Address.{same}
+use Rattle.table.specs.Table.{own, rowFor, fresh}
+use Rattle.element.specs.Octets.{writeElement}
+use Rattle.rules.specs.Decision.{Decision, refused, accepted}
+use Rattle.rules.specs.Outcome.{Frame, Effect}
+use Rattle.rules.specs.Calls.{Call}
+
+-- ---- points, and what they have sent
+
+-- a point is its address, the own number that it starts with, and how many rows its table has
+pub record Point : Type 0 where
+  pub address : Address
+  pub number : SequenceNumber
+  pub rows : ℕ
+
+-- an element that a point has sent: its octets, and the address of the point
+pub record Sent : Type 0 where
+  pub sender : Address
+  pub octets : List ℕ
+
+-- the octets of every table, and the log of all elements sent so far
+pub record Mesh : Type 0 where
+  pub tables : List (List ℕ)
+  pub log : List Sent
+
+-- at first every table is fresh, and nothing has been sent
+abbrev pub freshTable : Point → List ℕ
+freshTable p = fresh (32 + 32 * p .rows) (p .address) (p .number)
+
+unfoldable pub start : List Point → Mesh
+start points = record { tables = map freshTable points; log = [] }
+
+-- the table of the point with address a, and all tables with that one replaced by u
+unfoldable pub tableOf : Address → List (List ℕ) → Option (List ℕ)
+tableOf a [] = none
+tableOf a (t ∷ tables) = cond (same (own t) a) (some t) (tableOf a tables)
+
+unfoldable pub withTable : Address → List ℕ → List (List ℕ) → List (List ℕ)
+withTable a u [] = []
+withTable a u (t ∷ tables) = cond (same (own t) a) (u ∷ tables) (t ∷ withTable a u tables)
+
+-- ---- calls
+
+-- What a point does. `delivers` hands it the element at a place of the log, with the address of the point that sent it as
+-- transmitter: late, repeated, reordered, or never. `readsOnly` is a call that writes no table: a next hop, a walk.
+pub data Action : Type 0 where
+  delivers : (place clock : ℕ) → (link : Metric) → Action
+  asks : (lifetime : ℕ) → (items : List ℕ) → Action
+  announces : (flags lifetime : ℕ) → Action
+  requestsAsRoot : (flags lifetime : ℕ) → Action
+  breaks : (clock : ℕ) → (neighbour : Address) → Action
+  readsOnly : Action
+
+-- which point does it, with an output of how many octets
+pub record Event : Type 0 where
+  pub point : Address
+  pub room : ℕ
+  pub action : Action
+
+-- the call that delivers an element, if there is one at that place
+abbrev pub deliveryOf : ℕ → Metric → Option Sent → Option Call
+deliveryOf c link none = none
+deliveryOf c link (some s) = some (Call.receives (record { clock = c; transmitter = s .sender; link = link }) (s .octets))
+
+-- the call that an action is
+unfoldable pub callOf : List Sent → Action → Option Call
+callOf log (delivers place c link) = deliveryOf c link (getElem? log place)
+callOf log (asks lifetime items) = some (Call.asks lifetime items)
+callOf log (announces flags lifetime) = some (Call.announces flags lifetime)
+callOf log (requestsAsRoot flags lifetime) = some (Call.requestsAsRoot flags lifetime)
+callOf log (breaks c neighbour) = some (Call.breaks c neighbour)
+callOf log readsOnly = none
+
+-- the elements of the frames that the point a emits
+unfoldable pub sentBy : Address → List Frame → List Sent
+sentBy a frames = map (λ (f : Frame). record { sender = a; octets = writeElement (f .element) }) frames
+
+-- a refused call changes nothing; an accepted one leaves its table, and its elements are sent
+unfoldable pub leaves : Mesh → Address → Decision Effect → Mesh
+leaves m a (refused n) = m
+leaves m a (accepted e) = record { tables = withTable a (e .table) (m .tables); log = m .log ++ sentBy a (e .frames) }
+
+-- Points that act by any rules: `outcome t room call` says what a call makes of a table. (The theorem is about those of
+-- document 01; the counterexamples are about others.)
+module _ (outcome : List ℕ → ℕ → Call → Decision Effect) where
+  abbrev pub calls : Mesh → Event → Option (List ℕ) → Option Call → Mesh
+  calls m e none call = m
+  calls m e (some t) none = m
+  calls m e (some t) (some call) = leaves m (e .point) (outcome t (e .room) call)
+
+  -- one event: the point, if there is one of that address, makes the call
+  unfoldable pub happen : Mesh → Event → Mesh
+  happen m e = calls m e (tableOf (e .point) (m .tables)) (callOf (m .log) (e .action))
+
+  -- a list of events, from first to last
+  unfoldable pub run : Mesh → List Event → Mesh
+  run m [] = m
+  run m (e ∷ events) = run (happen m e) events
+
+  -- the test is passed at first and after each event
+  unfoldable pub throughout : (Mesh → Bool) → Mesh → List Event → Bool
+  throughout test m [] = test m
+  throughout test m (e ∷ events) = test m && throughout test (happen m e) events
+
+-- ---- the walk of demand 3, along valid rows, expired or not
+
+abbrev pub isThere : {A : Type 0} → Option A → Bool
+isThere none = false
+isThere (some x) = true
+
+-- the next hop of a row that is valid
+abbrev pub validNext : Option Row → Option Address
+validNext none = none
+validNext (some r) = cond (eqb (r .status) 1) (some (r .next)) none
+
+module _ (m : Mesh) (d : Address) where
+  -- the next hop of the valid row for d at the point a
+  abbrev pub nextIn : Option (List ℕ) → Option Address
+  nextIn none = none
+  nextIn (some t) = validNext (rowFor t d)
+
+  unfoldable pub nextAt : Address → Option Address
+  nextAt a = nextIn (tableOf a (m .tables))
+
+  -- the points that a walk from a towards d meets in at most so many hops, a included; it ends where there is no valid row for d
+  -- or where the next hop is no point
+  abbrev pub metBy : Option Address → (Address → List Address) → List Address
+  metBy none further = []
+  metBy (some b) further = further b
+
+  unfoldable pub met : (hops : ℕ) → Address → List Address
+  met zero a = cond (isThere (tableOf a (m .tables))) (a ∷ []) []
+  met (suc hops) a = cond (isThere (tableOf a (m .tables))) (a ∷ metBy (nextAt a) (met hops)) []
