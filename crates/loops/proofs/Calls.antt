@@ -31,7 +31,7 @@ use Rattle.rules.specs.Break.{brokenOff, breaking, breakNeighbour}
 use Rattle.rules.specs.Calls.{Call, receives, asks, announces, requestsAsRoot, breaks, outcome, OperandsFit}
 use Rattle.rules.proofs.Rulings.{passed}
 use Rattle.rules.proofs.Alls.{all-append}
-use Rattle.rules.proofs.NoWorse.{InWindow, Falls, break-falls, error-falls}
+use Rattle.rules.proofs.AsGood.{InWindow, Falls, break-falls, error-falls}
 use Rattle.rules.proofs.Learning.{Heard, learnt-keeps}
 use Rattle.rules.proofs.Falling.{break-keeps-row, error-keeps-row}
 use Rattle.rules.proofs.Accepted.{Accepted, accepted-element}

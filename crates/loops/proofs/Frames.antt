@@ -1,7 +1,7 @@
 -- The paths in the frames that a point emits: each is the point's own, or its row is at least as good. Assumes nothing.
 use Prim.Native.Nat.{ℕ}
 use mathlib.Core.Path.{_≡_, refl, sym, ap, _∙_}
-use mathlib.Core.Bool.{Bool, true, false, not, _&&_, cond, and-eq-true-iff}
+use mathlib.Core.Bool.{true, not, _&&_, and-eq-true-iff}
 use mathlib.Core.List.{List, [], _∷_}
 use mathlib.Core.Option.{Option, none, some}
 use mathlib.Core.Logic.{_⊎_, inl, inr}
@@ -23,17 +23,18 @@ use Rattle.element.specs.declared.PathInfo.{PathInfo}
 use Rattle.element.specs.declared.RreqFields.{RreqFields}
 use Rattle.element.specs.declared.RrepFields.{RrepFields}
 use Rattle.element.specs.declared.Target.{Target}
-use Rattle.element.specs.Element.{Element, rann, rreq, rrep}
+use Rattle.element.specs.Element.{Element, rann}
 use Rattle.element.specs.Lists.{allOnes}
 use Rattle.element.specs.Entries.{All}
 use Rattle.element.proofs.ReadBack.{all-each}
 use Rattle.rules.specs.Flags.{unicast, replyWanted, hasDO}
 use Rattle.rules.specs.Outcome.{Frame}
 use Rattle.rules.specs.Learn.{Arrival}
-use Rattle.rules.specs.Destinations.{Answered, reply, answeredNumber, answersFor, keptOn, keptAfterReply, forOneself, forAll, forAnother, answered, allAnswered}
+use Rattle.rules.specs.Destinations.{Answered, reply, answeredNumber, answersFor, forOneself, forAll, forAnother, answered, allAnswered}
 use Rattle.rules.specs.Onward.{onward, toAll, towards, whileAlive, rannOnward, rreqOnward, rrepOnward}
 use Rattle.rules.specs.Errors.{errorAt, errorsFor}
 use Rattle.rules.specs.Receive.{pathOf}
+use Rattle.rules.proofs.Branches.{cond-cases}
 use Rattle.rules.proofs.Alls.{all-append}
 use Rattle.loops.proofs.Invariant.{Stands, Backed, backed-path, backed-none}
 
@@ -53,18 +54,10 @@ module _ (d : Address) (base : ℕ) (self : Address) (o : Option Row) where
   towards-backed : (c : ℕ) (e : Element) → Backed d base self o (pathOf e) → (next : Option Row) → AllBacked (towards c e next)
   unfolding towards All
   towards-backed c e h none = tt
-  towards-backed c e h (some r) = by (active c r)
-    where
-      by : (b : Bool) → AllBacked (cond b (record { receiver = r .next; element = e } ∷ []) [])
-      by true = (h, tt)
-      by false = tt
+  towards-backed c e h (some r) = cond-cases AllBacked (active c r) (λ _. (h, tt)) (λ _. tt)
 
   while-alive-backed : (p : PathInfo) (frames : List Frame) → AllBacked frames → AllBacked (whileAlive p frames)
-  while-alive-backed p frames h = by (ltb (p .ttl) 2)
-    where
-      by : (b : Bool) → AllBacked (cond b [] frames)
-      by true = none-backed
-      by false = h
+  while-alive-backed p frames h = cond-cases AllBacked (ltb (p .ttl) 2) (λ _. none-backed) (λ _. h)
 
   -- errors bring no path
   pub errors-backed : (entries : List NumberedAddress) → AllBacked (errorsFor entries)
@@ -81,25 +74,16 @@ module _ (d : Address) (base : ℕ) (self : Address) (o : Option Row) where
     pub rreq-backed : (f : RreqFields) → Backed d base self o (some (onward a (f .path))) → (kept : List Target) → AllBacked (rreqOnward u a f kept)
     unfolding rreqOnward
     rreq-backed f h [] = none-backed
-    rreq-backed f h (q ∷ qs) = while-alive-backed (f .path) _ (by (unicast (f .path)))
-      where
-        e : Element
-        e = rreq (record { request = f .request; path = onward a (f .path) }) (q ∷ qs)
-
-        by : (b : Bool) → AllBacked (cond b (towards (a .clock) e (rowFor u (q .address))) (toAll e))
-        by true = towards-backed (a .clock) e h (rowFor u (q .address))
-        by false = to-all-backed e h
+    rreq-backed f h (q ∷ qs) =
+        while-alive-backed (f .path) _
+        (cond-cases AllBacked (unicast (f .path)) (λ _. towards-backed (a .clock) _ h (rowFor u (q .address))) (λ _. to-all-backed _ h))
 
     pub rrep-backed : (f : RrepFields) (dependents : List NumberedAddress) → Backed d base self o (some (onward a (f .path)))
         → AllBacked (rrepOnward u a f dependents)
     unfolding rrepOnward
-    rrep-backed f dependents h = by (same (f .source .address) (own u))
-      where
-        by : (b : Bool)
-            → AllBacked (cond b []
-            (towards (a .clock) (rrep (record { path = onward a (f .path); source = f .source }) dependents) (rowFor u (f .source .address))))
-        by true = none-backed
-        by false = towards-backed (a .clock) _ h (rowFor u (f .source .address))
+    rrep-backed f dependents h =
+        cond-cases AllBacked (same (f .source .address) (own u)) (λ _. none-backed)
+        (λ _. towards-backed (a .clock) _ h (rowFor u (f .source .address)))
 
   -- ---- replies
 
@@ -139,35 +123,25 @@ module _ (d : Address) (base : ℕ) (u : List ℕ) (a : Arrival) (p : PathInfo) 
 
   for-all-backed : (n : SequenceNumber) (q : Target) → Replies (forAll u a p n q .replies)
   unfolding forAll
-  for-all-backed n q = by (replyWanted p)
-    where
-      by : (b : Bool) → Replies (cond b
-          (record { number = nextNumber n; replies = reply a p (own u) (nextNumber n) (record { 0 = 0 }) (record { 0 = 0 }) ∷ []; kept = q ∷ [] })
-          (keptOn n q) .replies)
-      by true = own-reply-backed (nextNumber n)
-      by false = none-backed d base (own u) (rowFor u d)
+  for-all-backed n q =
+      cond-cases (λ (x : Answered). Replies (x .replies)) (replyWanted p) (λ _. own-reply-backed (nextNumber n))
+      (λ _. none-backed d base (own u) (rowFor u d))
 
   another-backed : (n : SequenceNumber) (q : Target) (row : Option Row) → rowFor u (q .address) ≡ row → Replies (forAnother u a p n q row .replies)
   unfolding forAnother
   another-backed n q none found = none-backed d base (own u) (rowFor u d)
-  another-backed n q (some r) found = by (answersFor (a .clock) q r) refl
-    where
-      by : (b : Bool) → answersFor (a .clock) q r ≡ b → Replies (cond b
-          (record { number = n; replies = reply a p (r .destination) (r .number) (r .hops) (r .metric) ∷ []; kept = keptAfterReply q })
-          (keptOn n q) .replies)
-      by true e =
-          reply-backed d base (own u) (rowFor u d) a p (r .destination) (r .number) (r .hops) (r .metric)
-          (λ about. inr (row-stands (q .address) r found (answers-known (a .clock) q r e) about))
-      by false e = none-backed d base (own u) (rowFor u d)
+  another-backed n q (some r) found =
+      cond-cases (λ (x : Answered). Replies (x .replies)) (answersFor (a .clock) q r)
+      (λ e. reply-backed d base (own u) (rowFor u d) a p (r .destination) (r .number) (r .hops) (r .metric)
+      (λ about. inr (row-stands (q .address) r found (answers-known (a .clock) q r e) about)))
+      (λ _. none-backed d base (own u) (rowFor u d))
 
   answered-backed : (n : SequenceNumber) (q : Target) → Replies (answered u a p n q .replies)
   unfolding answered
-  answered-backed n q = by (same (q .address) (own u)) (same (q .address) allOnes)
-    where
-      by : (b b′ : Bool) → Replies (cond b (forOneself u a p n q) (cond b′ (forAll u a p n q) (forAnother u a p n q (rowFor u (q .address)))) .replies)
-      by true b′ = oneself-backed n q
-      by false true = for-all-backed n q
-      by false false = another-backed n q (rowFor u (q .address)) refl
+  answered-backed n q =
+      cond-cases (λ (x : Answered). Replies (x .replies)) (same (q .address) (own u)) (λ _. oneself-backed n q)
+      (λ _. cond-cases (λ (x : Answered). Replies (x .replies)) (same (q .address) allOnes) (λ _. for-all-backed n q)
+      (λ _. another-backed n q (rowFor u (q .address)) refl))
 
   pub replies-backed : (n : SequenceNumber) (targets : List Target) → Replies (allAnswered u a p n targets .replies)
   unfolding allAnswered

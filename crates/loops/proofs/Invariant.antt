@@ -23,7 +23,7 @@ use Rattle.element.proofs.ReadBack.{Fits, read-back}
 use Rattle.rules.specs.Decision.{accepted}
 use Rattle.rules.specs.Outcome.{Frame, Effect}
 use Rattle.rules.specs.Receive.{pathOf}
-use Rattle.rules.proofs.NoWorse.{InWindow}
+use Rattle.rules.proofs.AsGood.{InWindow}
 use Rattle.rules.proofs.Sending.{FramesFit}
 use Rattle.loops.specs.Mesh.{Sent, Mesh, tableOf, withTable, sentBy, leaves}
 use Rattle.loops.proofs.Tables.{table-own, table-same, table-other}

@@ -6,3 +6,4 @@ pub mod Moves
 pub mod Frames
 pub mod Calls
 pub mod LoopFree
+pub mod Theorems

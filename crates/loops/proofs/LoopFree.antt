@@ -1,7 +1,7 @@
 -- Demand 3: whatever calls the points of a mesh make, no walk along valid rows meets a point twice. Assumes nothing.
 use Prim.Native.Nat.{ℕ, zero, suc, _+_, _*_, _^_, _<_}
 use mathlib.Core.Path.{_≡_, refl, sym, subst, _∙_}
-use mathlib.Core.Bool.{Bool, true, false, cond, and-eq-true-iff}
+use mathlib.Core.Bool.{Bool, true, false, and-eq-true-iff}
 use mathlib.Core.List.{List, [], _∷_, _++_, flatMap, List·Memᴰ, List·Memᴰ·head, List·Memᴰ·tail, List·Memᴰ·not-nil, List·Memᴰ·cases-cons}
 use mathlib.Core.Option.{Option, none, some, Option·none-ne-some, Option·some-injective}
 use mathlib.Core.Logic.{⊎-elim}
@@ -26,6 +26,7 @@ use Rattle.rules.specs.Decision.{Decision, refused, accepted}
 use Rattle.rules.specs.Lists.{all}
 use Rattle.rules.specs.Outcome.{Frame, Effect}
 use Rattle.rules.specs.Calls.{Call, outcome, OperandsFit}
+use Rattle.rules.proofs.Branches.{cond-cases}
 use Rattle.rules.proofs.Alls.{all-append, all-map}
 use Rattle.rules.proofs.CallsKeep.{Kept, call-kept}
 use Rattle.loops.specs.Mesh.{Point, Sent, Mesh, freshTable, start, tableOf, withTable, Action, delivers, asks, announces, requestsAsRoot, breaks, readsOnly, Event, deliveryOf, callOf, sentBy, leaves, calls, happen, run, throughout, met}
@@ -55,11 +56,8 @@ address-fits a t o is = rw (← is) (head-fits t o .0)
 with-table-octets : (a : Address) (u : List ℕ) → Octets u → (tables : List (List ℕ)) → All Octets tables → All Octets (withTable a u tables)
 unfolding withTable All
 with-table-octets a u o [] h = tt
-with-table-octets a u o (t ∷ tables) h = by (same (own t) a) (with-table-octets a u o tables (h .1))
-  where
-    by : (b : Bool) → All Octets (withTable a u tables) → All Octets (cond b (u ∷ tables) (t ∷ withTable a u tables))
-    by true rest = (o, h .1)
-    by false rest = (h .0, rest)
+with-table-octets a u o (t ∷ tables) h =
+    cond-cases (All Octets) (same (own t) a) (λ _. (o, h .1)) (λ _. (h .0, with-table-octets a u o tables (h .1)))
 
 module _ (m : Mesh) (sane : Sane m) (a : Address) (t : List ℕ) (here : tableOf a (m .tables) ≡ some t) where
   sane-after : (e : Effect) → Kept t e → Sane (leaves m a (accepted e))
@@ -117,12 +115,9 @@ module _ (d : Address) (base : ℕ) where
   fresh-at : (points : List Point) (a : Address) → rowAt d (start points .tables) a ≡ none
   unfolding start tableOf rowAt
   fresh-at [] a = refl
-  fresh-at (p ∷ points) a = by (same (own (freshTable p)) a) (fresh-at points a)
-    where
-      by : (b : Bool) → rowOf d (tableOf a (start points .tables)) ≡ none
-          → rowOf d (cond b (some (freshTable p)) (tableOf a (start points .tables))) ≡ none
-      by true rest = fresh-none (32 + 32 * p .rows) (p .address) (p .number) d
-      by false rest = rest
+  fresh-at (p ∷ points) a =
+      cond-cases (λ (o : Option (List ℕ)). rowOf d o ≡ none) (same (own (freshTable p)) a)
+      (λ _. fresh-none (32 + 32 * p .rows) (p .address) (p .number) d) (λ _. fresh-at points a)
 
   begins : (points : List Point) → Inv d base (start points)
   unfolding start

@@ -2,32 +2,29 @@
 use mathlib.Core.Path.{_≡_, refl, sym, ap, _∙_}
 use mathlib.Core.Bool.{Bool, true, false, cond}
 use mathlib.Core.List.{List, [], _∷_, List·Memᴰ, List·Memᴰ·head, List·Memᴰ·tail}
-use mathlib.Core.Option.{some, Option·none-ne-some, Option·some-injective}
+use mathlib.Core.Option.{Option, some, Option·none-ne-some, Option·some-injective}
 use Prim.Native.Nat.{ℕ}
 use Rattle.table.specs.declared.address.Address.{Address}
 use Rattle.table.specs.Address.{same}
 use Rattle.table.specs.Table.{own}
 use Rattle.table.proofs.WellFormed.{same-is, same-itself, differ}
+use Rattle.rules.proofs.Branches.{cond-cases}
 use Rattle.loops.specs.Mesh.{tableOf, withTable}
 
 -- the table that is found is one of them, and of that point
 pub table-own : (a : Address) (tables : List (List ℕ)) (t : List ℕ) → tableOf a tables ≡ some t → own t ≡ a
 unfolding tableOf
-table-own a [] t e = absurd (Option·none-ne-some t e)
-table-own a (u ∷ tables) t e = by (same (own u) a) refl e (table-own a tables t)
-  where
-    by : (b : Bool) → same (own u) a ≡ b → cond b (some u) (tableOf a tables) ≡ some t → (tableOf a tables ≡ some t → own t ≡ a) → own t ≡ a
-    by true q e rest = ap own (sym (Option·some-injective u t e)) ∙ same-is (own u) a q
-    by false q e rest = rest e
+table-own a [] t = λ e. absurd (Option·none-ne-some t e)
+table-own a (u ∷ tables) t =
+    cond-cases (λ (o : Option (List ℕ)). o ≡ some t → own t ≡ a) (same (own u) a)
+    (λ q e. ap own (sym (Option·some-injective u t e)) ∙ same-is (own u) a q) (λ _. table-own a tables t)
 
 pub table-listed : (a : Address) (tables : List (List ℕ)) (t : List ℕ) → tableOf a tables ≡ some t → List·Memᴰ t tables
 unfolding tableOf
-table-listed a [] t e = absurd (Option·none-ne-some t e)
-table-listed a (u ∷ tables) t e = by (same (own u) a) e (table-listed a tables t)
-  where
-    by : (b : Bool) → cond b (some u) (tableOf a tables) ≡ some t → (tableOf a tables ≡ some t → List·Memᴰ t tables) → List·Memᴰ t (u ∷ tables)
-    by true e rest = List·Memᴰ·head (sym (Option·some-injective u t e))
-    by false e rest = List·Memᴰ·tail (rest e)
+table-listed a [] t = λ e. absurd (Option·none-ne-some t e)
+table-listed a (u ∷ tables) t =
+    cond-cases (λ (o : Option (List ℕ)). o ≡ some t → List·Memᴰ t (u ∷ tables)) (same (own u) a)
+    (λ _ e. List·Memᴰ·head (sym (Option·some-injective u t e))) (λ _ e. List·Memᴰ·tail (table-listed a tables t e))
 
 -- a table of the same point in its place
 module _ (a : Address) (u : List ℕ) (is : own u ≡ a) where

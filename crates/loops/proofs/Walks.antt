@@ -15,6 +15,7 @@ use Rattle.table.specs.Table.{rowFor}
 use Rattle.table.proofs.WellFormed.{same-is}
 use Rattle.element.specs.Lists.{among, twice}
 use Rattle.element.specs.Entries.{All}
+use Rattle.rules.proofs.Branches.{cond-cases}
 use Rattle.loops.specs.Mesh.{Mesh, tableOf, isThere, validNext, nextIn, nextAt, metBy, met}
 use Rattle.loops.proofs.Invariant.{Leads, home, nearer, rowAt, Inv}
 
@@ -87,22 +88,14 @@ module _ (d : Address) (base : ℕ) (m : Mesh) (inv : Inv d base m) where
   -- every point that the walk meets after the row r is d, or has a strictly better row
   all-further : (r : Row) (hops : ℕ) (b : Address) → Further r b → All (Further r) (met m d hops b)
   unfolding met All
-  all-further r zero b near = by (isThere (tableOf b (m .tables)))
-    where
-      by : (k : Bool) → All (Further r) (cond k (b ∷ []) [])
-      by true = (near, tt)
-      by false = tt
-  all-further r (suc hops) b near = by (isThere (tableOf b (m .tables))) (nextAt m d b) refl (all-further r hops)
+  all-further r zero b near = cond-cases (All (Further r)) (isThere (tableOf b (m .tables))) (λ _. (near, tt)) (λ _. tt)
+  all-further r (suc hops) b near =
+      cond-cases (All (Further r)) (isThere (tableOf b (m .tables))) (λ _. (near, rest (nextAt m d b) refl (all-further r hops))) (λ _. tt)
     where
       rest : (o : Option Address) → nextAt m d b ≡ o → ((c : Address) → Further r c → All (Further r) (met m d hops c))
           → All (Further r) (metBy m d o (met m d hops))
       rest none e ih = tt
       rest (some c) e ih = ih c (further-trans r near (hop b c e) (next-further (hop b c e)))
-
-      by : (k : Bool) (o : Option Address) → nextAt m d b ≡ o → ((c : Address) → Further r c → All (Further r) (met m d hops c))
-          → All (Further r) (cond k (b ∷ metBy m d o (met m d hops)) [])
-      by true o e ih = (near, rest o e ih)
-      by false o e ih = tt
 
   -- the point of a row is not among those that come after
   not-again : {a b : Address} (h : Hop a b) → Further (h .row) a → ⊥
@@ -113,12 +106,10 @@ module _ (d : Address) (base : ℕ) (m : Mesh) (inv : Inv d base m) where
 
   pub none-twice : (hops : ℕ) (a : Address) → twice (met m d hops a) ≡ false
   unfolding met twice among
-  none-twice zero a = by (isThere (tableOf a (m .tables)))
-    where
-      by : (k : Bool) → twice (cond k (a ∷ []) []) ≡ false
-      by true = refl
-      by false = refl
-  none-twice (suc hops) a = by (isThere (tableOf a (m .tables))) (nextAt m d a) refl (none-twice hops)
+  none-twice zero a = cond-cases (λ (l : List Address). twice l ≡ false) (isThere (tableOf a (m .tables))) (λ _. refl) (λ _. refl)
+  none-twice (suc hops) a =
+      cond-cases (λ (l : List Address). twice l ≡ false) (isThere (tableOf a (m .tables)))
+      (λ _. rest (nextAt m d a) refl (none-twice hops)) (λ _. refl)
     where
       rest : (o : Option Address) → nextAt m d a ≡ o → ((b : Address) → twice (met m d hops b) ≡ false)
           → twice (a ∷ metBy m d o (met m d hops)) ≡ false
@@ -126,8 +117,3 @@ module _ (d : Address) (base : ℕ) (m : Mesh) (inv : Inv d base m) where
       rest (some b) e ih =
           let h : Hop a b = hop a b e in
           rw (not-among (Further (h .row)) a (not-again h) (met m d hops b) (all-further (h .row) hops b (next-further h))) (ih b)
-
-      by : (k : Bool) (o : Option Address) → nextAt m d a ≡ o → ((b : Address) → twice (met m d hops b) ≡ false)
-          → twice (cond k (a ∷ metBy m d o (met m d hops)) []) ≡ false
-      by true o e ih = rest o e ih
-      by false o e ih = refl

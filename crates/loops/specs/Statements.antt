@@ -1,32 +1,75 @@
--- What is proved of the rules of document 01, in `proofs/Theorems.antt`. Assumes nothing.
+-- What is proved of the rules of document 01: each statement is a type here, and `proofs/Theorems.antt` has its proof under
+-- the name that is given beside it. Assumes nothing.
 use Prim.Native.Nat.{ℕ, _^_, _<_, _≤_}
 use mathlib.Core.Path.{_≡_}
 use mathlib.Core.Bool.{true, false}
 use mathlib.Core.List.{List, map}
 use lib.ListN.{length}
 use Rattle.octets.specs.LittleEndian.{Octets}
+use Rattle.counters.specs.declared.SequenceNumber.{SequenceNumber}
 use Rattle.table.specs.declared.address.Address.{Address}
 use Rattle.table.specs.Address.{individual}
 use Rattle.table.specs.Table.{isTable}
+use Rattle.element.specs.Element.{Element}
+use Rattle.element.specs.Entries.{All}
 use Rattle.element.specs.Octets.{wrongLength, otherId, misfit, readElement, writeElement}
 use Rattle.element.specs.Lists.{twice}
 use Rattle.rules.specs.Decision.{accepted}
+use Rattle.rules.specs.Lists.{all}
 use Rattle.rules.specs.Outcome.{Frame, Effect}
+use Rattle.rules.specs.Fresh.{makeFresh}
+use Rattle.rules.specs.Forget.{forget}
 use Rattle.rules.specs.Calls.{Call, outcome, OperandsFit}
+use Rattle.edges.specs.Edges.{edges}
 use Rattle.loops.specs.Mesh.{Point, start, Action, delivers, asks, announces, requestsAsRoot, breaks, readsOnly, Event, run, throughout, met}
 use Rattle.loops.specs.Premise.{allWithin}
 
--- ---- demand 3
+-- ---- P1 to P8 (`p1-to-p8`): every test in the list passes
 
--- a point as the demand has it: an individual address, 1 to 128 rows
+abbrev pub EdgesHold : Type 0
+EdgesHold = all (λ b. b) edges ≡ true
+
+-- ---- stays a table (`stays-a-table`, `fresh-is-a-table`, `forget-stays-a-table`)
+
+-- Whatever octets a call finds as its table: if it is accepted, it leaves octets that pass refusal 21, as many as before.
+abbrev pub StaysTable : Type 0
+StaysTable =
+    (t : List ℕ) → Octets t → (room : ℕ) (call : Call) → OperandsFit call → (e : Effect) → outcome t room call ≡ accepted e
+    → Octets (e .table) × (isTable (e .table) ≡ true) × (length (e .table) ≡ length t)
+
+abbrev pub FreshIsTable : Type 0
+FreshIsTable =
+    (t u : List ℕ) (own : Address) (number : SequenceNumber) → own .0 < 256 ^ 6 → number .0 < 256 ^ 4
+    → makeFresh t own number ≡ accepted u → isTable u ≡ true
+
+abbrev pub ForgetStaysTable : Type 0
+ForgetStaysTable = (t u : List ℕ) (d : Address) → forget t d ≡ accepted u → isTable u ≡ true
+
+-- ---- reads back (`reads-back`)
+
+-- the octets of an element pass refusals 6, 7 and 8, and are read as its fields
+pub record ReadsAs (s : List ℕ) (e : Element) : Type 0 where
+  pub passes-6 : wrongLength s ≡ false
+  pub passes-7 : otherId s ≡ false
+  pub passes-8 : misfit s ≡ false
+  pub fields : readElement s ≡ e
+
+-- Every element that an accepted call emits is so.
+abbrev pub ReadsBack : Type 0
+ReadsBack =
+    (t : List ℕ) → Octets t → (room : ℕ) (call : Call) → OperandsFit call → (e : Effect) → outcome t room call ≡ accepted e
+    → All (λ (f : Frame). ReadsAs (writeElement (f .element)) (f .element)) (e .frames)
+
+-- ---- loop free, demand 3 (`loop-free`)
+
+-- a point of the demand: an individual address, any own number, 1 to 128 rows
 pub record PointFits (p : Point) : Type 0 where
   pub address : individual (p .address) ≡ true
-  pub address-octets : p .address .0 < 256 ^ 6
-  pub number-octets : p .number .0 < 256 ^ 4
-  pub rows-from : 1 ≤ p .rows
-  pub rows-to : p .rows ≤ 128
+  pub six-octets : p .address .0 < 256 ^ 6
+  pub four-octets : p .number .0 < 256 ^ 4
+  pub rows : (1 ≤ p .rows) × (p .rows ≤ 128)
 
--- the operands of an action are as C's types have them: a lifetime has 32 bits, an octet is below 256; all others are free
+-- the operands of an action are what C's types can hold: a lifetime has 32 bits, an octet is below 256; all else is free
 abbrev pub ActionFits : Action → Type 0
 ActionFits (delivers place c link) = Unit {0}
 ActionFits (asks lifetime items) = (lifetime < 256 ^ 4) × Octets items
@@ -34,3 +77,18 @@ ActionFits (announces flags lifetime) = lifetime < 256 ^ 4
 ActionFits (requestsAsRoot flags lifetime) = lifetime < 256 ^ 4
 ActionFits (breaks c neighbour) = Unit {0}
 ActionFits readsOnly = Unit {0}
+
+-- For any set of points with fresh tables and different addresses,
+-- and any list of their calls, with elements delivered late, repeated, reordered or lost, any of them refused or not:
+-- if, from first to last, all numbers held or carried for a destination d lie within 2^31 consecutive ones counted round zero,
+-- then the walk along valid rows for d, from any point a and however long, meets no point twice.
+--
+-- (The proof does not use what is said of the points: a call on octets that are no table is refused, and of two points with
+-- one address the second would never be called or met. A forget is not among the calls: with it the statement is false.)
+abbrev pub LoopFree : Type 0
+LoopFree =
+    (points : List Point) → All PointFits points → twice (map (λ (p : Point). p .address) points) ≡ false
+    → (events : List Event) → All (λ (e : Event). ActionFits (e .action)) events
+    → (d : Address) (base : ℕ) → base < 2 ^ 32
+    → throughout outcome (allWithin d base) (start points) events ≡ true
+    → (a : Address) (hops : ℕ) → twice (met (run outcome (start points) events) d hops a) ≡ false

@@ -7,11 +7,17 @@ use lib.ListN.{length, take, drop}
 use native.Mathlib.Omega.{arith}
 use Rattle.element.specs.Entries.{each, All}
 use Rattle.rules.specs.Lists.{any, those}
+use Rattle.rules.proofs.Branches.{cond-cases}
 
 module _ {A : Type 0} (P : A → Type 0) where
   pub all-one : (x : A) → P x → All P (x ∷ [])
   unfolding All
   all-one x h = (h, tt)
+
+  pub all-implies : (Q : A → Type 0) → ((x : A) → P x → Q x) → (l : List A) → All P l → All Q l
+  unfolding All
+  all-implies Q h [] k = tt
+  all-implies Q h (x ∷ l) k = (h x (k .0), all-implies Q h l (k .1))
 
   pub all-append : (l l′ : List A) → All P l → All P l′ → All P (l ++ l′)
   unfolding All
@@ -38,11 +44,9 @@ module _ {A : Type 0} (P : A → Type 0) where
   pub all-those : (p : A → Bool) (l : List A) → All P l → All P (those p l)
   unfolding All those
   all-those p [] h = tt
-  all-those p (x ∷ l) h = by (p x) (all-those p l (h .1))
-    where
-      by : (b : Bool) → All P (those p l) → All P (cond b (x ∷ those p l) (those p l))
-      by true rest = (h .0, rest)
-      by false rest = rest
+  all-those p (x ∷ l) h =
+      let rest : All P (those p l) = all-those p l (h .1) in
+      cond-cases (All P) (p x) (λ _. (h .0, rest)) (λ _. rest)
 
 module _ {A B : Type 0} (Q : B → Type 0) where
   pub all-map : (P : A → Type 0) (f : A → B) → ((x : A) → P x → Q (f x)) → (l : List A) → All P l → All Q (map f l)
@@ -61,11 +65,9 @@ module _ {A : Type 0} (p : A → Bool) where
   pub those-fewer : (l : List A) → length (those p l) ≤ length l
   unfolding those
   those-fewer [] = omega arith
-  those-fewer (x ∷ l) = by (p x) (those-fewer l)
-    where
-      by : (b : Bool) → length (those p l) ≤ length l → length (cond b (x ∷ those p l) (those p l)) ≤ length (x ∷ l)
-      by true rest = omega arith
-      by false rest = omega arith
+  those-fewer (x ∷ l) =
+      let rest = those-fewer l in
+      cond-cases (λ (k : List A). length k ≤ length (x ∷ l)) (p x) (λ _. omega arith) (λ _. omega arith)
 
   pub those-some : (l : List A) → any p l ≡ true → 1 ≤ length (those p l)
   unfolding those any

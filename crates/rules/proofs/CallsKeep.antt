@@ -1,7 +1,7 @@
 -- Every accepted call leaves a table, and emits elements that fit their octets. Assumes nothing.
 use Prim.Native.Nat.{ℕ, _-_, _*_, _/_, _%_, _^_, _<_, _≤_}
 use mathlib.Core.Path.{_≡_, refl, _∙_}
-use mathlib.Core.Bool.{Bool, true, false, not, _&&_, _||_, cond, and-eq-true-iff, true≢false}
+use mathlib.Core.Bool.{Bool, true, false, not, _&&_, _||_, and-eq-true-iff, true≢false}
 use mathlib.Core.List.{List, [], _∷_, map}
 use mathlib.Core.Option.{Option, none, some}
 use lib.Dec.{eqb, leb, ltb}
@@ -41,6 +41,7 @@ use Rattle.rules.specs.Originate.{ownPath, announced, requested, Item, i
 use Rattle.rules.specs.Break.{brokenOff, breaking, breakNeighbour}
 use Rattle.rules.specs.Calls.{Call, receives, asks, announces, requestsAsRoot, breaks, outcome, OperandsFit}
 use Rattle.rules.proofs.Rulings.{passed, passed-check}
+use Rattle.rules.proofs.Branches.{cond-cases}
 use Rattle.rules.proofs.Alls.{all-append, all-map, all-those, those-fewer, those-some}
 use Rattle.rules.proofs.Tables.{Whole, whole, Keeps, Leaves, own-fits, number-fits, request-fits, clock-small, head-leaves}
 use Rattle.rules.proofs.Learning.{PathFits, Heard, learnt-keeps}
@@ -161,11 +162,9 @@ module _ (t : List ℕ) (w : Whole t) where
   known-number-fits : (d : Address) (o : Option Row) → rowFor t d ≡ o → knownNumber o .0 < 256 ^ 4
   unfolding knownNumber FitRow FitFields
   known-number-fits d none e = omega arith
-  known-number-fits d (some r) e = by (eqb (r .known) 1)
-    where
-      by : (b : Bool) → cond b (r .number) (record { 0 = 0 }) .0 < 256 ^ 4
-      by true = row-fits-its-octets t d r e (w .octets) .1 .1 .1 .1 .1 .1 .0
-      by false = omega arith
+  known-number-fits d (some r) e =
+      cond-cases (λ (n : SequenceNumber). n .0 < 256 ^ 4) (eqb (r .known) 1)
+      (λ _. row-fits-its-octets t d r e (w .octets) .1 .1 .1 .1 .1 .1 .0) (λ _. omega arith)
 
   abbrev FitsItem : Item → Type 0
   FitsItem i = (i .flags < 256 ^ 1) × (i .address .0 < 256 ^ 6)

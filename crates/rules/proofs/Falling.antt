@@ -1,7 +1,7 @@
 -- A break and a received error: every row stays held, and the table stays one. Assumes nothing.
 use Prim.Native.Nat.{ℕ, _^_, _<_}
 use mathlib.Core.Path.{_≡_, refl, sym, ap, subst, _∙_}
-use mathlib.Core.Bool.{Bool, true, false, _&&_, cond}
+use mathlib.Core.Bool.{true, false, and-eq-true-iff}
 use mathlib.Core.List.{List, [], _∷_}
 use mathlib.Core.Option.{Option, none, some, Option·none-ne-some, Option·some-injective}
 use lib.Dec.{eqb}
@@ -21,6 +21,7 @@ use Rattle.element.specs.declared.NumberedAddress.{NumberedAddress}
 use Rattle.element.specs.Entries.{All}
 use Rattle.element.proofs.ListParts.{FitsNumbered}
 use Rattle.rules.specs.Errors.{isThrough, isLostBy, numberBeside, erred, afterError, broken, afterBreak}
+use Rattle.rules.proofs.Branches.{cond-cases}
 use Rattle.rules.proofs.Tables.{Whole, Keeps}
 
 -- r′ is the row r, or r invalidated, or r invalidated with its known number raised
@@ -84,17 +85,13 @@ pub next-fits : (n : SequenceNumber) → nextNumber n .0 < 256 ^ 4
 unfolding stepped
 next-fits n = omega arith
 
+broken-loses : (r : Row) → Lost r (broken r)
+unfolding broken
+broken-loses r = cond-cases (Lost r) (eqb (r .known) 1) (λ k. higher _ (next-fits (r .number)) k refl) (λ _. invalid refl)
+
 break-loses : (c : ℕ) (neighbour : Address) (r : Row) → Lost r (afterBreak c neighbour r)
-unfolding afterBreak broken
-break-loses c neighbour r = at (isThrough c neighbour r)
-  where
-    at : (b : Bool) → Lost r (cond b (broken r) r)
-    at false = unchanged refl
-    at true = by (eqb (r .known) 1) refl
-      where
-        by : (b : Bool) → eqb (r .known) 1 ≡ b → Lost r (cond b (raised (nextNumber (r .number)) (invalidated r)) (invalidated r))
-        by true k = higher (nextNumber (r .number)) (next-fits (r .number)) k refl
-        by false k = invalid refl
+unfolding afterBreak
+break-loses c neighbour r = cond-cases (Lost r) (isThrough c neighbour r) (λ _. broken-loses r) (λ _. unchanged refl)
 
 module _ (c : ℕ) (neighbour : Address) where
   pub break-keeps-row : KeepsRow (afterBreak c neighbour)
@@ -107,27 +104,27 @@ module _ (c : ℕ) (neighbour : Address) where
 
 beside-fits : (d : Address) (named : List NumberedAddress) → All FitsNumbered named → (n : SequenceNumber) → numberBeside d named ≡ some n → n .0 < 256 ^ 4
 unfolding numberBeside All FitFields
-beside-fits d [] f n e = absurd (Option·none-ne-some n e)
-beside-fits d (m ∷ named) f n e = by (same (m .address) d) e (beside-fits d named (f .1) n)
-  where
-    by : (b : Bool) → cond b (some (m .number)) (numberBeside d named) ≡ some n → (numberBeside d named ≡ some n → n .0 < 256 ^ 4) → n .0 < 256 ^ 4
-    by true e rest = subst (λ (k : SequenceNumber). k .0 < 256 ^ 4) (Option·some-injective (m .number) n e) (f .0 .1 .0)
-    by false e rest = rest e
+beside-fits d [] f n = λ e. absurd (Option·none-ne-some n e)
+beside-fits d (m ∷ named) f n =
+    cond-cases (λ (o : Option SequenceNumber). o ≡ some n → n .0 < 256 ^ 4) (same (m .address) d)
+    (λ _ e. subst (λ (k : SequenceNumber). k .0 < 256 ^ 4) (Option·some-injective (m .number) n e) (f .0 .1 .0))
+    (λ _. beside-fits d named (f .1) n)
 
 module _ (c : ℕ) (transmitter : Address) (named : List NumberedAddress) (fit : All FitsNumbered named) where
+  erred-loses : (r : Row) → eqb (r .known) 1 ≡ true → (o : Option SequenceNumber) → numberBeside (r .destination) named ≡ o → Lost r (erred o r)
+  unfolding erred
+  erred-loses r k none e = unchanged refl
+  erred-loses r k (some n) e =
+      cond-cases (Lost r) (newer n (r .number)) (λ _. higher n (beside-fits (r .destination) named fit n e) k refl) (λ _. invalid refl)
+
+  lost-known : (r : Row) → isLostBy c transmitter r ≡ true → eqb (r .known) 1 ≡ true
+  unfolding isLostBy
+  lost-known r e = and-eq-true-iff (isThrough c transmitter r) (eqb (r .known) 1) .0 e .1
+
   error-loses : (r : Row) → Lost r (afterError c transmitter named r)
-  unfolding afterError isLostBy erred
-  error-loses r = at (isThrough c transmitter r) (eqb (r .known) 1) refl (numberBeside (r .destination) named) refl
-    where
-      at : (b k : Bool) → eqb (r .known) 1 ≡ k → (o : Option SequenceNumber) → numberBeside (r .destination) named ≡ o → Lost r (cond (b && k) (erred o r) r)
-      at false k e o q = unchanged refl
-      at true false e o q = unchanged refl
-      at true true e none q = unchanged refl
-      at true true e (some n) q = by (newer n (r .number))
-        where
-          by : (b : Bool) → Lost r (cond b (raised n (invalidated r)) (invalidated r))
-          by true = higher n (beside-fits (r .destination) named fit n q) e refl
-          by false = invalid refl
+  unfolding afterError
+  error-loses r =
+      cond-cases (Lost r) (isLostBy c transmitter r) (λ e. erred-loses r (lost-known r e) (numberBeside (r .destination) named) refl) (λ _. unchanged refl)
 
   pub error-keeps-row : KeepsRow (afterError c transmitter named)
   error-keeps-row = lost-keeps-row (afterError c transmitter named) error-loses

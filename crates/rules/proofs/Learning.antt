@@ -2,7 +2,7 @@
 -- Assumes nothing.
 use Prim.Native.Nat.{ℕ, _+_, _-_, _^_, _<_, _≤_}
 use mathlib.Core.Path.{_≡_, refl, sym, ap, subst, _∙_}
-use mathlib.Core.Bool.{Bool, true, false, _&&_, _||_, cond}
+use mathlib.Core.Bool.{Bool, true, false, _&&_, _||_}
 use mathlib.Core.List.{List}
 use mathlib.Core.Option.{Option, none, some}
 use mathlib.Core.Logic.{⊎-elim}
@@ -24,6 +24,7 @@ use Rattle.table.proofs.WellFormed.{same-itself, differ, not-same, equal-or-not
 use Rattle.element.specs.declared.PathInfo.{PathInfo}
 use Rattle.rules.specs.Learn.{Arrival, metricHere, rowOrNew, expiryOf, subjectRow, transmitterRow, takesLink, subjectLearnt, transmitterLearnt, learnt}
 use Rattle.rules.specs.Receive.{isStale, rowsNeeded}
+use Rattle.rules.proofs.Branches.{cond-cases}
 use Rattle.rules.proofs.Tables.{Whole, Keeps}
 
 -- the fields of a path fit their octets
@@ -92,11 +93,8 @@ basis t w d small (some r) e =
 
 expiry-small : (c lifetime : ℕ) (r : Row) → c ≤ 2 ^ 48 - 1 → lifetime < 256 ^ 4 → r .expiry ≤ 2 ^ 48 + 2 ^ 32 → expiryOf c lifetime r ≤ 2 ^ 48 + 2 ^ 32
 unfolding expiryOf
-expiry-small c lifetime r hc hl hr = by (active c r && ltb (c + lifetime) (r .expiry))
-  where
-    by : (b : Bool) → cond b (r .expiry) (c + lifetime) ≤ 2 ^ 48 + 2 ^ 32
-    by true = hr
-    by false = omega arith
+expiry-small c lifetime r hc hl hr =
+    cond-cases (λ x. x ≤ 2 ^ 48 + 2 ^ 32) (active c r && ltb (c + lifetime) (r .expiry)) (λ _. hr) (λ _. omega arith)
 
 module _ (t : List ℕ) (a : Arrival) (p : PathInfo) (h : Heard t a p) where
   -- step 1
@@ -261,30 +259,18 @@ module _ (t : List ℕ) (a : Arrival) (p : PathInfo) (h : Heard t a p) where
     -- the table after both steps
     both-keep : Keeps t (transmitterLearnt a (p .lifetime) u)
     unfolding transmitterLearnt
-    both-keep = by (takesLink a (rowFor u (a .transmitter)))
-      where
-        by : (b : Bool) → Keeps t (cond b (store u (transmitterRow a (p .lifetime) (rowOrNew (a .transmitter) (rowFor u (a .transmitter))))) u)
-        by true = keeps-trans (first .keeps) (second .keeps)
-        by false = first .keeps
+    both-keep = cond-cases (Keeps t) (takesLink a (rowFor u (a .transmitter))) (λ _. keeps-trans (first .keeps) (second .keeps)) (λ _. first .keeps)
 
     renewal-there : Renewal (a .transmitter) a (p .lifetime) (rowFor u (a .transmitter)) (rowFor (transmitterLearnt a (p .lifetime) u) (a .transmitter))
     unfolding transmitterLearnt
-    renewal-there = by (takesLink a (rowFor u (a .transmitter))) refl
-      where
-        by : (b : Bool) → takesLink a (rowFor u (a .transmitter)) ≡ b
-            → Renewal (a .transmitter) a (p .lifetime) (rowFor u (a .transmitter))
-            (rowFor (cond b (store u (transmitterRow a (p .lifetime) (rowOrNew (a .transmitter) (rowFor u (a .transmitter))))) u) (a .transmitter))
-        by true e = renewal refl e (second .here)
-        by false e = left refl
+    renewal-there =
+        cond-cases (λ (v : List ℕ). Renewal (a .transmitter) a (p .lifetime) (rowFor u (a .transmitter)) (rowFor v (a .transmitter)))
+        (takesLink a (rowFor u (a .transmitter))) (λ takes. renewal refl takes (second .here)) (λ _. left refl)
 
     renewal-elsewhere : (d : Address) → (a .transmitter ≡ d → ⊥) → rowFor (transmitterLearnt a (p .lifetime) u) d ≡ rowFor u d
     unfolding transmitterLearnt
-    renewal-elsewhere d n = by (takesLink a (rowFor u (a .transmitter)))
-      where
-        by : (b : Bool)
-            → rowFor (cond b (store u (transmitterRow a (p .lifetime) (rowOrNew (a .transmitter) (rowFor u (a .transmitter))))) u) d ≡ rowFor u d
-        by true = second .others d n
-        by false = refl
+    renewal-elsewhere d n =
+        cond-cases (λ (v : List ℕ). rowFor v d ≡ rowFor u d) (takesLink a (rowFor u (a .transmitter))) (λ _. second .others d n) (λ _. refl)
 
     renewal-at : (d : Address) → Renewal d a (p .lifetime) (rowFor u d) (rowFor (transmitterLearnt a (p .lifetime) u) d)
     renewal-at d =
@@ -308,19 +294,13 @@ module _ (t : List ℕ) (a : Arrival) (p : PathInfo) (h : Heard t a p) where
   -- what becomes of the row of each destination
   pub learning : (d : Address) → Learning d a p (rowFor t d) (rowFor (learnt a p t) d)
   unfolding learnt u
-  learning d = by (same (a .transmitter) (p .subject)) refl
-    where
-      by : (b : Bool) → same (a .transmitter) (p .subject) ≡ b
-          → Learning d a p (rowFor t d) (rowFor (cond b (subjectLearnt a p t) (transmitterLearnt a (p .lifetime) (subjectLearnt a p t))) d)
-      by true e = alone d
-      by false e = with-transmitter (not-same (a .transmitter) (p .subject) e) d
+  learning d =
+      cond-cases (λ (v : List ℕ). Learning d a p (rowFor t d) (rowFor v d)) (same (a .transmitter) (p .subject)) (λ _. alone d)
+      (λ apart. with-transmitter (not-same (a .transmitter) (p .subject) apart) d)
 
   -- the table stays one
   pub learnt-keeps : Keeps t (learnt a p t)
   unfolding learnt u
-  learnt-keeps = by (same (a .transmitter) (p .subject)) refl
-    where
-      by : (b : Bool) → same (a .transmitter) (p .subject) ≡ b
-          → Keeps t (cond b (subjectLearnt a p t) (transmitterLearnt a (p .lifetime) (subjectLearnt a p t)))
-      by true e = first .keeps
-      by false e = both-keep (not-same (a .transmitter) (p .subject) e)
+  learnt-keeps =
+      cond-cases (Keeps t) (same (a .transmitter) (p .subject)) (λ _. first .keeps)
+      (λ apart. both-keep (not-same (a .transmitter) (p .subject) apart))

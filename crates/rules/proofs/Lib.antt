@@ -1,5 +1,6 @@
 -- The laws of rulings, and theorems about all calls.
-pub mod NoWorse
+pub mod Branches
+pub mod AsGood
 pub mod Rulings
 pub mod Alls
 pub mod Tables

@@ -6,6 +6,7 @@ use Prim.Native.Nat.{ℕ}
 use native.Mathlib.Omega.{arith}
 use lib.Dec.{eqb}
 use Rattle.rules.specs.Decision.{refused, accepted, Check, Ruling, judged, decide}
+use Rattle.rules.proofs.Branches.{cond-cases}
 
 -- no check applies
 abbrev pub Passed : List Check → Type 0
@@ -32,8 +33,4 @@ testOf n (k ∷ checks) = cond (eqb (k .number) n) (k .applies) (testOf n checks
 
 pub passed-check : (n : ℕ) (checks : List Check) → Passed checks → testOf n checks ≡ false
 passed-check n [] h = refl
-passed-check n (k ∷ checks) h = by (eqb (k .number) n) (passed-check n checks (h .1))
-  where
-    by : (b : Bool) → testOf n checks ≡ false → cond b (k .applies) (testOf n checks) ≡ false
-    by true rest = h .0
-    by false rest = rest
+passed-check n (k ∷ checks) h = cond-cases (λ b. b ≡ false) (eqb (k .number) n) (λ _. h .0) (λ _. passed-check n checks (h .1))

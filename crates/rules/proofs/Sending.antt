@@ -1,7 +1,7 @@
 -- Every element that a call emits fits its octets and has as many entries as it may have. Assumes nothing.
 use Prim.Native.Nat.{ℕ, _+_, _-_, _*_, _/_, _^_, _<_, _≤_}
 use mathlib.Core.Path.{_≡_, refl}
-use mathlib.Core.Bool.{Bool, true, false, cond}
+use mathlib.Core.Bool.{true}
 use mathlib.Core.List.{List, [], _∷_}
 use mathlib.Core.Option.{Option, none, some}
 use lib.Dec.{eqb, leb, ltb}
@@ -38,6 +38,7 @@ use Rattle.rules.specs.Learn.{Arrival, metricHere}
 use Rattle.rules.specs.Destinations.{Answered, reply, answeredNumber, answersFor, forOneself, forAll, forAnother, answered, allAnswered, keptAfterReply}
 use Rattle.rules.specs.Onward.{onward, towards, toAll, whileAlive, rannOnward, rreqOnward, rrepOnward}
 use Rattle.rules.specs.Errors.{isThrough, broken, brokenEntry, brokenEntries, errorAt, errorsFor}
+use Rattle.rules.proofs.Branches.{cond-cases}
 use Rattle.rules.proofs.Alls.{all-one, all-append, all-between, all-take, all-drop, all-flat-map}
 use Rattle.rules.proofs.Tables.{Whole, own-fits}
 use Rattle.rules.proofs.Learning.{PathFits}
@@ -56,18 +57,10 @@ to-all-fits e f = all-one (λ (x : Frame). Fits (x .element)) (record { receiver
 towards-fits : (c : ℕ) (e : Element) → Fits e → (o : Option Row) → FramesFit (towards c e o)
 unfolding towards
 towards-fits c e f none = none-fits
-towards-fits c e f (some r) = by (active c r)
-  where
-    by : (b : Bool) → FramesFit (cond b (record { receiver = r .next; element = e } ∷ []) [])
-    by true = all-one (λ (x : Frame). Fits (x .element)) (record { receiver = r .next; element = e }) f
-    by false = none-fits
+towards-fits c e f (some r) = cond-cases FramesFit (active c r) (λ _. all-one (λ (x : Frame). Fits (x .element)) _ f) (λ _. none-fits)
 
 while-alive-fits : (p : PathInfo) (frames : List Frame) → FramesFit frames → FramesFit (whileAlive p frames)
-while-alive-fits p frames f = by (ltb (p .ttl) 2)
-  where
-    by : (b : Bool) → FramesFit (cond b [] frames)
-    by true = none-fits
-    by false = f
+while-alive-fits p frames f = cond-cases FramesFit (ltb (p .ttl) 2) (λ _. none-fits) (λ _. f)
 
 -- ---- elements whose path fits
 
@@ -132,32 +125,20 @@ module _ (a : Arrival) (f : RreqFields) (request : f .request .0 < 256 ^ 4) (fit
   pub rreq-onward-fits : (t : List ℕ) (kept : List Target) → All FitsTarget kept → length kept ≤ 20 → FramesFit (rreqOnward t a f kept)
   unfolding rreqOnward
   rreq-onward-fits t [] fit few = none-fits
-  rreq-onward-fits t (q ∷ qs) fit few = while-alive-fits (f .path) _ (by (unicast (f .path)))
-    where
-      e : Element
-      e = rreq (record { request = f .request; path = onward a (f .path) }) (q ∷ qs)
-
-      e-fits : Fits e
-      e-fits = rreq-fits _ (q ∷ qs) request (onward-fits a (f .path) fits hops metric) fit (omega arith) few
-
-      by : (b : Bool) → FramesFit (cond b (towards (a .clock) e (rowFor t (q .address))) (toAll e))
-      by true = towards-fits (a .clock) e e-fits (rowFor t (q .address))
-      by false = to-all-fits e e-fits
+  rreq-onward-fits t (q ∷ qs) fit few =
+      let e : Element = rreq (record { request = f .request; path = onward a (f .path) }) (q ∷ qs) in
+      let e-fits : Fits e = rreq-fits _ (q ∷ qs) request (onward-fits a (f .path) fits hops metric) fit (omega arith) few in
+      while-alive-fits (f .path) _
+      (cond-cases FramesFit (unicast (f .path)) (λ _. towards-fits (a .clock) e e-fits (rowFor t (q .address))) (λ _. to-all-fits e e-fits))
 
 module _ (a : Arrival) (f : RrepFields) (fits : PathFits (f .path)) (hops : f .path .hops .0 < 255)
     (metric : metricHere a (f .path) .0 ≤ 2 ^ 32 - 2) where
   pub rrep-onward-fits : (t : List ℕ) (dependents : List NumberedAddress) → FitsNumbered (f .source) → All FitsNumbered dependents
       → leb (length dependents) 22 ≡ true → FramesFit (rrepOnward t a f dependents)
   unfolding rrepOnward
-  rrep-onward-fits t dependents source fit few = by (same (f .source .address) (own t))
-    where
-      e : Element
-      e = rrep (record { path = onward a (f .path); source = f .source }) dependents
-
-      by : (b : Bool) → FramesFit (cond b [] (towards (a .clock) e (rowFor t (f .source .address))))
-      by true = none-fits
-      by false =
-          towards-fits (a .clock) e (rrep-fits _ dependents (onward-fits a (f .path) fits hops metric) source fit few) (rowFor t (f .source .address))
+  rrep-onward-fits t dependents source fit few =
+      cond-cases FramesFit (same (f .source .address) (own t)) (λ _. none-fits)
+      (λ _. towards-fits (a .clock) _ (rrep-fits _ dependents (onward-fits a (f .path) fits hops metric) source fit few) (rowFor t (f .source .address)))
 
 -- ---- the destinations of a RREQ
 
@@ -201,19 +182,15 @@ module _ (t : List ℕ) (w : Whole t) (a : Arrival) (p : PathInfo) (f : PathFits
 
     all-fits : AnsweredFits 1 (forAll t a p n q)
     unfolding forAll
-    all-fits = by (replyWanted p)
-      where
-        by : (b : Bool) → AnsweredFits 1 (cond b
-            (record { number = nextNumber n; replies = reply a p (own t) (nextNumber n) (record { 0 = 0 }) (record { 0 = 0 }) ∷ []; kept = q ∷ [] })
-            (record { number = n; replies = []; kept = q ∷ [] }))
-        by true =
-            record {
-              number = next-fits n;
-              replies = own-reply-fits (nextNumber n) (next-fits n);
-              kept = all-one FitsTarget q q-fits;
-              fewer = omega arith;
-            }
-        by false = kept-on-fits
+    all-fits =
+        cond-cases (AnsweredFits 1) (replyWanted p)
+        (λ _. record {
+          number = next-fits n;
+          replies = own-reply-fits (nextNumber n) (next-fits n);
+          kept = all-one FitsTarget q q-fits;
+          fewer = omega arith;
+        })
+        (λ _. kept-on-fits)
 
     row-reply-fits : (r : Row) → FitRow r → FramesFit (reply a p (r .destination) (r .number) (r .hops) (r .metric) ∷ [])
     unfolding FitRow FitFields
@@ -222,37 +199,28 @@ module _ (t : List ℕ) (w : Whole t) (a : Arrival) (p : PathInfo) (f : PathFits
 
     kept-after-fits : All FitsTarget (keptAfterReply q) × (length (keptAfterReply q) ≤ 1)
     unfolding All
-    kept-after-fits = by (hasRF q)
-      where
-        by : (b : Bool) → All FitsTarget (cond b (withDO q ∷ []) []) × (length (cond b (withDO q ∷ []) []) ≤ 1)
-        by true = (all-one FitsTarget (withDO q) (with-do-fits q q-fits), omega arith)
-        by false = (tt, omega arith)
+    kept-after-fits =
+        cond-cases (λ (kept : List Target). All FitsTarget kept × (length kept ≤ 1)) (hasRF q)
+        (λ _. (all-one FitsTarget (withDO q) (with-do-fits q q-fits), omega arith)) (λ _. (tt, omega arith))
 
     another-fits : (o : Option Row) → rowFor t (q .address) ≡ o → AnsweredFits 1 (forAnother t a p n q o)
     unfolding forAnother
     another-fits none e = kept-on-fits
-    another-fits (some r) e = by (answersFor (a .clock) q r)
-      where
-        by : (b : Bool) → AnsweredFits 1 (cond b
-            (record { number = n; replies = reply a p (r .destination) (r .number) (r .hops) (r .metric) ∷ []; kept = keptAfterReply q })
-            (record { number = n; replies = []; kept = q ∷ [] }))
-        by true =
-            record {
-              number = n-fits;
-              replies = row-reply-fits r (row-fits-its-octets t (q .address) r e (w .octets));
-              kept = kept-after-fits .0;
-              fewer = kept-after-fits .1;
-            }
-        by false = kept-on-fits
+    another-fits (some r) e =
+        cond-cases (AnsweredFits 1) (answersFor (a .clock) q r)
+        (λ _. record {
+          number = n-fits;
+          replies = row-reply-fits r (row-fits-its-octets t (q .address) r e (w .octets));
+          kept = kept-after-fits .0;
+          fewer = kept-after-fits .1;
+        })
+        (λ _. kept-on-fits)
 
     answered-fits : AnsweredFits 1 (answered t a p n q)
     unfolding answered
-    answered-fits = by (same (q .address) (own t)) (same (q .address) allOnes)
-      where
-        by : (b b′ : Bool) → AnsweredFits 1 (cond b (forOneself t a p n q) (cond b′ (forAll t a p n q) (forAnother t a p n q (rowFor t (q .address)))))
-        by true b′ = oneself-fits
-        by false true = all-fits
-        by false false = another-fits (rowFor t (q .address)) refl
+    answered-fits =
+        cond-cases (AnsweredFits 1) (same (q .address) (own t)) (λ _. oneself-fits)
+        (λ _. cond-cases (AnsweredFits 1) (same (q .address) allOnes) (λ _. all-fits) (λ _. another-fits (rowFor t (q .address)) refl))
 
   pub all-answered-fits : (n : SequenceNumber) → n .0 < 256 ^ 4 → (targets : List Target) → All FitsTarget targets
       → AnsweredFits (length targets) (allAnswered t a p n targets)
@@ -274,20 +242,14 @@ module _ (t : List ℕ) (w : Whole t) (a : Arrival) (p : PathInfo) (f : PathFits
 
 broken-number-fits : (r : Row) → FitRow r → broken r .number .0 < 256 ^ 4
 unfolding broken raised invalidated FitRow FitFields
-broken-number-fits r f = by (eqb (r .known) 1)
-  where
-    by : (b : Bool) → cond b (raised (nextNumber (r .number)) (invalidated r)) (invalidated r) .number .0 < 256 ^ 4
-    by true = next-fits (r .number)
-    by false = f .1 .1 .1 .1 .1 .1 .0
+broken-number-fits r f =
+    cond-cases (λ (q : Row). q .number .0 < 256 ^ 4) (eqb (r .known) 1) (λ _. next-fits (r .number)) (λ _. f .1 .1 .1 .1 .1 .1 .0)
 
 module _ (t : List ℕ) (o : Octets t) (c : ℕ) (neighbour : Address) where
   entry-fits : (r : Row) → FitRow r → All FitsNumbered (brokenEntry c neighbour r)
   unfolding brokenEntry All FitFields FitRow
-  entry-fits r f = by (isThrough c neighbour r)
-    where
-      by : (b : Bool) → All FitsNumbered (cond b (record { address = r .destination; number = broken r .number } ∷ []) [])
-      by true = ((f .1 .1 .1 .1 .0, (broken-number-fits r f, tt)), tt)
-      by false = tt
+  entry-fits r f =
+      cond-cases (All FitsNumbered) (isThrough c neighbour r) (λ _. ((f .1 .1 .1 .1 .0, (broken-number-fits r f, tt)), tt)) (λ _. tt)
 
   pub entries-fit : All FitsNumbered (brokenEntries t c neighbour)
   unfolding brokenEntries

@@ -1,16 +1,17 @@
--- No call makes a row worse: as long as numbers stay inside a window of 2^31, the rank of a known number and its metric only
--- gets better. These four facts are all that loop freedom needs of the rules' numbers. Assumes nothing.
+-- No call makes a row worse: while numbers stay inside a window of 2^31, a row of known number stays at least as good as it was.
+-- `path-no-worse`, `link-no-worse`, `break-falls` and `error-falls` are all that loop freedom asks of the rules' numbers.
+-- Assumes nothing.
 use Prim.Native.Nat.{ℕ, _-_, _^_, _<_, _≤_}
 use mathlib.Core.Path.{_≡_, refl, ap}
-use mathlib.Core.Bool.{Bool, true, false, _||_, cond}
+use mathlib.Core.Bool.{true, false}
 use mathlib.Core.List.{List}
 use mathlib.Core.Option.{Option, none, some}
-use lib.Dec.{eqb, leb, ltb}
+use lib.Dec.{eqb}
 use native.Mathlib.Nat.{le-refl}
 use native.Mathlib.Omega.{arith}
 use borrow.Author.Tests.{ltb-true, leb-true, eqb-true}
 use Rattle.counters.specs.declared.SequenceNumber.{SequenceNumber}
-use Rattle.counters.specs.Numbers.{nextNumber, newer}
+use Rattle.counters.specs.Numbers.{newer}
 use Rattle.counters.proofs.Rank.{Window, AtLeast, level, not-stale, newer-ahead, next-ahead}
 use Rattle.table.specs.declared.address.Address.{Address}
 use Rattle.table.specs.declared.row.Row.{Row}
@@ -21,6 +22,7 @@ use Rattle.element.specs.declared.PathInfo.{PathInfo}
 use Rattle.rules.specs.Learn.{Arrival, metricHere, takesLink}
 use Rattle.rules.specs.Errors.{isThrough, isLostBy, numberBeside, erred, afterError, broken, afterBreak}
 use Rattle.rules.specs.Receive.{isStaleFor, isStale}
+use Rattle.rules.proofs.Branches.{cond-cases}
 
 -- the number of a row, where it is known, lies in the window
 abbrev pub InWindow : ℕ → Row → Type 0
@@ -49,43 +51,41 @@ module _ (base : ℕ) (small : base < 2 ^ 32) where
   unfolding raised invalidated
   raised-falls n r h = falls refl refl h
 
+  broken-falls : (r : Row) → InWindow base r → InWindow base (broken r) → Falls r (broken r)
+  unfolding broken raised invalidated
+  broken-falls r near =
+      cond-cases (λ (q : Row). InWindow base q → Falls r q) (eqb (r .known) 1)
+      (λ k near′. raised-falls _ r (λ _. next-ahead small (near k) (near′ k)))
+      (λ _ _. invalid-falls r)
+
   pub break-falls : (c : ℕ) (neighbour : Address) (r : Row) → InWindow base r → InWindow base (afterBreak c neighbour r)
       → Falls r (afterBreak c neighbour r)
-  unfolding afterBreak broken raised invalidated
-  break-falls c neighbour r near = at (isThrough c neighbour r)
-    where
-      at : (b : Bool) → InWindow base (cond b (broken r) r) → Falls r (cond b (broken r) r)
-      at false near′ = stays refl
-      at true near′ = by (eqb (r .known) 1) refl near′
-        where
-          by : (b : Bool) → eqb (r .known) 1 ≡ b → InWindow base (cond b (raised (nextNumber (r .number)) (invalidated r)) (invalidated r))
-              → Falls r (cond b (raised (nextNumber (r .number)) (invalidated r)) (invalidated r))
-          by true k near′ = raised-falls (nextNumber (r .number)) r (λ _. next-ahead small (near k) (near′ k))
-          by false k near′ = invalid-falls r
+  unfolding afterBreak
+  break-falls c neighbour r near =
+      cond-cases (λ (q : Row). InWindow base q → Falls r q) (isThrough c neighbour r) (λ _. broken-falls r near) (λ _ _. stays refl)
+
+  erred-falls : (o : Option SequenceNumber) (r : Row) → InWindow base r → InWindow base (erred o r) → Falls r (erred o r)
+  unfolding erred raised invalidated
+  erred-falls none r near = λ _. stays refl
+  erred-falls (some n) r near =
+      cond-cases (λ (q : Row). InWindow base q → Falls r q) (newer n (r .number))
+      (λ e near′. raised-falls _ r (λ k. newer-ahead small (near′ k) (near k) e))
+      (λ _ _. invalid-falls r)
 
   pub error-falls : (c : ℕ) (transmitter : Address) (named : List NumberedAddress) (r : Row) → InWindow base r
       → InWindow base (afterError c transmitter named r) → Falls r (afterError c transmitter named r)
-  unfolding afterError erred raised invalidated
-  error-falls c transmitter named r near = at (isLostBy c transmitter r) (numberBeside (r .destination) named)
-    where
-      at : (b : Bool) (o : Option SequenceNumber) → InWindow base (cond b (erred o r) r) → Falls r (cond b (erred o r) r)
-      at false o near′ = stays refl
-      at true none near′ = stays refl
-      at true (some n) near′ = by (newer n (r .number)) refl near′
-        where
-          by : (b : Bool) → newer n (r .number) ≡ b → InWindow base (cond b (raised n (invalidated r)) (invalidated r))
-              → Falls r (cond b (raised n (invalidated r)) (invalidated r))
-          by true e near′ = raised-falls n r (λ k. newer-ahead small (near′ k) (near k) e)
-          by false e near′ = invalid-falls r
+  unfolding afterError
+  error-falls c transmitter named r near =
+      cond-cases (λ (q : Row). InWindow base q → Falls r q) (isLostBy c transmitter r)
+      (λ _. erred-falls (numberBeside (r .destination) named) r near) (λ _ _. stays refl)
 
 -- a transmitter's row of known number is changed only if that makes its metric no worse
 pub link-no-worse : (a : Arrival) (r : Row) → takesLink a (some r) ≡ true → eqb (r .known) 1 ≡ true → a .link .0 ≤ r .metric .0
 unfolding takesLink
-link-no-worse a r h known = by (active (a .clock) r) h
+link-no-worse a r h known =
+    cond-cases (λ b. b ≡ true → a .link .0 ≤ r .metric .0) (active (a .clock) r)
+    (λ _ e. omega (arith, ltb-true (a .link .0) (r .metric .0) e))
+    (λ _ e. leb-true (a .link .0) (r .metric .0) (rw known-not-zero at e)) h
   where
     known-not-zero : eqb (r .known) 0 ≡ false
     known-not-zero = ap (λ k. eqb k 0) (eqb-true (r .known) 1 known)
-
-    by : (b : Bool) → cond b (ltb (a .link .0) (r .metric .0)) (eqb (r .known) 0 || leb (a .link .0) (r .metric .0)) ≡ true → a .link .0 ≤ r .metric .0
-    by true e = omega (arith, ltb-true (a .link .0) (r .metric .0) e)
-    by false e = leb-true (a .link .0) (r .metric .0) (rw known-not-zero at e)

@@ -1,0 +1,39 @@
+-- The theorems about the rules of document 01: the statements are in `specs/Statements.antt`. Assumes nothing.
+use Rattle.table.proofs.WellFormed.{legal-is}
+use Rattle.element.specs.Octets.{writeElement}
+use Rattle.element.proofs.ReadBack.{Fits, read-back, passes-6, passes-7, passes-8}
+use Rattle.rules.specs.Outcome.{Frame}
+use Rattle.rules.proofs.Alls.{all-implies}
+use Rattle.rules.proofs.CallsKeep.{Kept, call-kept}
+use Rattle.rules.proofs.StaysTable.{fresh-stays, forget-stays}
+use Rattle.edges.proofs.AllEdges.{all-edges}
+use Rattle.loops.specs.Statements.{EdgesHold, StaysTable, FreshIsTable, ForgetStaysTable, ReadsAs, ReadsBack, LoopFree}
+use Rattle.loops.proofs.LoopFree
+
+pub p1-to-p8 : EdgesHold
+p1-to-p8 = all-edges
+
+pub stays-a-table : StaysTable
+stays-a-table t octets room call fit e is =
+    let k : Kept t e = call-kept t octets room call fit e is in
+    (k .leaves .whole .octets, legal-is (e .table) (k .leaves .whole .legal), k .leaves .length)
+
+pub fresh-is-a-table : FreshIsTable
+fresh-is-a-table = fresh-stays
+
+pub forget-stays-a-table : ForgetStaysTable
+forget-stays-a-table = forget-stays
+
+pub reads-back : ReadsBack
+reads-back t octets room call fit e is =
+    all-implies (λ (f : Frame). Fits (f .element)) (λ (f : Frame). ReadsAs (writeElement (f .element)) (f .element))
+    (λ f fits. record {
+      passes-6 = passes-6 (f .element);
+      passes-7 = passes-7 (f .element);
+      passes-8 = passes-8 (f .element) (fits .count);
+      fields = read-back (f .element) fits;
+    })
+    (e .frames) (call-kept t octets room call fit e is .frames)
+
+pub loop-free : LoopFree
+loop-free points _ _ events fit d base small within a hops = LoopFree.loop-free d base small points events fit within hops a
