@@ -5,9 +5,10 @@ use Rattle.element.proofs.ReadBack.{Fits, read-back, passes-6, passes-7, passes
 use Rattle.rules.specs.Outcome.{Frame}
 use Rattle.rules.proofs.Alls.{all-implies}
 use Rattle.rules.proofs.CallsKeep.{Kept, call-kept}
+use Rattle.rules.proofs.Room.{call-room}
 use Rattle.rules.proofs.StaysTable.{fresh-stays, forget-stays}
 use Rattle.edges.proofs.AllEdges.{all-edges}
-use Rattle.loops.specs.Statements.{EdgesHold, StaysTable, FreshIsTable, ForgetStaysTable, ReadsAs, ReadsBack, LoopFree}
+use Rattle.loops.specs.Statements.{EdgesHold, StaysTable, FreshIsTable, ForgetStaysTable, HasRoom, ReadsAs, ReadsBack, LoopFree}
 use Rattle.loops.proofs.LoopFree
 
 pub p1-to-p8 : EdgesHold
@@ -23,6 +24,9 @@ fresh-is-a-table = fresh-stays
 
 pub forget-stays-a-table : ForgetStaysTable
 forget-stays-a-table = forget-stays
+
+pub has-room : HasRoom
+has-room = call-room
 
 pub reads-back : ReadsBack
 reads-back t octets room call fit e is =

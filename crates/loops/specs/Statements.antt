@@ -16,7 +16,7 @@ use Rattle.element.specs.Octets.{wrongLength, otherId, misfit, readElement, wri
 use Rattle.element.specs.Lists.{twice}
 use Rattle.rules.specs.Decision.{accepted}
 use Rattle.rules.specs.Lists.{all}
-use Rattle.rules.specs.Outcome.{Frame, Effect}
+use Rattle.rules.specs.Outcome.{Frame, Effect, frameOctets}
 use Rattle.rules.specs.Fresh.{makeFresh}
 use Rattle.rules.specs.Forget.{forget}
 use Rattle.rules.specs.Calls.{Call, outcome, OperandsFit}
@@ -44,6 +44,14 @@ FreshIsTable =
 
 abbrev pub ForgetStaysTable : Type 0
 ForgetStaysTable = (t u : List ℕ) (d : Address) → forget t d ≡ accepted u → isTable u ≡ true
+
+-- ---- has room (`has-room`)
+
+-- The frames of an accepted call take at most 1,560 octets, so that an output that passes refusal 2 has room for them.
+abbrev pub HasRoom : Type 0
+HasRoom =
+    (t : List ℕ) → Octets t → (room : ℕ) (call : Call) → OperandsFit call → (e : Effect) → outcome t room call ≡ accepted e
+    → length (frameOctets (e .frames)) ≤ 1560
 
 -- ---- reads back (`reads-back`)
 

@@ -24,6 +24,11 @@ module _ {A : Type 0} (P : A → Type 0) where
   all-append [] l′ h h′ = h′
   all-append (x ∷ l) l′ h h′ = (h .0, all-append l l′ (h .1) h′)
 
+  pub all-after : (l l′ : List A) → All P (l ++ l′) → All P l′
+  unfolding All
+  all-after [] l′ h = h
+  all-after (x ∷ l) l′ h = all-after l l′ (h .1)
+
   pub all-between : (f : ℕ → A) (i n : ℕ) → ((k : ℕ) → i ≤ k → k < i + n → P (f k)) → All P (each f i n)
   unfolding All each
   all-between f i zero h = tt

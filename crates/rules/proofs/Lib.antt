@@ -9,4 +9,5 @@ pub mod Falling
 pub mod Sending
 pub mod Accepted
 pub mod CallsKeep
+pub mod Room
 pub mod StaysTable
