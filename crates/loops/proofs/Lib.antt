@@ -6,4 +6,5 @@ pub mod Moves
 pub mod Frames
 pub mod Calls
 pub mod LoopFree
+pub mod Computed
 pub mod Theorems

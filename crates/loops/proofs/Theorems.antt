@@ -1,5 +1,11 @@
 -- The theorems about the rules of document 01: the statements are in `specs/Statements.antt`. Assumes nothing.
-use Rattle.table.proofs.WellFormed.{legal-is}
+use Prim.Native.Nat.{_^_, _<_}
+use mathlib.Core.List.{_∷_}
+use native.Mathlib.Omega.{arith}
+use Rattle.octets.specs.LittleEndian.{numberOctets, Octets}
+use Rattle.octets.proofs.OctetLists.{octets-cons, octets-of-number}
+use Rattle.table.proofs.WellFormed.{true-not-false, false-of, legal-is}
+use Rattle.element.specs.Entries.{All}
 use Rattle.element.specs.Octets.{writeElement}
 use Rattle.element.proofs.ReadBack.{Fits, read-back, passes-6, passes-7, passes-8}
 use Rattle.rules.specs.Outcome.{Frame}
@@ -8,7 +14,10 @@ use Rattle.rules.proofs.CallsKeep.{Kept, call-kept}
 use Rattle.rules.proofs.Room.{call-room}
 use Rattle.rules.proofs.StaysTable.{fresh-stays, forget-stays}
 use Rattle.edges.proofs.AllEdges.{all-edges}
-use Rattle.loops.specs.Statements.{EdgesHold, StaysTable, FreshIsTable, ForgetStaysTable, HasRoom, ReadsAs, ReadsBack, LoopFree}
+use Rattle.loops.specs.Statements.{EdgesHold, StaysTable, FreshIsTable, ForgetStaysTable, HasRoom, ReadsAs, ReadsBack, ActionFits, LoopFree, NotVacuous, Sharp, NeedsPremise}
+use Rattle.loops.specs.Mesh.{Event}
+use Rattle.loops.specs.Runs.{D, endOf, way, outside, outsideLoops}
+use Rattle.loops.proofs.Computed.{runs-as-worked, wrong-rules-loop, outside-loops}
 use Rattle.loops.proofs.LoopFree
 
 pub p1-to-p8 : EdgesHold
@@ -41,3 +50,27 @@ reads-back t octets room call fit e is =
 
 pub loop-free : LoopFree
 loop-free points _ _ events fit d base small within a hops = LoopFree.loop-free d base small points events fit within hops a
+
+pub not-vacuous : NotVacuous
+not-vacuous = runs-as-worked
+
+pub sharp : Sharp
+sharp = wrong-rules-loop
+
+outside-fits : All (λ (e : Event). ActionFits (e .action)) (outside .events)
+unfolding All
+outside-fits =
+    (lifetime, (tt, (tt, ((lifetime, items), (tt, (tt, (lifetime, (lifetime, (tt, (tt, tt))))))))))
+  where
+    lifetime : 1000 < 256 ^ 4
+    lifetime = omega arith
+
+    items : Octets (1 ∷ numberOctets 6 (D .0))
+    items = octets-cons 1 (numberOctets 6 (D .0)) (omega arith) (octets-of-number 6 (D .0))
+
+pub needs-its-premise : NeedsPremise
+unfolding outsideLoops way endOf
+needs-its-premise = (
+  outside-loops,
+  λ base small. false-of _ (λ within. true-not-false outside-loops (LoopFree.loop-free (outside .destination) base small (outside .points) (outside .events) outside-fits within _ _)),
+)

@@ -1,3 +1,5 @@
 pub mod Mesh
 pub mod Premise
+pub mod WrongRules
+pub mod Runs
 pub mod Statements

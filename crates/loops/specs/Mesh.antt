@@ -91,13 +91,16 @@ unfoldable pub leaves : Mesh → Address → Decision Effect → Mesh
 leaves m a (refused n) = m
 leaves m a (accepted e) = record { tables = withTable a (e .table) (m .tables); log = m .log ++ sentBy a (e .frames) }
 
--- Points that act by any rules: `outcome t room call` says what a call makes of a table. (The theorem is about those of
--- document 01; the counterexamples are about others.)
-module _ (outcome : List ℕ → ℕ → Call → Decision Effect) where
+-- Rules by which points act: what a call comes to, of a table and an output of so many octets. The theorem is about those of
+-- document 01, `outcome` of crate `rules`; the counterexamples are about others.
+abbrev pub Rules : Type 0
+Rules = List ℕ → ℕ → Call → Decision Effect
+
+module _ (rules : Rules) where
   abbrev pub calls : Mesh → Event → Option (List ℕ) → Option Call → Mesh
   calls m e none call = m
   calls m e (some t) none = m
-  calls m e (some t) (some call) = leaves m (e .point) (outcome t (e .room) call)
+  calls m e (some t) (some call) = leaves m (e .point) (rules t (e .room) call)
 
   -- one event: the point, if there is one of that address, makes the call
   unfoldable pub happen : Mesh → Event → Mesh

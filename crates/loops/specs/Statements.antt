@@ -3,7 +3,7 @@
 use Prim.Native.Nat.{ℕ, _^_, _<_, _≤_}
 use mathlib.Core.Path.{_≡_}
 use mathlib.Core.Bool.{true, false}
-use mathlib.Core.List.{List, map}
+use mathlib.Core.List.{List, _++_, map}
 use lib.ListN.{length}
 use Rattle.octets.specs.LittleEndian.{Octets}
 use Rattle.counters.specs.declared.SequenceNumber.{SequenceNumber}
@@ -23,6 +23,7 @@ use Rattle.rules.specs.Calls.{Call, outcome, OperandsFit}
 use Rattle.edges.specs.Edges.{edges}
 use Rattle.loops.specs.Mesh.{Point, start, Action, delivers, asks, announces, requestsAsRoot, breaks, readsOnly, Event, run, throughout, met}
 use Rattle.loops.specs.Premise.{allWithin}
+use Rattle.loops.specs.Runs.{worked, wentRound, loops, counterexamples, outside, outsideLoops}
 
 -- ---- P1 to P8 (`p1-to-p8`): every test in the list passes
 
@@ -100,3 +101,28 @@ LoopFree =
     → (d : Address) (base : ℕ) → base < 2 ^ 32
     → throughout outcome (allWithin d base) (start points) events ≡ true
     → (a : Address) (hops : ℕ) → twice (met (run outcome (start points) events) d hops a) ≡ false
+
+-- ---- not vacuous (`not-vacuous`)
+
+-- The worked case of document 01, run on the rules, meets the premise, answers as the bench prints, and ends with the routes
+-- that its walk finds; and so does a run in which numbers pass from 4,294,967,295 to 0.
+abbrev pub NotVacuous : Type 0
+NotVacuous = all (λ b. b) (worked outcome ++ wentRound outcome) ≡ true
+
+-- ---- sharp (`sharp`, `needs-its-premise`)
+
+-- Five errors of trainees, each a rule of `WrongRules.antt` with a list of calls that meets the premise and ends with a walk that
+-- meets a point twice: numbers compared as plain numbers, the reply of 11-06-1778 that takes an equal number with a worse metric,
+-- an equal number into an inactive row at a worse metric, a broken row dropped, a break that does not step the number.
+--
+-- (Other errors cannot loop, since no row gets worse by them: an error matched by destination only, a break that leaves the
+-- metric or hits expired rows too. Demand 3 does not exclude these; P6 does the second, and the equations of demand 2 all.)
+abbrev pub Sharp : Type 0
+Sharp = all loops counterexamples ≡ true
+
+-- One list of calls loops under the rules themselves; so no base has all its numbers in its window.
+abbrev pub NeedsPremise : Type 0
+NeedsPremise =
+    (outsideLoops ≡ true)
+    × ((base : ℕ) → base < 2 ^ 32
+    → throughout outcome (allWithin (outside .destination) base) (start (outside .points)) (outside .events) ≡ false)

@@ -166,7 +166,7 @@ pub octets-drop : (n : ℕ) (s : List ℕ) → Octets s → Octets (drop n s)
 unfolding Octets
 octets-drop n s o k = rw (getD-drop n s k 0) (o (n + k))
 
-octets-of-number : (n x : ℕ) → Octets (numberOctets n x)
+pub octets-of-number : (n x : ℕ) → Octets (numberOctets n x)
 unfolding numberOctets
 octets-of-number zero x = octets-nil
 octets-of-number (suc n) x = octets-cons (x % 256) (numberOctets n (x / 256)) (omega arith) (octets-of-number n (x / 256))

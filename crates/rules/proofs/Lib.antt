@@ -11,3 +11,4 @@ pub mod Accepted
 pub mod CallsKeep
 pub mod Room
 pub mod StaysTable
+pub mod Computing

@@ -1,0 +1,48 @@
+-- What unfolds for a call on given octets to compute: to unfold `computing` is to unfold all that its line names. With it a
+-- statement about a worked example is `refl`. Assumes nothing.
+use mathlib.Core.List.{flatMap}
+use Rattle.octets.specs.LittleEndian.{numberOctets, numberAt, over, withNumber, fieldsAt, withFields, fieldOctets}
+use Rattle.counters.specs.Numbers.{stepped, wrapped, newer, older}
+use Rattle.table.specs.Address.{individual}
+use Rattle.table.specs.Layout.{sized, headAt, putHead, allZero, rowAt, putRow}
+use Rattle.table.specs.Row.{headOk, isFree, isUnnumbered, isOther, statusOk, boundsOk, isHeld, rowOk, active, renewed, numbered, invalidated, raised}
+use Rattle.table.specs.Places.{first, count, every}
+use Rattle.table.specs.Table.{vacant, holds, findRow, rowFor, freeRows, firstFree, alone, isTable, fresh, placeFor, store, freed, changeBelow, eachHeld}
+use Rattle.element.specs.Layout.{known, kindWith, fits}
+use Rattle.element.specs.Entries.{each, numberedAt, numberedOctets, targetAt, targetOctets}
+use Rattle.element.specs.Octets.{wrongLength, otherId, misfit, readAs, readElement, fixedOctets, writeElement, writeFrame}
+use Rattle.element.specs.Lists.{allowed, anyForbidden, among, twice, onesBesideOthers}
+use Rattle.rules.specs.Lists.{any, all, those}
+use Rattle.rules.specs.Flags.{bit, withDO}
+use Rattle.rules.specs.Outcome.{frameOctets, headWith, atExit}
+use Rattle.rules.specs.Fresh.{makeFresh}
+use Rattle.rules.specs.Forget.{forget}
+use Rattle.rules.specs.NextHop.{alongRow, nextHop}
+use Rattle.rules.specs.Learn.{expiryOf, subjectRow, transmitterRow, takesLink, subjectLearnt, transmitterLearnt, learnt}
+use Rattle.rules.specs.Destinations.{reply, answeredNumber, answersFor, forOneself, forAll, forAnother, answered, allAnswered}
+use Rattle.rules.specs.Onward.{onward, towards, rannOnward, rreqOnward, rrepOnward}
+use Rattle.rules.specs.Errors.{isThrough, isLostBy, matches, numberBeside, erred, afterError, broken, afterBreak, brokenEntry, brokenEntries, errorAt, errorsFor}
+use Rattle.rules.specs.Receive.{hasBadAddress, severalOrAll, hasBadList, isSpentReply, isStaleFor, isStale, matchesNothing, rowsNeeded, rannReceived, rrepReceived, rreqReceived, rerrReceived, received, receive}
+use Rattle.rules.specs.Originate.{ownPath, announced, requested, itemAt, itemsFit, knownNumber, askedFor, ask, announce, rootRequest}
+use Rattle.rules.specs.Break.{brokenOff, breakNeighbour}
+use Rattle.rules.specs.Calls.{outcome}
+use Rattle.rules.specs.Walk.{tableAt, sideBySide, rowOfPoint, follow, walk}
+
+unfoldable pub computing : Unit {0}
+unfolding flatMap numberOctets numberAt over withNumber fieldsAt withFields fieldOctets
+    stepped wrapped newer older
+    individual sized headAt putHead allZero rowAt putRow headOk isFree isUnnumbered isOther statusOk boundsOk isHeld rowOk
+    active renewed numbered invalidated raised first count every vacant holds findRow rowFor freeRows firstFree alone
+    isTable fresh placeFor store freed changeBelow eachHeld
+    known kindWith fits each numberedAt numberedOctets targetAt targetOctets wrongLength otherId misfit readAs readElement
+    fixedOctets writeElement writeFrame allowed anyForbidden among twice onesBesideOthers
+    any all those bit withDO frameOctets headWith atExit makeFresh forget alongRow nextHop
+    expiryOf subjectRow transmitterRow takesLink subjectLearnt transmitterLearnt learnt
+    reply answeredNumber answersFor forOneself forAll forAnother answered allAnswered
+    onward towards rannOnward rreqOnward rrepOnward
+    isThrough isLostBy matches numberBeside erred afterError broken afterBreak brokenEntry brokenEntries errorAt errorsFor
+    hasBadAddress severalOrAll hasBadList isSpentReply isStaleFor isStale matchesNothing rowsNeeded
+    rannReceived rrepReceived rreqReceived rerrReceived received receive
+    ownPath announced requested itemAt itemsFit knownNumber askedFor ask announce rootRequest
+    brokenOff breakNeighbour outcome tableAt sideBySide rowOfPoint follow walk
+computing = tt
