@@ -1,4 +1,5 @@
--- The edges P1 to P8 of document 01 as one list of tests of the definitions; tables and elements are octets. Assumes nothing.
+-- The edges P1 to P8 of document 01 as one list of tests of the definitions, and the trainees' errors that it names as another;
+-- tables and elements are octets. Assumes nothing.
 use Prim.Native.Nat.{ℕ, _+_, _*_}
 use mathlib.Core.Bool.{Bool, false, _&&_, _||_, not}
 use mathlib.Core.List.{List, [], _∷_, _++_}
@@ -109,9 +110,12 @@ error d n = writeElement (rerr 0 (record { address = d; number = record { 0 = n 
 
 -- ---- a call
 
--- receive the element s at clock 0 over a link of this metric
+-- receive the element s over a link of this metric, at clock c, and at clock 0
+abbrev heardAt : ℕ → List ℕ → ℕ → List ℕ → Decision Effect
+heardAt c t link s = receive t 1560 (record { clock = c; transmitter = transmitter; link = record { 0 = link } }) s
+
 abbrev heard : List ℕ → ℕ → List ℕ → Decision Effect
-heard t link s = receive t 1560 (record { clock = 0; transmitter = transmitter; link = record { 0 = link } }) s
+heard t link s = heardAt 0 t link s
 
 -- ---- tests
 
@@ -187,4 +191,33 @@ edges =
     -- P8: R = 4, rows 0 and 2 held, two needed: 1 and 3 taken; rows 0, 1, 2 held: 27
     ∷ acceptedWith (takesRows 1 3) (heard (tableOf 0 (held 0 ∷ freeRow ∷ held 1 ∷ freeRow ∷ [])) 10 (announcement 9 25))
     ∷ refusedWith 27 (heard (tableOf 0 (held 0 ∷ held 1 ∷ held 2 ∷ freeRow ∷ [])) 10 (announcement 9 25))
+    ∷ []
+
+-- ---- trainees' errors to shut out
+
+-- the row for another point, by way of another next hop than the transmitter
+abbrev elsewhere : ℕ → Row
+elsewhere i =
+    record {
+      status = 1;
+      known = 1;
+      hops = record { 0 = 2 };
+      zero = 0;
+      destination = other i;
+      next = other (i + 1);
+      number = record { 0 = 1 };
+      metric = record { 0 = 10 };
+      expiry = 1000;
+    }
+
+abbrev pub shutOut : List Bool
+shutOut =
+    -- comparing numbers unsigned: 4,294,967,295 is older than 0, and 0 is taken after it
+    refusedWith 25 (heard (tableOf 0 (row 1 originator 0 40 ∷ freeRow ∷ [])) 1 (announcement 4294967295 5))
+    ∷ acceptedWith (leavesRow 1 0 6) (heard (tableOf 0 (row 1 originator 4294967295 40 ∷ freeRow ∷ [])) 1 (announcement 0 5))
+    -- an equal number into an inactive row at a worse metric: refused, whether the row is invalidated or expired
+    ∷ refusedWith 25 (heard (tableOf 0 (row 2 originator 9 40 ∷ freeRow ∷ [])) 36 (announcement 9 5))
+    ∷ refusedWith 25 (heardAt 1000 (tableOf 0 (row 1 originator 9 40 ∷ freeRow ∷ [])) 36 (announcement 9 5))
+    -- matching an error by destination only: a row by way of another next hop is no match
+    ∷ refusedWith 26 (heard (tableOf 0 (elsewhere 0 ∷ [])) 10 (error (other 0) 9))
     ∷ []

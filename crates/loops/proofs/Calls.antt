@@ -85,8 +85,8 @@ module _ (d : Address) (base : ℕ) (small : base < 2 ^ 32) (log : List Sent) (t
         backed = backed;
       }
 
-  break-sound : (c : ℕ) (neighbour : Address) → Near base (rowFor (brokenOff (afterBreak c neighbour) t c neighbour .table) d)
-      → Sound d base log t (brokenOff (afterBreak c neighbour) t c neighbour)
+  break-sound : (c : ℕ) (neighbour : Address) → Near base (rowFor (brokenOff t c neighbour .table) d)
+      → Sound d base log t (brokenOff t c neighbour)
   unfolding brokenOff
   break-sound c neighbour =
       fallen-sound (afterBreak c neighbour) (break-keeps-row c neighbour) (break-falls base small c neighbour) _ _
@@ -123,8 +123,8 @@ module _ (d : Address) (base : ℕ) (small : base < 2 ^ 32) (log : List Sent) (t
         → Sound d base log t (rannReceived t a p)
     unfolding rannReceived u
     rann-sound p has heard =
-        heard-sound p has heard _ (rannOnward (learnt a p t) a p)
-        (rann-backed d base (own (learnt a p t)) (rowFor (learnt a p t) d) (learnt a p t) a p (onward-backed p has heard))
+        heard-sound p has heard _ (rannOnward a p)
+        (rann-backed d base (own (learnt a p t)) (rowFor (learnt a p t) d) a p (onward-backed p has heard))
 
     rrep-sound : (f : RrepFields) (dependents : List NumberedAddress) → pathIn (s .octets) ≡ some (f .path) → Heard t a (f .path)
         → Near base (rowFor (rrepReceived t a f dependents .table) d) → Sound d base log t (rrepReceived t a f dependents)

@@ -30,8 +30,8 @@ use Rattle.element.proofs.ReadBack.{all-each}
 use Rattle.rules.specs.Flags.{unicast, replyWanted, hasDO}
 use Rattle.rules.specs.Outcome.{Frame}
 use Rattle.rules.specs.Learn.{Arrival}
-use Rattle.rules.specs.Destinations.{Answered, reply, answeredNumber, answersFor, forOneself, forAll, forAnother, answered, allAnswered}
-use Rattle.rules.specs.Onward.{onward, toAll, towards, whileAlive, rannOnward, rreqOnward, rrepOnward}
+use Rattle.rules.specs.Destinations.{Answered, reply, answeredNumber, answersFor, forOneself, forAllOnes, forAnother, answered, allAnswered}
+use Rattle.rules.specs.Onward.{onward, toAll, towards, ifTtlLeft, rannOnward, rreqOnward, rrepOnward}
 use Rattle.rules.specs.Errors.{errorAt, errorsFor}
 use Rattle.rules.specs.Receive.{pathOf}
 use Rattle.rules.proofs.Branches.{cond-cases}
@@ -56,8 +56,8 @@ module _ (d : Address) (base : ℕ) (self : Address) (o : Option Row) where
   towards-backed c e h none = tt
   towards-backed c e h (some r) = cond-cases AllBacked (active c r) (λ _. (h, tt)) (λ _. tt)
 
-  while-alive-backed : (p : PathInfo) (frames : List Frame) → AllBacked frames → AllBacked (whileAlive p frames)
-  while-alive-backed p frames h = cond-cases AllBacked (ltb (p .ttl) 2) (λ _. none-backed) (λ _. h)
+  if-ttl-left-backed : (p : PathInfo) (frames : List Frame) → AllBacked frames → AllBacked (ifTtlLeft p frames)
+  if-ttl-left-backed p frames h = cond-cases AllBacked (ltb (p .ttl) 2) (λ _. none-backed) (λ _. h)
 
   -- errors bring no path
   pub errors-backed : (entries : List NumberedAddress) → AllBacked (errorsFor entries)
@@ -66,16 +66,16 @@ module _ (d : Address) (base : ℕ) (self : Address) (o : Option Row) where
 
   -- ---- what goes on
 
-  module _ (u : List ℕ) (a : Arrival) where
-    pub rann-backed : (p : PathInfo) → Backed d base self o (some (onward a p)) → AllBacked (rannOnward u a p)
-    unfolding rannOnward
-    rann-backed p h = while-alive-backed p (toAll (rann (onward a p))) (to-all-backed (rann (onward a p)) h)
+  pub rann-backed : (a : Arrival) (p : PathInfo) → Backed d base self o (some (onward a p)) → AllBacked (rannOnward a p)
+  unfolding rannOnward
+  rann-backed a p h = if-ttl-left-backed p (toAll (rann (onward a p))) (to-all-backed (rann (onward a p)) h)
 
+  module _ (u : List ℕ) (a : Arrival) where
     pub rreq-backed : (f : RreqFields) → Backed d base self o (some (onward a (f .path))) → (kept : List Target) → AllBacked (rreqOnward u a f kept)
     unfolding rreqOnward
     rreq-backed f h [] = none-backed
     rreq-backed f h (q ∷ qs) =
-        while-alive-backed (f .path) _
+        if-ttl-left-backed (f .path) _
         (cond-cases AllBacked (unicast (f .path)) (λ _. towards-backed (a .clock) _ h (rowFor u (q .address))) (λ _. to-all-backed _ h))
 
     pub rrep-backed : (f : RrepFields) (dependents : List NumberedAddress) → Backed d base self o (some (onward a (f .path)))
@@ -121,8 +121,8 @@ module _ (d : Address) (base : ℕ) (u : List ℕ) (a : Arrival) (p : PathInfo) 
   unfolding forOneself
   oneself-backed n q = own-reply-backed (answeredNumber n (q .number))
 
-  for-all-backed : (n : SequenceNumber) (q : Target) → Replies (forAll u a p n q .replies)
-  unfolding forAll
+  for-all-backed : (n : SequenceNumber) (q : Target) → Replies (forAllOnes u a p n q .replies)
+  unfolding forAllOnes
   for-all-backed n q =
       cond-cases (λ (x : Answered). Replies (x .replies)) (replyWanted p) (λ _. own-reply-backed (nextNumber n))
       (λ _. none-backed d base (own u) (rowFor u d))

@@ -13,8 +13,8 @@ use Rattle.rules.proofs.Alls.{all-implies}
 use Rattle.rules.proofs.CallsKeep.{Kept, call-kept}
 use Rattle.rules.proofs.Room.{call-room}
 use Rattle.rules.proofs.StaysTable.{fresh-stays, forget-stays}
-use Rattle.edges.proofs.AllEdges.{all-edges}
-use Rattle.loops.specs.Statements.{EdgesHold, StaysTable, FreshIsTable, ForgetStaysTable, HasRoom, ReadsAs, ReadsBack, ActionFits, LoopFree, NotVacuous, Sharp, NeedsPremise}
+use Rattle.edges.proofs.AllEdges.{all-edges, all-shut-out}
+use Rattle.loops.specs.Statements.{EdgesHold, ErrorsShutOut, StaysTable, FreshIsTable, ForgetStaysTable, HasRoom, ReadsAs, ReadsBack, ActionFits, LoopFree, NotVacuous, Sharp, NeedsPremise}
 use Rattle.loops.specs.Mesh.{Event}
 use Rattle.loops.specs.Runs.{D, endOf, way, outside, outsideLoops}
 use Rattle.loops.proofs.Computed.{runs-as-worked, wrong-rules-loop, outside-loops}
@@ -22,6 +22,9 @@ use Rattle.loops.proofs.LoopFree
 
 pub p1-to-p8 : EdgesHold
 p1-to-p8 = all-edges
+
+pub errors-shut-out : ErrorsShutOut
+errors-shut-out = all-shut-out
 
 pub stays-a-table : StaysTable
 stays-a-table t octets room call fit e is =

@@ -34,26 +34,29 @@ pub record Mesh : Type 0 where
   pub tables : List (List ℕ)
   pub log : List Sent
 
--- at first every table is fresh, and nothing has been sent
+-- the table that a point starts with: fresh, with its address and number
 abbrev pub freshTable : Point → List ℕ
 freshTable p = fresh (32 + 32 * p .rows) (p .address) (p .number)
 
+-- the mesh at first: every table is fresh, and nothing has been sent
 unfoldable pub start : List Point → Mesh
 start points = record { tables = map freshTable points; log = [] }
 
--- the table of the point with address a, and all tables with that one replaced by u
+-- the table of the point with own address a, if there is one
 unfoldable pub tableOf : Address → List (List ℕ) → Option (List ℕ)
 tableOf a [] = none
 tableOf a (t ∷ tables) = cond (same (own t) a) (some t) (tableOf a tables)
 
+-- all tables, with that of the point a replaced by u
 unfoldable pub withTable : Address → List ℕ → List (List ℕ) → List (List ℕ)
 withTable a u [] = []
 withTable a u (t ∷ tables) = cond (same (own t) a) (u ∷ tables) (t ∷ withTable a u tables)
 
 -- ---- calls
 
--- What a point does. `delivers` hands it the element at a place of the log, with the address of the point that sent it as
--- transmitter: late, repeated, reordered, or never. `readsOnly` is a call that writes no table: a next hop, a walk.
+-- What a point does. `delivers`: it receives the element at a place of the log, counted from 0, with the point that sent it as
+-- transmitter; places come in any order, some often, some never. `readsOnly` is any call that writes no table: a next hop or a
+-- walk, whose outcomes have none.
 pub data Action : Type 0 where
   delivers : (place clock : ℕ) → (link : Metric) → Action
   asks : (lifetime : ℕ) → (items : List ℕ) → Action
@@ -62,7 +65,7 @@ pub data Action : Type 0 where
   breaks : (clock : ℕ) → (neighbour : Address) → Action
   readsOnly : Action
 
--- which point does it, with an output of how many octets
+-- one call of the list: the address of the point that makes it, the length of its output, and what it does
 pub record Event : Type 0 where
   pub point : Address
   pub room : ℕ
@@ -73,7 +76,7 @@ abbrev pub deliveryOf : ℕ → Metric → Option Sent → Option Call
 deliveryOf c link none = none
 deliveryOf c link (some s) = some (Call.receives (record { clock = c; transmitter = s .sender; link = link }) (s .octets))
 
--- the call that an action is
+-- the call that an action is; none for `readsOnly`, and for a place of the log where nothing stands
 unfoldable pub callOf : List Sent → Action → Option Call
 callOf log (delivers place c link) = deliveryOf c link (getElem? log place)
 callOf log (asks lifetime items) = some (Call.asks lifetime items)
@@ -97,6 +100,7 @@ abbrev pub Rules : Type 0
 Rules = List ℕ → ℕ → Call → Decision Effect
 
 module _ (rules : Rules) where
+  -- the mesh after a call; as it was where there is no such point or no call
   abbrev pub calls : Mesh → Event → Option (List ℕ) → Option Call → Mesh
   calls m e none call = m
   calls m e (some t) none = m
@@ -116,8 +120,10 @@ module _ (rules : Rules) where
   throughout test m [] = test m
   throughout test m (e ∷ events) = test m && throughout test (happen m e) events
 
--- ---- the walk of demand 3, along valid rows, expired or not
+-- ---- the walk of demand 3, along valid rows, expired or not (that of document 01, `walk` in crate `rules`, goes along rows that are
+-- active at a clock, and counts hops)
 
+-- there is one
 abbrev pub isThere : {A : Type 0} → Option A → Bool
 isThere none = false
 isThere (some x) = true
@@ -128,20 +134,22 @@ validNext none = none
 validNext (some r) = cond (eqb (r .status) 1) (some (r .next)) none
 
 module _ (m : Mesh) (d : Address) where
-  -- the next hop of the valid row for d at the point a
+  -- the next hop of the valid row for d in this table
   abbrev pub nextIn : Option (List ℕ) → Option Address
   nextIn none = none
   nextIn (some t) = validNext (rowFor t d)
 
+  -- and in the table of the point a
   unfoldable pub nextAt : Address → Option Address
   nextAt a = nextIn (tableOf a (m .tables))
 
-  -- the points that a walk from a towards d meets in at most so many hops, a included; it ends where there is no valid row for d
-  -- or where the next hop is no point
+  -- what is met along this next hop; nothing if there is none
   abbrev pub metBy : Option Address → (Address → List Address) → List Address
   metBy none further = []
   metBy (some b) further = further b
 
+  -- the points that a walk from a towards d meets in at most so many hops, a included; it ends where there is no valid row for d
+  -- (so also at d, which has no row for itself) or where the next hop is no point
   unfoldable pub met : (hops : ℕ) → Address → List Address
   met zero a = cond (isThere (tableOf a (m .tables))) (a ∷ []) []
   met (suc hops) a = cond (isThere (tableOf a (m .tables))) (a ∷ metBy (nextAt a) (met hops)) []

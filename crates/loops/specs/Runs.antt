@@ -1,5 +1,6 @@
 -- Runs as data, and what is shown of them by computation: two within the premise of demand 3 that find their ways, five under
--- wrong rules that loop, and one outside the premise that loops under the rules. Assumes nothing.
+-- wrong rules that loop, and one outside the premise that loops under the rules. In comments a row for D is written
+-- number/metric via next hop, 'largest' is 4,294,967,295, and elements are named by their place in the log. Assumes nothing.
 use Prim.Native.Nat.{ℕ, _+_, _-_, _*_, _^_}
 use mathlib.Core.Bool.{Bool, true, false, _&&_}
 use mathlib.Core.List.{List, [], _∷_, map, flatMap}
@@ -11,10 +12,10 @@ use Rattle.counters.specs.declared.SequenceNumber.{SequenceNumber}
 use Rattle.table.specs.declared.address.Address.{Address}
 use Rattle.table.specs.Address.{same}
 use Rattle.element.specs.Lists.{twice}
-use Rattle.rules.specs.Decision.{Decision, refused, accepted}
+use Rattle.rules.specs.Decision.{Decision, refused}
 use Rattle.rules.specs.Outcome.{Effect, Exit, atExit}
 use Rattle.rules.specs.Calls.{Call, outcome}
-use Rattle.rules.specs.Walk.{Walked, walk}
+use Rattle.rules.specs.Walk.{Walked, walkedAtExit, walk}
 use Rattle.loops.specs.Mesh.{Rules, Point, Mesh, start, tableOf, Action, delivers, asks, announces, requestsAsRoot, breaks, Event, callOf, happen, run, throughout, met}
 use Rattle.loops.specs.Premise.{held, allWithin}
 use Rattle.loops.specs.WrongRules.{comparesPlainly, takesEqualReplies, takesEqualIfInactive, dropsBroken, keepsNumber}
@@ -83,7 +84,7 @@ pub record Run : Type 0 where
   pub base : ℕ
   pub from : Address
 
--- A, B, C, D and E, of which D starts with the number n and the others with 0, and a walk from A to D
+-- A, B, C, D and E, each with 3 rows, of which D starts with the number n and the others with 0, and a walk from A to D
 abbrev pub towardsD : (n base : ℕ) → List Event → Run
 towardsD n base events =
     record {
@@ -110,12 +111,11 @@ unfoldable pub way : Run → Mesh → List Address
 way r m = met m (r .destination) (length (r .points)) (r .from)
 
 -- the walk of document 01 in a mesh, at clock 0: its answer and hops
-abbrev pub walkLine : Decision Walked → List ℕ
-walkLine (refused n) = n ∷ 0 ∷ []
-walkLine (accepted w) = w .answer ∷ w .hops ∷ []
+abbrev pub walkLine : Walked → List ℕ
+walkLine w = w .answer ∷ w .hops ∷ []
 
 unfoldable pub walked : Run → Mesh → List ℕ
-walked r m = walkLine (walk (flatMap (λ t. t) (m .tables)) (length (r .points)) 0 (r .from) (r .destination))
+walked r m = walkLine (walkedAtExit (walk (flatMap (λ t. t) (m .tables)) (length (r .points)) 0 (r .from) (r .destination)))
 
 -- the numbers for the destination that the tables of a mesh hold
 unfoldable pub heldIn : Run → Mesh → List ℕ
@@ -139,7 +139,7 @@ linesFrom rules m (e ∷ events) =
 unfoldable pub lines : Rules → Run → List ℕ
 lines rules r = linesFrom rules (start (r .points)) (r .events)
 
--- two lists have the same entries
+-- two lists have the same entries in the same order
 unfoldable pub agree : {A : Type 0} → (A → A → Bool) → List A → List A → Bool
 agree eq [] [] = true
 agree eq [] (y ∷ ys) = false
@@ -180,7 +180,7 @@ worked rules =
     ∷ isWithinWindow rules back
     -- the lines of the bench for the calls: `4 0 1`, three times `6 0 1`, `6 0 0` and `6 25 0`
     ∷ agree eqb (lines rules there) (0 ∷ 1 ∷ 0 ∷ 1 ∷ 0 ∷ 1 ∷ 0 ∷ 1 ∷ 0 ∷ 0 ∷ 25 ∷ 0 ∷ [])
-    -- for the walk: `8 0 2`
+    -- for the walk, `8 0 2` (the last delivery, after it in document 01, is refused and changes nothing)
     ∷ agree eqb (walked there m) (0 ∷ 2 ∷ [])
     -- the walks of demand 3, there and back
     ∷ agree same (way there m) (point 0 ∷ point 1 ∷ point 2 ∷ [])
@@ -196,7 +196,7 @@ roundZero =
     (D announces-itself
     ∷ B gets 0 over 5 at 0
     ∷ A gets 1 over 5 at 0
-    -- B 0/largest, invalidated, ahead of D itself; the error is element 3; A 0/largest, invalidated, element 4
+    -- B 0/largest, invalidated, newer than D's own number; the error is element 3; A 0/largest, invalidated, element 4
     ∷ B loses D
     ∷ A gets 3 over 5 at 0
     -- D sends element 5 with 0; B 0/7 via D, element 6; A's late element 2 is refused, as 4,294,967,295 is older than 0
@@ -215,6 +215,9 @@ unfoldable pub wentRound : Rules → List Bool
 wentRound rules =
     let m : Mesh = endOf rules roundZero in
     isWithinWindow rules roundZero
+    -- every call is accepted with one frame, but B's eighth, the late element, which is refused
+    ∷ agree eqb (lines rules roundZero)
+    (0 ∷ 1 ∷ 0 ∷ 1 ∷ 0 ∷ 1 ∷ 0 ∷ 1 ∷ 0 ∷ 1 ∷ 0 ∷ 1 ∷ 0 ∷ 1 ∷ 25 ∷ 0 ∷ 0 ∷ 1 ∷ 0 ∷ 1 ∷ 0 ∷ 1 ∷ 0 ∷ 1 ∷ [])
     -- what A, B and D hold after four events, and in the end
     ∷ agree eqb (heldIn roundZero (after 4 rules roundZero)) (4_294_967_295 ∷ 0 ∷ 4_294_967_295 ∷ [])
     ∷ agree eqb (heldIn roundZero m) (1 ∷ 1 ∷ 1 ∷ [])
@@ -243,7 +246,7 @@ plainNumbers =
           (D requests-as-root 0
           -- A 4294967295/2 via D, element 1
           ∷ A gets 0 over 2 at 0
-          -- A 0/largest, invalidated
+          -- A 0/largest, invalidated; the error is element 2
           ∷ A loses D
           -- B 4294967295/4 via A, element 3
           ∷ B gets 1 over 2 at 0
@@ -301,7 +304,7 @@ dropped =
           -- A 1/5 via D, element 1; B 1/10 via A, element 2
           ∷ A gets 0 over 5 at 0
           ∷ B gets 1 over 5 at 0
-          -- A's row is gone
+          -- A's row is gone; the error is element 3
           ∷ A loses D
           -- A 1/11 via B
           ∷ A gets 2 over 1 at 0
@@ -319,7 +322,7 @@ unstepped =
           -- A 1/2 via D, element 1; B 1/5 via A, element 2
           ∷ A gets 0 over 2 at 0
           ∷ B gets 1 over 3 at 0
-          -- A 1/largest, invalidated
+          -- A 1/largest, invalidated; the error is element 3
           ∷ A loses D
           -- A 1/8 via B
           ∷ A gets 2 over 3 at 0

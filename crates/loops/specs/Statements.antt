@@ -1,5 +1,9 @@
 -- What is proved of the rules of document 01: each statement is a type here, and `proofs/Theorems.antt` has its proof under
 -- the name that is given beside it. Assumes nothing.
+--
+-- How to read: `(x : T) → P` is 'for every x: P', `P → Q` 'if P then Q', `×` 'and', `≡` 'equals'; `x ∷ l` is a list that begins with
+-- x, `l ++ k` one list after another; `cond b x y` is x if b holds, else y; `r .f` is the field f of r, and `a .0` the number that an
+-- address, a sequence number or a metric is. A `List ℕ` is a list of octets.
 use Prim.Native.Nat.{ℕ, _^_, _<_, _≤_}
 use mathlib.Core.Path.{_≡_}
 use mathlib.Core.Bool.{true, false}
@@ -20,7 +24,7 @@ use Rattle.rules.specs.Outcome.{Frame, Effect, frameOctets}
 use Rattle.rules.specs.Fresh.{makeFresh}
 use Rattle.rules.specs.Forget.{forget}
 use Rattle.rules.specs.Calls.{Call, outcome, OperandsFit}
-use Rattle.edges.specs.Edges.{edges}
+use Rattle.edges.specs.Edges.{edges, shutOut}
 use Rattle.loops.specs.Mesh.{Point, start, Action, delivers, asks, announces, requestsAsRoot, breaks, readsOnly, Event, run, throughout, met}
 use Rattle.loops.specs.Premise.{allWithin}
 use Rattle.loops.specs.Runs.{worked, wentRound, loops, counterexamples, outside, outsideLoops}
@@ -30,9 +34,14 @@ use Rattle.loops.specs.Runs.{worked, wentRound, loops, counterexamples, 
 abbrev pub EdgesHold : Type 0
 EdgesHold = all (λ b. b) edges ≡ true
 
+-- The trainees' errors that document 01 names are shut out (`errors-shut-out`): every test in the list passes.
+abbrev pub ErrorsShutOut : Type 0
+ErrorsShutOut = all (λ b. b) shutOut ≡ true
+
 -- ---- stays a table (`stays-a-table`, `fresh-is-a-table`, `forget-stays-a-table`)
 
 -- Whatever octets a call finds as its table: if it is accepted, it leaves octets that pass refusal 21, as many as before.
+-- (The five calls that write table and output; then a fresh table, and forgetting a destination.)
 abbrev pub StaysTable : Type 0
 StaysTable =
     (t : List ℕ) → Octets t → (room : ℕ) (call : Call) → OperandsFit call → (e : Effect) → outcome t room call ≡ accepted e
@@ -41,10 +50,11 @@ StaysTable =
 abbrev pub FreshIsTable : Type 0
 FreshIsTable =
     (t u : List ℕ) (own : Address) (number : SequenceNumber) → own .0 < 256 ^ 6 → number .0 < 256 ^ 4
-    → makeFresh t own number ≡ accepted u → isTable u ≡ true
+    → makeFresh t own number ≡ accepted u → Octets u × (isTable u ≡ true) × (length u ≡ length t)
 
 abbrev pub ForgetStaysTable : Type 0
-ForgetStaysTable = (t u : List ℕ) (d : Address) → forget t d ≡ accepted u → isTable u ≡ true
+ForgetStaysTable =
+    (t u : List ℕ) (d : Address) → Octets t → forget t d ≡ accepted u → Octets u × (isTable u ≡ true) × (length u ≡ length t)
 
 -- ---- has room (`has-room`)
 
@@ -63,7 +73,7 @@ pub record ReadsAs (s : List ℕ) (e : Element) : Type 0 where
   pub passes-8 : misfit s ≡ false
   pub fields : readElement s ≡ e
 
--- Every element that an accepted call emits is so.
+-- Such are the octets of the elements in all frames of an accepted call.
 abbrev pub ReadsBack : Type 0
 ReadsBack =
     (t : List ℕ) → Octets t → (room : ℕ) (call : Call) → OperandsFit call → (e : Effect) → outcome t room call ≡ accepted e
@@ -88,12 +98,13 @@ ActionFits (breaks c neighbour) = Unit {0}
 ActionFits readsOnly = Unit {0}
 
 -- For any set of points with fresh tables and different addresses,
--- and any list of their calls, with elements delivered late, repeated, reordered or lost, any of them refused or not:
+-- and any list of their calls, with elements delivered late, repeated, reordered or lost, whether refused or not:
 -- if, from first to last, all numbers held or carried for a destination d lie within 2^31 consecutive ones counted round zero,
 -- then the walk along valid rows for d, from any point a and however long, meets no point twice.
 --
 -- (The proof does not use what is said of the points: a call on octets that are no table is refused, and of two points with
--- one address the second would never be called or met. A forget is not among the calls: with it the statement is false.)
+-- one address the second would never be called or met. Of the numbers it uses only those in rows: that these lie so is enough.
+-- A forget is not among the calls: with it the statement is false.)
 abbrev pub LoopFree : Type 0
 LoopFree =
     (points : List Point) → All PointFits points → twice (map (λ (p : Point). p .address) points) ≡ false
@@ -105,18 +116,19 @@ LoopFree =
 -- ---- not vacuous (`not-vacuous`)
 
 -- The worked case of document 01, run on the rules, meets the premise, answers as the bench prints, and ends with the routes
--- that its walk finds; and so does a run in which numbers pass from 4,294,967,295 to 0.
+-- that its walk finds. A second run, in which numbers pass from 4,294,967,295 to 0, meets the premise and finds its routes too.
 abbrev pub NotVacuous : Type 0
 NotVacuous = all (λ b. b) (worked outcome ++ wentRound outcome) ≡ true
 
 -- ---- sharp (`sharp`, `needs-its-premise`)
 
--- Five errors of trainees, each a rule of `WrongRules.antt` with a list of calls that meets the premise and ends with a walk that
--- meets a point twice: numbers compared as plain numbers, the reply of 11-06-1778 that takes an equal number with a worse metric,
+-- Five wrong rules (`WrongRules.antt`), each with a list of calls that meets the premise and ends with a walk that meets a point
+-- twice: numbers compared as plain numbers, the reply of 11-06-1778 that takes an equal number with a worse metric,
 -- an equal number into an inactive row at a worse metric, a broken row dropped, a break that does not step the number.
 --
--- (Other errors cannot loop, since no row gets worse by them: an error matched by destination only, a break that leaves the
--- metric or hits expired rows too. Demand 3 does not exclude these; P6 does the second, and the equations of demand 2 all.)
+-- (Other errors cannot loop, since no row gets worse by them: an error matched by destination only; an error with a newer number
+-- or a break that leaves the metric; a break that hits expired rows too. Demand 3 does not exclude them. The edges exclude the
+-- first and a break that leaves the metric; code that is proved equal to the rules, and tests, exclude all.)
 abbrev pub Sharp : Type 0
 Sharp = all loops counterexamples ≡ true
 

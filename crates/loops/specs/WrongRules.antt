@@ -1,4 +1,4 @@
--- These are NOT the rules. Each changes one sentence of document 01 into an error that trainees make, and is put together from
+-- These are NOT the rules. Each changes one sentence of document 01 (the first and the third as its trainees do), put together from
 -- the rules' own pieces, only to show by lists of calls (`Runs.antt`) that demand 3 excludes it. Assumes nothing.
 use Prim.Native.Nat.{ℕ}
 use mathlib.Core.Bool.{Bool, true, false, not, _&&_, cond}
@@ -7,7 +7,8 @@ use lib.Dec.{eqb, ltb}
 use Rattle.table.specs.declared.address.Address.{Address}
 use Rattle.table.specs.declared.row.Row.{Row}
 use Rattle.table.specs.Row.{active, freeRow, invalidated, raised}
-use Rattle.table.specs.Table.{rowFor}
+use Rattle.table.specs.Layout.{headAt, putHead}
+use Rattle.table.specs.Table.{rowFor, eachHeld}
 use Rattle.element.specs.declared.PathInfo.{PathInfo}
 use Rattle.element.specs.Element.{Element, rann, rreq, rrep, rerr}
 use Rattle.element.specs.Octets.{readElement}
@@ -54,7 +55,9 @@ with25 stale = ruledBy (receivingBy stale) breaking
 -- carry the stepped numbers.
 abbrev pub breakingBy : (Row → Row) → List ℕ → ℕ → ℕ → Address → Ruling Effect
 breakingBy f t room c neighbour =
-    withOutcome (brokenOff (λ r. cond (isThrough c neighbour r) (f r) r) t c neighbour) (breaking t room c neighbour)
+    let e : Effect = brokenOff t c neighbour in
+    let u : List ℕ = eachHeld (λ r. cond (isThrough c neighbour r) (f r) r) t in
+    withOutcome (record { table = putHead u (headAt (e .table)); frames = e .frames }) (breaking t room c neighbour)
 
 abbrev pub withBroken : (Row → Row) → Rules
 withBroken f = ruledBy receiving (breakingBy f)
@@ -70,7 +73,7 @@ isReply (rreq f targets) = false
 isReply (rrep f dependents) = true
 isReply (rerr flags destinations) = false
 
--- numbers are compared as plain numbers
+-- numbers are compared as plain numbers, in refusal 25 alone
 abbrev pub comparesPlainly : Rules
 comparesPlainly =
     with25

@@ -68,7 +68,7 @@ module _ (t : List ℕ) (a : Arrival) where
       let h : Heard t a p = ok .heard p refl in
       record {
         leaves = at-clock (rann p) ok (learnt a p t) (learnt-keeps t a p h) (number t) (number-fits t (ok .whole));
-        frames = rann-onward-fits a p (h .fits) (h .hops) (h .metric) (learnt a p t);
+        frames = rann-onward-fits a p (h .fits) (h .hops) (h .metric);
       }
 
   rrep-kept : (f : RrepFields) (dependents : List NumberedAddress) → Accepted t a (rrep f dependents) → Kept t (rrepReceived t a f dependents)

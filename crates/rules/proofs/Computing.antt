@@ -19,10 +19,10 @@ use Rattle.rules.specs.Fresh.{makeFresh}
 use Rattle.rules.specs.Forget.{forget}
 use Rattle.rules.specs.NextHop.{alongRow, nextHop}
 use Rattle.rules.specs.Learn.{expiryOf, subjectRow, transmitterRow, takesLink, subjectLearnt, transmitterLearnt, learnt}
-use Rattle.rules.specs.Destinations.{reply, answeredNumber, answersFor, forOneself, forAll, forAnother, answered, allAnswered}
+use Rattle.rules.specs.Destinations.{reply, answeredNumber, answersFor, forOneself, forAllOnes, forAnother, answered, allAnswered}
 use Rattle.rules.specs.Onward.{onward, towards, rannOnward, rreqOnward, rrepOnward}
 use Rattle.rules.specs.Errors.{isThrough, isLostBy, matches, numberBeside, erred, afterError, broken, afterBreak, brokenEntry, brokenEntries, errorAt, errorsFor}
-use Rattle.rules.specs.Receive.{hasBadAddress, severalOrAll, hasBadList, isSpentReply, isStaleFor, isStale, matchesNothing, rowsNeeded, rannReceived, rrepReceived, rreqReceived, rerrReceived, received, receive}
+use Rattle.rules.specs.Receive.{hasBadAddress, severalOrAll, hasBadList, isLowTtlReply, isStaleFor, isStale, matchesNothing, rowsNeeded, rannReceived, rrepReceived, rreqReceived, rerrReceived, received, receive}
 use Rattle.rules.specs.Originate.{ownPath, announced, requested, itemAt, itemsFit, knownNumber, askedFor, ask, announce, rootRequest}
 use Rattle.rules.specs.Break.{brokenOff, breakNeighbour}
 use Rattle.rules.specs.Calls.{outcome}
@@ -38,10 +38,10 @@ unfolding flatMap numberOctets numberAt over withNumber fieldsAt withFields fiel
     fixedOctets writeElement writeFrame allowed anyForbidden among twice onesBesideOthers
     any all those bit withDO frameOctets headWith atExit makeFresh forget alongRow nextHop
     expiryOf subjectRow transmitterRow takesLink subjectLearnt transmitterLearnt learnt
-    reply answeredNumber answersFor forOneself forAll forAnother answered allAnswered
+    reply answeredNumber answersFor forOneself forAllOnes forAnother answered allAnswered
     onward towards rannOnward rreqOnward rrepOnward
     isThrough isLostBy matches numberBeside erred afterError broken afterBreak brokenEntry brokenEntries errorAt errorsFor
-    hasBadAddress severalOrAll hasBadList isSpentReply isStaleFor isStale matchesNothing rowsNeeded
+    hasBadAddress severalOrAll hasBadList isLowTtlReply isStaleFor isStale matchesNothing rowsNeeded
     rannReceived rrepReceived rreqReceived rerrReceived received receive
     ownPath announced requested itemAt itemsFit knownNumber askedFor ask announce rootRequest
     brokenOff breakNeighbour outcome tableAt sideBySide rowOfPoint follow walk

@@ -38,8 +38,8 @@ use Rattle.rules.specs.Decision.{accepted}
 use Rattle.rules.specs.Flags.{unicast, replyWanted}
 use Rattle.rules.specs.Outcome.{Frame, Effect, frameOctets}
 use Rattle.rules.specs.Learn.{Arrival, learnt}
-use Rattle.rules.specs.Destinations.{Answered, reply, answersFor, forOneself, forAll, forAnother, answered, allAnswered}
-use Rattle.rules.specs.Onward.{towards, whileAlive, rannOnward, rreqOnward, rrepOnward}
+use Rattle.rules.specs.Destinations.{Answered, reply, answersFor, forOneself, forAllOnes, forAnother, answered, allAnswered}
+use Rattle.rules.specs.Onward.{towards, ifTtlLeft, rannOnward, rreqOnward, rrepOnward}
 use Rattle.rules.specs.Errors.{isThrough, brokenEntry, brokenEntries, errorAt, errorsFor}
 use Rattle.rules.specs.Receive.{rannReceived, rrepReceived, rreqReceived, rerrReceived, received, receiving, receive}
 use Rattle.rules.specs.Originate.{announced, requested, asking, ask, announcing, announce, requestingAsRoot, rootRequest}
@@ -92,19 +92,19 @@ unfolding towards
 one-towards c e none = omega arith
 one-towards c e (some r) = cond-cases (λ (l : List Frame). length l ≤ 1) (active c r) (λ _. omega arith) (λ _. omega arith)
 
-one-alive : (p : PathInfo) (frames : List Frame) → length frames ≤ 1 → length (whileAlive p frames) ≤ 1
-one-alive p frames h = cond-cases (λ (l : List Frame). length l ≤ 1) (ltb (p .ttl) 2) (λ _. omega arith) (λ _. h)
+one-if-ttl-left : (p : PathInfo) (frames : List Frame) → length frames ≤ 1 → length (ifTtlLeft p frames) ≤ 1
+one-if-ttl-left p frames h = cond-cases (λ (l : List Frame). length l ≤ 1) (ltb (p .ttl) 2) (λ _. omega arith) (λ _. h)
+
+one-rann : (a : Arrival) (p : PathInfo) → length (rannOnward a p) ≤ 1
+unfolding rannOnward
+one-rann a p = one-if-ttl-left p _ (omega arith)
 
 module _ (u : List ℕ) (a : Arrival) where
-  one-rann : (p : PathInfo) → length (rannOnward u a p) ≤ 1
-  unfolding rannOnward
-  one-rann p = one-alive p _ (omega arith)
-
   one-rreq : (f : RreqFields) (kept : List Target) → length (rreqOnward u a f kept) ≤ 1
   unfolding rreqOnward
   one-rreq f [] = omega arith
   one-rreq f (q ∷ qs) =
-      one-alive (f .path) _
+      one-if-ttl-left (f .path) _
       (cond-cases (λ (l : List Frame). length l ≤ 1) (unicast (f .path)) (λ _. one-towards (a .clock) _ (rowFor u (q .address))) (λ _. omega arith))
 
   one-rrep : (f : RrepFields) (dependents : List NumberedAddress) → length (rrepOnward u a f dependents) ≤ 1
@@ -129,7 +129,7 @@ module _ (u : List ℕ) (a : Arrival) (p : PathInfo) where
   another-small n q (some r) = cond-cases Small (answersFor (a .clock) q r) (λ _. reply-length (r .destination) _ _ _) (λ _. omega arith)
 
   answered-small : (n : SequenceNumber) (q : Target) → Small (answered u a p n q)
-  unfolding answered forOneself forAll frameOctets flatMap
+  unfolding answered forOneself forAllOnes frameOctets flatMap
   answered-small n q =
       cond-cases Small (same (q .address) (own u)) (λ _. reply-length (own u) _ _ _)
       (λ _. cond-cases Small (same (q .address) allOnes)
@@ -185,7 +185,7 @@ module _ (t : List ℕ) (octets : Octets t) (room : ℕ) where
 
   received-room : (a : Arrival) (e : Element) → Accepted t a e → FramesFit (received t a e .frames) → length (frameOctets (received t a e .frames)) ≤ 1560
   unfolding received rannReceived rrepReceived rerrReceived rreqReceived
-  received-room a (rann p) ok fit = few-frames 1 (omega arith) _ (one-rann (learnt a p t) a p) fit
+  received-room a (rann p) ok fit = few-frames 1 (omega arith) _ (one-rann a p) fit
   received-room a (rrep f dependents) ok fit = few-frames 1 (omega arith) _ (one-rrep (learnt a (f .path) t) a f dependents) fit
   received-room a (rerr flags destinations) ok fit = few-frames 1 (omega arith) _ (omega arith) fit
   received-room a (rreq f targets) ok fit =

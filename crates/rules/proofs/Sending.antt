@@ -35,8 +35,8 @@ use Rattle.element.proofs.ReadBack.{Fits, all-each}
 use Rattle.rules.specs.Flags.{replyWanted, unicast, hasRF, withDO}
 use Rattle.rules.specs.Outcome.{Frame}
 use Rattle.rules.specs.Learn.{Arrival, metricHere}
-use Rattle.rules.specs.Destinations.{Answered, reply, answeredNumber, answersFor, forOneself, forAll, forAnother, answered, allAnswered, keptAfterReply}
-use Rattle.rules.specs.Onward.{onward, towards, toAll, whileAlive, rannOnward, rreqOnward, rrepOnward}
+use Rattle.rules.specs.Destinations.{Answered, reply, answeredNumber, answersFor, forOneself, forAllOnes, forAnother, answered, allAnswered, keptAfterReply}
+use Rattle.rules.specs.Onward.{onward, towards, toAll, ifTtlLeft, rannOnward, rreqOnward, rrepOnward}
 use Rattle.rules.specs.Errors.{isThrough, broken, brokenEntry, brokenEntries, errorAt, errorsFor}
 use Rattle.rules.proofs.Branches.{cond-cases}
 use Rattle.rules.proofs.Alls.{all-one, all-append, all-between, all-take, all-drop, all-flat-map}
@@ -59,8 +59,8 @@ unfolding towards
 towards-fits c e f none = none-fits
 towards-fits c e f (some r) = cond-cases FramesFit (active c r) (λ _. all-one (λ (x : Frame). Fits (x .element)) _ f) (λ _. none-fits)
 
-while-alive-fits : (p : PathInfo) (frames : List Frame) → FramesFit frames → FramesFit (whileAlive p frames)
-while-alive-fits p frames f = cond-cases FramesFit (ltb (p .ttl) 2) (λ _. none-fits) (λ _. f)
+if-ttl-left-fits : (p : PathInfo) (frames : List Frame) → FramesFit frames → FramesFit (ifTtlLeft p frames)
+if-ttl-left-fits p frames f = cond-cases FramesFit (ltb (p .ttl) 2) (λ _. none-fits) (λ _. f)
 
 -- ---- elements whose path fits
 
@@ -116,9 +116,9 @@ module _ (a : Arrival) (p : PathInfo) (f : PathFits p) (hops : p .hops .0 < 255)
         metric = omega arith;
       }
 
-  pub rann-onward-fits : (t : List ℕ) → FramesFit (rannOnward t a p)
+  pub rann-onward-fits : FramesFit (rannOnward a p)
   unfolding rannOnward
-  rann-onward-fits t = while-alive-fits p _ (to-all-fits (rann (onward a p)) (rann-fits (onward a p) onward-fits))
+  rann-onward-fits = if-ttl-left-fits p _ (to-all-fits (rann (onward a p)) (rann-fits (onward a p) onward-fits))
 
 module _ (a : Arrival) (f : RreqFields) (request : f .request .0 < 256 ^ 4) (fits : PathFits (f .path)) (hops : f .path .hops .0 < 255)
     (metric : metricHere a (f .path) .0 ≤ 2 ^ 32 - 2) where
@@ -128,7 +128,7 @@ module _ (a : Arrival) (f : RreqFields) (request : f .request .0 < 256 ^ 4) (fit
   rreq-onward-fits t (q ∷ qs) fit few =
       let e : Element = rreq (record { request = f .request; path = onward a (f .path) }) (q ∷ qs) in
       let e-fits : Fits e = rreq-fits _ (q ∷ qs) request (onward-fits a (f .path) fits hops metric) fit (omega arith) few in
-      while-alive-fits (f .path) _
+      if-ttl-left-fits (f .path) _
       (cond-cases FramesFit (unicast (f .path)) (λ _. towards-fits (a .clock) e e-fits (rowFor t (q .address))) (λ _. to-all-fits e e-fits))
 
 module _ (a : Arrival) (f : RrepFields) (fits : PathFits (f .path)) (hops : f .path .hops .0 < 255)
@@ -180,8 +180,8 @@ module _ (t : List ℕ) (w : Whole t) (a : Arrival) (p : PathInfo) (f : PathFits
         let fits = answered-number-fits n (q .number) in
         record { number = fits; replies = own-reply-fits (answeredNumber n (q .number)) fits; kept = tt; fewer = omega arith }
 
-    all-fits : AnsweredFits 1 (forAll t a p n q)
-    unfolding forAll
+    all-fits : AnsweredFits 1 (forAllOnes t a p n q)
+    unfolding forAllOnes
     all-fits =
         cond-cases (AnsweredFits 1) (replyWanted p)
         (λ _. record {

@@ -1,10 +1,11 @@
--- Every accepted call leaves octets that pass refusal 21. Assumes nothing.
+-- A fresh table, and a table after a destination is forgotten, pass refusal 21. (`CallsKeep` has the other calls.) Assumes nothing.
 use Prim.Native.Nat.{ℕ, _^_, _<_}
 use mathlib.Core.Path.{_≡_, refl}
 use mathlib.Core.Bool.{true}
 use mathlib.Core.List.{List}
 use lib.ListN.{length}
 use borrow.Author.Tests.{not-false}
+use Rattle.octets.specs.LittleEndian.{Octets}
 use Rattle.counters.specs.declared.SequenceNumber.{SequenceNumber}
 use Rattle.table.specs.declared.address.Address.{Address}
 use Rattle.table.specs.Address.{individual}
@@ -12,8 +13,8 @@ use Rattle.table.specs.Layout.{sized}
 use Rattle.table.specs.Table.{isTable, freed}
 use Rattle.table.proofs.WellFormed.{legal-of, legal-is}
 use Rattle.table.proofs.Cases.{sized-long}
-use Rattle.table.proofs.Heads.{fresh-table}
-use Rattle.table.proofs.Lookup.{freed-legal}
+use Rattle.table.proofs.Heads.{fresh-table, fresh-octets, fresh-length}
+use Rattle.table.proofs.Lookup.{freed-legal, freed-octets, freed-length}
 use Rattle.rules.specs.Decision.{accepted}
 use Rattle.rules.specs.Fresh.{makingFresh, makeFresh}
 use Rattle.rules.specs.Forget.{forgetting, forget}
@@ -21,15 +22,20 @@ use Rattle.rules.proofs.Rulings.{passed}
 
 -- (an address has six octets and a number four: what C can hand over)
 pub fresh-stays : (t u : List ℕ) (own : Address) (number : SequenceNumber) → own .0 < 256 ^ 6 → number .0 < 256 ^ 4
-    → makeFresh t own number ≡ accepted u → isTable u ≡ true
+    → makeFresh t own number ≡ accepted u → Octets u × (isTable u ≡ true) × (length u ≡ length t)
 unfolding makeFresh
 fresh-stays t u own number own-fits number-fits e =
     let p = passed (makingFresh t own number) u e in
     let long = sized-long t (sized t) refl (not-false (sized t) (p .0 .0)) in
-    rw (← p .1) (fresh-table (length t) own number long own-fits number-fits (not-false (individual own) (p .0 .1 .0)))
+    rw (← p .1) (
+      fresh-octets (length t) own number,
+      fresh-table (length t) own number long own-fits number-fits (not-false (individual own) (p .0 .1 .0)),
+      fresh-length (length t) own number,
+    )
 
-pub forget-stays : (t u : List ℕ) (d : Address) → forget t d ≡ accepted u → isTable u ≡ true
+pub forget-stays : (t u : List ℕ) (d : Address) → Octets t → forget t d ≡ accepted u → Octets u × (isTable u ≡ true) × (length u ≡ length t)
 unfolding forget
-forget-stays t u d e =
+forget-stays t u d o e =
     let p = passed (forgetting t d) u e in
-    rw (← p .1) (legal-is (freed t d) (freed-legal t d (legal-of t (not-false (isTable t) (p .0 .1 .1 .0)))))
+    rw (← p .1)
+    (freed-octets t d o, legal-is (freed t d) (freed-legal t d (legal-of t (not-false (isTable t) (p .0 .1 .1 .0)))), freed-length t d)

@@ -4,19 +4,18 @@ use mathlib.Core.Bool.{not}
 use mathlib.Core.List.{List}
 use lib.Dec.{ltb}
 use Rattle.table.specs.declared.address.Address.{Address}
-use Rattle.table.specs.declared.row.Row.{Row}
 use Rattle.table.specs.Address.{individual, same}
-use Rattle.table.specs.Layout.{sized, headAt, putHead}
-use Rattle.table.specs.Table.{own, number, requestId, clock, isTable, eachHeld}
+use Rattle.table.specs.Layout.{sized}
+use Rattle.table.specs.Table.{own, number, clock, isTable, eachHeld}
 use Rattle.rules.specs.Decision.{Decision, Ruling, decide, refuse_when_, accept, _>>_}
-use Rattle.rules.specs.Outcome.{Effect, headWith}
+use Rattle.rules.specs.Outcome.{Effect, underHead}
 use Rattle.rules.specs.Errors.{afterBreak, brokenEntries, errorsFor}
 
--- each held row is changed by f, the clock is stored, and the rows that break are announced
-unfoldable pub brokenOff : (Row → Row) → List ℕ → ℕ → Address → Effect
-brokenOff f t c neighbour =
+-- every active row through that neighbour breaks, the clock is stored, and those rows are announced
+unfoldable pub brokenOff : List ℕ → ℕ → Address → Effect
+brokenOff t c neighbour =
     record {
-      table = putHead (eachHeld f t) (headWith (number t) (requestId t) c (headAt t));
+      table = underHead t (number t) c (eachHeld (afterBreak c neighbour) t);
       frames = errorsFor (brokenEntries t c neighbour);
     }
 
@@ -29,7 +28,7 @@ breaking t room c neighbour = do
   refuse 21 when not (isTable t)
   refuse 22 when ltb c (clock t)
   refuse 23 when same neighbour (own t)
-  accept (brokenOff (afterBreak c neighbour) t c neighbour)
+  accept (brokenOff t c neighbour)
 
 unfoldable pub breakNeighbour : List ℕ → ℕ → ℕ → Address → Decision Effect
 breakNeighbour t room c neighbour = decide (breaking t room c neighbour)

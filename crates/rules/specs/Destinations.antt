@@ -80,8 +80,8 @@ module _ (t : List ℕ) (a : Arrival) (p : PathInfo) where
       record { number = next; replies = ownReply a p (own t) next ∷ []; kept = [] }
 
   -- all ones: if reply wanted, own number plus one and a reply; kept
-  unfoldable pub forAll : SequenceNumber → Target → Answered
-  forAll n q =
+  unfoldable pub forAllOnes : SequenceNumber → Target → Answered
+  forAllOnes n q =
       cond (replyWanted p)
       (record { number = nextNumber n; replies = ownReply a p (own t) (nextNumber n) ∷ []; kept = q ∷ [] })
       (keptOn n q)
@@ -97,7 +97,7 @@ module _ (t : List ℕ) (a : Arrival) (p : PathInfo) where
   unfoldable pub answered : SequenceNumber → Target → Answered
   answered n q =
       cond (same (q .address) (own t)) (forOneself n q)
-      (cond (same (q .address) allOnes) (forAll n q) (forAnother n q (rowFor t (q .address))))
+      (cond (same (q .address) allOnes) (forAllOnes n q) (forAnother n q (rowFor t (q .address))))
 
   -- the destinations in order
   unfoldable pub allAnswered : SequenceNumber → List Target → Answered

@@ -22,7 +22,7 @@ abbrev pub nextOf : Option Row → Address
 nextOf (some r) = r .next
 nextOf none = record { 0 = 0 }
 
--- what the row of a destination says
+-- 28 or the next hop, as the row of the destination says
 unfoldable pub alongRow : ℕ → Option Row → Ruling Address
 alongRow c row = do
   refuse 28 when not (activeAt c row)

@@ -41,21 +41,22 @@ towards c e none = []
 towards c e (some r) = cond (active c r) (record { receiver = r .next; element = e } ∷ []) []
 
 -- if TTL is at least 2
-abbrev pub whileAlive : PathInfo → List Frame → List Frame
-whileAlive p frames = cond (ltb (p .ttl) 2) [] frames
+abbrev pub ifTtlLeft : PathInfo → List Frame → List Frame
+ifTtlLeft p frames = cond (ltb (p .ttl) 2) [] frames
+
+-- RANN goes on to all ones
+unfoldable pub rannOnward : Arrival → PathInfo → List Frame
+rannOnward a p = ifTtlLeft p (toAll (rann (onward a p)))
 
 -- The table t is that after steps 1 and 2.
 module _ (t : List ℕ) (a : Arrival) where
-  -- RANN goes on to all ones
-  unfoldable pub rannOnward : PathInfo → List Frame
-  rannOnward p = whileAlive p (toAll (rann (onward a p)))
-
-  -- RREQ goes on with the kept destinations, if there are any: to all ones, or if unicast towards its destination
+  -- RREQ goes on with the kept destinations, if there are any: to all ones, or if unicast towards its destination (it has but
+  -- one, by refusal 10)
   unfoldable pub rreqOnward : RreqFields → List Target → List Frame
   rreqOnward f [] = []
   rreqOnward f (q ∷ qs) =
       let e : Element = rreq (record { request = f .request; path = onward a (f .path) }) (q ∷ qs) in
-      whileAlive (f .path) (cond (unicast (f .path)) (towards (a .clock) e (rowFor t (q .address))) (toAll e))
+      ifTtlLeft (f .path) (cond (unicast (f .path)) (towards (a .clock) e (rowFor t (q .address))) (toAll e))
 
   -- RREP goes on towards its source, unless that is this point
   unfoldable pub rrepOnward : RrepFields → List NumberedAddress → List Frame

@@ -76,7 +76,7 @@ itemsIn s = each (itemAt s) 0 (length s / 7)
 abbrev pub itemAddresses : List Item → List Address
 itemAddresses items = map (λ (i : Item). i .address) items
 
--- 8. for an ask: 7 octets an item, 1 to 20 items
+-- what 8 asks of an ask: 7 octets an item, 1 to 20 items
 unfoldable pub itemsFit : List ℕ → Bool
 itemsFit s = eqb (length s % 7) 0 && leb 7 (length s) && leb (length s) 140
 

@@ -1,4 +1,4 @@
--- What an accepted call leaves that may emit: the octets of the table, and frames. Assumes nothing.
+-- Calls that may emit frames: what an accepted one leaves, and what stands at exit. Assumes nothing.
 use Prim.Native.Nat.{ℕ}
 use mathlib.Core.List.{List, flatMap}
 use lib.ListN.{length}
@@ -7,6 +7,8 @@ use Rattle.counters.specs.declared.SequenceNumber.{SequenceNumber}
 use Rattle.counters.specs.declared.RequestId.{RequestId}
 use Rattle.table.specs.declared.address.Address.{Address}
 use Rattle.table.specs.declared.row.Head.{Head}
+use Rattle.table.specs.Layout.{headAt, putHead}
+use Rattle.table.specs.Table.{requestId}
 use Rattle.element.specs.Element.{Element}
 use Rattle.element.specs.Octets.{writeFrame}
 use Rattle.rules.specs.Decision.{Decision, refused, accepted}
@@ -24,10 +26,14 @@ pub record Effect : Type 0 where
 unfoldable pub frameOctets : List Frame → List ℕ
 frameOctets frames = flatMap (λ (f : Frame). writeFrame (f .receiver) (f .element)) frames
 
--- the head of a point with this own number, request ID and latest clock
+-- the head h with this own number, request ID and latest clock
 unfoldable pub headWith : SequenceNumber → RequestId → ℕ → Head → Head
 headWith number request clock h =
     record { own = h .own; zero2 = h .zero2; number = number; request = request; clock = clock; zero8 = h .zero8 }
+
+-- the rows of u under the head of t, with this own number and latest clock
+abbrev pub underHead : List ℕ → SequenceNumber → ℕ → List ℕ → List ℕ
+underHead t n c u = putHead u (headWith n (requestId t) c (headAt t))
 
 -- ---- at exit
 

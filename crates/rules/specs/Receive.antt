@@ -9,8 +9,8 @@ use Rattle.counters.specs.Numbers.{older}
 use Rattle.table.specs.declared.address.Address.{Address}
 use Rattle.table.specs.declared.row.Row.{Row}
 use Rattle.table.specs.Address.{individual, same}
-use Rattle.table.specs.Layout.{sized, headAt, putHead}
-use Rattle.table.specs.Table.{own, number, requestId, clock, isTable, rowFor, newRows, freeRows, eachHeld}
+use Rattle.table.specs.Layout.{sized}
+use Rattle.table.specs.Table.{own, number, clock, isTable, rowFor, newRows, freeRows, eachHeld}
 use Rattle.element.specs.declared.PathInfo.{PathInfo}
 use Rattle.element.specs.declared.NumberedAddress.{NumberedAddress}
 use Rattle.element.specs.declared.Target.{Target}
@@ -23,7 +23,7 @@ use Rattle.element.specs.Lists.{allOnes, anyForbidden, among, twice, onesBeside
 use Rattle.rules.specs.Decision.{Decision, Ruling, decide, refuse_when_, accept, _>>_}
 use Rattle.rules.specs.Lists.{any, those, has}
 use Rattle.rules.specs.Flags.{unicast}
-use Rattle.rules.specs.Outcome.{Effect, headWith}
+use Rattle.rules.specs.Outcome.{Effect, underHead}
 use Rattle.rules.specs.Learn.{Arrival, metricHere, learnt}
 use Rattle.rules.specs.Destinations.{Answered, allAnswered}
 use Rattle.rules.specs.Onward.{rannOnward, rreqOnward, rrepOnward, toAll}
@@ -72,11 +72,11 @@ hasBadList (rrep f dependents) = same (f .path .subject) (f .source .address)
 hasBadList (rerr flags destinations) = twice (numberedAddresses destinations)
 
 -- 14. RREP with TTL 0 or 1
-unfoldable pub isSpentReply : Element → Bool
-isSpentReply (rann p) = false
-isSpentReply (rreq f targets) = false
-isSpentReply (rrep f dependents) = ltb (f .path .ttl) 2
-isSpentReply (rerr flags destinations) = false
+unfoldable pub isLowTtlReply : Element → Bool
+isLowTtlReply (rann p) = false
+isLowTtlReply (rreq f targets) = false
+isLowTtlReply (rrep f dependents) = ltb (f .path .ttl) 2
+isLowTtlReply (rerr flags destinations) = false
 
 -- ---- turned away by the state
 
@@ -86,7 +86,7 @@ isStaleFor a p r =
     eqb (r .known) 1
     && (older (p .number) (r .number) || (eqb (p .number .0) (r .number .0) && leb (r .metric .0) (metricHere a p .0)))
 
--- 25. so is the row of that originator (for RREP: destination), active or not
+-- 25. such is the row of that originator (for RREP: destination), active or not
 unfoldable pub isStale : List ℕ → Arrival → PathInfo → Bool
 isStale t a p = has (isStaleFor a p) (rowFor t (p .subject))
 
@@ -109,12 +109,12 @@ module _ (t : List ℕ) (a : Arrival) where
   unfoldable pub rannReceived : PathInfo → Effect
   rannReceived p =
       let u : List ℕ = learnt a p t in
-      record { table = putHead u (headWith (number t) (requestId t) (a .clock) (headAt t)); frames = rannOnward u a p }
+      record { table = underHead t (number t) (a .clock) u; frames = rannOnward a p }
 
   unfoldable pub rrepReceived : RrepFields → List NumberedAddress → Effect
   rrepReceived f dependents =
       let u : List ℕ = learnt a (f .path) t in
-      record { table = putHead u (headWith (number t) (requestId t) (a .clock) (headAt t)); frames = rrepOnward u a f dependents }
+      record { table = underHead t (number t) (a .clock) u; frames = rrepOnward u a f dependents }
 
   -- RREQ: steps 1 and 2, the replies, and after them it goes on with the destinations that are kept
   unfoldable pub rreqReceived : RreqFields → List Target → Effect
@@ -122,7 +122,7 @@ module _ (t : List ℕ) (a : Arrival) where
       let u : List ℕ = learnt a (f .path) t in
       let done : Answered = allAnswered u a (f .path) (number t) targets in
       record {
-        table = putHead u (headWith (done .number) (requestId t) (a .clock) (headAt t));
+        table = underHead t (done .number) (a .clock) u;
         frames = done .replies ++ rreqOnward u a f (done .kept);
       }
 
@@ -130,8 +130,7 @@ module _ (t : List ℕ) (a : Arrival) where
   unfoldable pub rerrReceived : ℕ → List NumberedAddress → Effect
   rerrReceived flags destinations =
       record {
-        table = putHead (eachHeld (afterError (a .clock) (a .transmitter) destinations) t)
-            (headWith (number t) (requestId t) (a .clock) (headAt t));
+        table = underHead t (number t) (a .clock) (eachHeld (afterError (a .clock) (a .transmitter) destinations) t);
         frames = toAll (rerr flags (those (matches t (a .clock) (a .transmitter)) destinations));
       }
 
@@ -158,7 +157,7 @@ receiving t room a s = do
   refuse 11 when ofPath (λ p. eqb (p .lifetime) 0) (readElement s)
   refuse 12 when ofPath (λ p. eqb (p .hops .0) 255) (readElement s)
   refuse 13 when ofPath (λ p. ltb (2 ^ 32 - 2) (metricHere a p .0)) (readElement s)
-  refuse 14 when isSpentReply (readElement s)
+  refuse 14 when isLowTtlReply (readElement s)
   refuse 21 when not (isTable t)
   refuse 22 when ltb (a .clock) (clock t)
   refuse 23 when same (a .transmitter) (own t)

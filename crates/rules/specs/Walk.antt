@@ -14,7 +14,7 @@ use Rattle.table.specs.Layout.{sized}
 use Rattle.table.specs.Table.{clock, isTable, rowFor}
 use Rattle.element.specs.Entries.{each}
 use Rattle.element.specs.Lists.{among, twice}
-use Rattle.rules.specs.Decision.{Decision, Ruling, decide, refuse_when_, accept, _>>_}
+use Rattle.rules.specs.Decision.{Decision, refused, accepted, Ruling, decide, refuse_when_, accept, _>>_}
 use Rattle.rules.specs.Lists.{any}
 
 -- ---- 1 to 16 tables of one length, side by side
@@ -29,7 +29,7 @@ tableAt s long i = take long (drop (long * i) s)
 abbrev pub tablesIn : List ℕ → ℕ → List (List ℕ)
 tablesIn s count = each (tableAt s (lengthOfEach s count)) 0 count
 
--- 1. count 1 to 16, and the octets are that many tables of one length
+-- what 1 asks: count 1 to 16, and the octets are that many pieces of one length that a table may have
 unfoldable pub sideBySide : List ℕ → ℕ → Bool
 sideBySide s count =
     leb 1 count && leb count 16 && eqb (count * lengthOfEach s count) (length s) && sized (tableAt s (lengthOfEach s count) 0)
@@ -47,8 +47,8 @@ pub record Walked : Type 0 where
 abbrev pub arrived : ℕ → Walked
 arrived hops = record { answer = 0; hops = hops }
 
-abbrev pub noWay : ℕ → Walked
-noWay hops = record { answer = 41; hops = hops }
+abbrev pub stopped : ℕ → Walked
+stopped hops = record { answer = 41; hops = hops }
 
 abbrev pub tooLong : ℕ → Walked
 tooLong hops = record { answer = 42; hops = hops }
@@ -61,17 +61,22 @@ rowOfPoint (t ∷ tables) a d = cond (same (addressOf t) a) (rowFor t d) (rowOfP
 module _ (tables : List (List ℕ)) (c : ℕ) (d : Address) where
   -- the next hop is the destination, a point, or neither: the last is not counted
   abbrev pub onTo : Address → ℕ → Walked → Walked
-  onTo next hops further = cond (same next d || among next (points tables)) further (noWay hops)
+  onTo next hops further = cond (same next d || among next (points tables)) further (stopped hops)
 
   abbrev pub along : Option Row → ℕ → (Address → Walked) → Walked
-  along none hops further = noWay hops
-  along (some r) hops further = cond (active c r) (onTo (r .next) hops (further (r .next))) (noWay hops)
+  along none hops further = stopped hops
+  along (some r) hops further = cond (active c r) (onTo (r .next) hops (further (r .next))) (stopped hops)
 
-  -- from a, with so many hops walked and so many left before there are as many as points
-  unfoldable pub follow : (left : ℕ) → Address → (hops : ℕ) → Walked
+  -- from a, with so many hops walked and so many remaining before there are as many as points
+  unfoldable pub follow : (remaining : ℕ) → Address → (hops : ℕ) → Walked
   follow zero a hops = cond (same a d) (arrived hops) (tooLong hops)
-  follow (suc left) a hops =
-      cond (same a d) (arrived hops) (along (rowOfPoint tables a d) hops (λ next. follow left next (hops + 1)))
+  follow (suc remaining) a hops =
+      cond (same a d) (arrived hops) (along (rowOfPoint tables a d) hops (λ next. follow remaining next (hops + 1)))
+
+-- a refusal returns its number and else zeros, hops too
+abbrev pub walkedAtExit : Decision Walked → Walked
+walkedAtExit (refused n) = record { answer = n; hops = 0 }
+walkedAtExit (accepted w) = w
 
 -- ---- the call
 

@@ -41,7 +41,7 @@ freeRow =
 unfoldable pub isFree : Row → Bool
 isFree r = allZero (rowNumbers r)
 
--- with number known 0: number 0, hop count 1, next hop equal to destination
+-- what number known 0 asks: number 0, hop count 1, next hop equal to destination
 unfoldable pub isUnnumbered : Row → Bool
 isUnnumbered r = eqb (r .number .0) 0 && eqb (r .hops .0) 1 && same (r .next) (r .destination)
 

@@ -32,7 +32,7 @@ clock t = headAt t .clock
 
 -- ---- rows by destination
 
--- row i is free
+-- row i is free, by its status; 21 asks that the rest is zero
 unfoldable pub vacant : List ℕ → ℕ → Bool
 vacant t i = eqb (rowAt t i .status) 0
 
@@ -99,7 +99,7 @@ store t r = putAt t r (placeFor t (r .destination))
 unfoldable pub freed : List ℕ → Address → List ℕ
 freed t d = putAt t freeRow (findRow t d)
 
--- each held row below n is changed by f
+-- row i is changed by f if it is held; and so each held row below n
 abbrev pub changeAt : (Row → Row) → ℕ → List ℕ → List ℕ
 changeAt f i t = cond (vacant t i) t (putRow t i (f (rowAt t i)))
 
