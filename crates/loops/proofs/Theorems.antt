@@ -1,5 +1,6 @@
 -- The theorems about the rules of document 01: the statements are in `specs/Statements.antt`. Assumes nothing.
 use Prim.Native.Nat.{_^_, _<_}
+use mathlib.Core.Path.{refl}
 use mathlib.Core.List.{_∷_}
 use native.Mathlib.Omega.{arith}
 use Rattle.octets.specs.LittleEndian.{numberOctets, Octets}
@@ -9,13 +10,18 @@ use Rattle.element.specs.Entries.{All}
 use Rattle.element.specs.Octets.{writeElement}
 use Rattle.element.proofs.ReadBack.{Fits, read-back, passes-6, passes-7, passes-8}
 use Rattle.rules.specs.Outcome.{Frame}
+use Rattle.rules.specs.Errors.{afterBreak}
+use Rattle.rules.specs.Receive.{isStale, receive}
+use Rattle.rules.specs.Break.{brokenOff, breakNeighbour}
+use Rattle.rules.specs.Calls.{receives, asks, announces, requestsAsRoot, breaks, outcome}
 use Rattle.rules.proofs.Alls.{all-implies}
 use Rattle.rules.proofs.CallsKeep.{Kept, call-kept}
 use Rattle.rules.proofs.Room.{call-room}
 use Rattle.rules.proofs.StaysTable.{fresh-stays, forget-stays}
 use Rattle.edges.proofs.AllEdges.{all-edges, all-shut-out}
-use Rattle.loops.specs.Statements.{EdgesHold, ErrorsShutOut, StaysTable, FreshIsTable, ForgetStaysTable, HasRoom, ReadsAs, ReadsBack, ActionFits, LoopFree, NotVacuous, Sharp, NeedsPremise}
+use Rattle.loops.specs.Statements.{EdgesHold, ErrorsShutOut, StaysTable, FreshIsTable, ForgetStaysTable, HasRoom, ReadsAs, ReadsBack, ActionFits, LoopFree, NotVacuous, Sharp, ElseTheRules, NeedsPremise}
 use Rattle.loops.specs.Mesh.{Event}
+use Rattle.loops.specs.WrongRules.{ruledBy}
 use Rattle.loops.specs.Runs.{D, endOf, way, outside, outsideLoops}
 use Rattle.loops.proofs.Computed.{runs-as-worked, wrong-rules-loop, outside-loops}
 use Rattle.loops.proofs.LoopFree
@@ -59,6 +65,14 @@ not-vacuous = runs-as-worked
 
 pub sharp : Sharp
 sharp = wrong-rules-loop
+
+pub else-the-rules : ElseTheRules
+unfolding ruledBy outcome receive isStale breakNeighbour brokenOff afterBreak
+else-the-rules t room (receives a s) = refl
+else-the-rules t room (asks lifetime items) = refl
+else-the-rules t room (announces flags lifetime) = refl
+else-the-rules t room (requestsAsRoot flags lifetime) = refl
+else-the-rules t room (breaks c neighbour) = refl
 
 outside-fits : All (λ (e : Event). ActionFits (e .action)) (outside .events)
 unfolding All

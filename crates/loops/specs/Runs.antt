@@ -95,7 +95,7 @@ towardsD n base events =
       from = A;
     }
 
--- the premise of demand 3
+-- the premise of demand 3 for this destination
 unfoldable pub isWithinWindow : Rules → Run → Bool
 isWithinWindow rules r = throughout rules (allWithin (r .destination) (r .base)) (start (r .points)) (r .events)
 
@@ -121,10 +121,7 @@ walked r m = walkLine (walkedAtExit (walk (flatMap (λ t. t) (m .tables)) (lengt
 unfoldable pub heldIn : Run → Mesh → List ℕ
 heldIn r m = map (λ (n : SequenceNumber). n .0) (flatMap (held (r .destination)) (m .tables))
 
--- the lines of the bench for calls: for each event the answer and how many frames are emitted
-abbrev pub lineOf : Exit → List ℕ → List ℕ
-lineOf x rest = x .answer ∷ x .frames ∷ rest
-
+-- the lines of the bench for calls: for each event the answer and how many frames are emitted; 0 and 0 where it is no call
 abbrev pub decisionOf : Rules → ℕ → Option (List ℕ) → Option Call → Decision Effect
 decisionOf rules room none call = refused 0
 decisionOf rules room (some t) none = refused 0
@@ -133,8 +130,8 @@ decisionOf rules room (some t) (some call) = rules t room call
 unfoldable pub linesFrom : Rules → Mesh → List Event → List ℕ
 linesFrom rules m [] = []
 linesFrom rules m (e ∷ events) =
-    lineOf (atExit [] [] (decisionOf rules (e .room) (tableOf (e .point) (m .tables)) (callOf (m .log) (e .action))))
-    (linesFrom rules (happen rules m e) events)
+    let x : Exit = atExit [] [] (decisionOf rules (e .room) (tableOf (e .point) (m .tables)) (callOf (m .log) (e .action))) in
+    x .answer ∷ x .frames ∷ linesFrom rules (happen rules m e) events
 
 unfoldable pub lines : Rules → Run → List ℕ
 lines rules r = linesFrom rules (start (r .points)) (r .events)
@@ -218,8 +215,9 @@ wentRound rules =
     -- every call is accepted with one frame, but B's eighth, the late element, which is refused
     ∷ agree eqb (lines rules roundZero)
     (0 ∷ 1 ∷ 0 ∷ 1 ∷ 0 ∷ 1 ∷ 0 ∷ 1 ∷ 0 ∷ 1 ∷ 0 ∷ 1 ∷ 0 ∷ 1 ∷ 25 ∷ 0 ∷ 0 ∷ 1 ∷ 0 ∷ 1 ∷ 0 ∷ 1 ∷ 0 ∷ 1 ∷ [])
-    -- what A, B and D hold after four events, and in the end
+    -- what A, B and D hold after four events, after eight, and in the end
     ∷ agree eqb (heldIn roundZero (after 4 rules roundZero)) (4_294_967_295 ∷ 0 ∷ 4_294_967_295 ∷ [])
+    ∷ agree eqb (heldIn roundZero (after 8 rules roundZero)) (0 ∷ 0 ∷ 0 ∷ [])
     ∷ agree eqb (heldIn roundZero m) (1 ∷ 1 ∷ 1 ∷ [])
     -- the walks of document 01 and of demand 3
     ∷ agree eqb (walked roundZero m) (0 ∷ 2 ∷ [])
@@ -334,7 +332,7 @@ counterexamples = plainNumbers ∷ equalReply ∷ equalIfInactive ∷ dropped �
 
 -- ---- a loop under the rules, outside the premise
 
--- No base has 1, 3 and 2,147,483,650 in its window.
+-- No window has 1, 3 and 2,147,483,650.
 abbrev pub outside : Run
 outside =
     towardsD (2 ^ 31 + 1) 0

@@ -23,10 +23,13 @@ use Rattle.rules.specs.Lists.{all}
 use Rattle.rules.specs.Outcome.{Frame, Effect, frameOctets}
 use Rattle.rules.specs.Fresh.{makeFresh}
 use Rattle.rules.specs.Forget.{forget}
+use Rattle.rules.specs.Errors.{broken}
+use Rattle.rules.specs.Receive.{isStaleFor}
 use Rattle.rules.specs.Calls.{Call, outcome, OperandsFit}
 use Rattle.edges.specs.Edges.{edges, shutOut}
 use Rattle.loops.specs.Mesh.{Point, start, Action, delivers, asks, announces, requestsAsRoot, breaks, readsOnly, Event, run, throughout, met}
 use Rattle.loops.specs.Premise.{allWithin}
+use Rattle.loops.specs.WrongRules.{ruledBy, receivingBy, breakingBy}
 use Rattle.loops.specs.Runs.{worked, wentRound, loops, counterexamples, outside, outsideLoops}
 
 -- ---- P1 to P8 (`p1-to-p8`): every test in the list passes
@@ -120,7 +123,7 @@ LoopFree =
 abbrev pub NotVacuous : Type 0
 NotVacuous = all (λ b. b) (worked outcome ++ wentRound outcome) ≡ true
 
--- ---- sharp (`sharp`, `needs-its-premise`)
+-- ---- sharp (`sharp`, `else-the-rules`, `needs-its-premise`)
 
 -- Five wrong rules (`WrongRules.antt`), each with a list of calls that meets the premise and ends with a walk that meets a point
 -- twice: numbers compared as plain numbers, the reply of 11-06-1778 that takes an equal number with a worse metric,
@@ -131,6 +134,12 @@ NotVacuous = all (λ b. b) (worked outcome ++ wentRound outcome) ≡ true
 -- first and a break that leaves the metric; code that is proved equal to the rules, and tests, exclude all.)
 abbrev pub Sharp : Type 0
 Sharp = all loops counterexamples ≡ true
+
+-- Put together the same way, but with the rules' own test of refusal 25 and their own change of a broken row, they are the rules:
+-- so each differs from them in the one sentence that it changes (`else-the-rules`).
+abbrev pub ElseTheRules : Type 0
+ElseTheRules =
+    (t : List ℕ) (room : ℕ) (call : Call) → ruledBy (receivingBy (λ e. isStaleFor)) (breakingBy broken) t room call ≡ outcome t room call
 
 -- One list of calls loops under the rules themselves; so no base has all its numbers in its window.
 abbrev pub NeedsPremise : Type 0

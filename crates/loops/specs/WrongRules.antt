@@ -7,14 +7,13 @@ use lib.Dec.{eqb, ltb}
 use Rattle.table.specs.declared.address.Address.{Address}
 use Rattle.table.specs.declared.row.Row.{Row}
 use Rattle.table.specs.Row.{active, freeRow, invalidated, raised}
-use Rattle.table.specs.Layout.{headAt, putHead}
-use Rattle.table.specs.Table.{rowFor, eachHeld}
+use Rattle.table.specs.Table.{number, rowFor, eachHeld}
 use Rattle.element.specs.declared.PathInfo.{PathInfo}
 use Rattle.element.specs.Element.{Element, rann, rreq, rrep, rerr}
 use Rattle.element.specs.Octets.{readElement}
 use Rattle.rules.specs.Decision.{Check, Ruling, decide, refuse_when_}
 use Rattle.rules.specs.Lists.{has}
-use Rattle.rules.specs.Outcome.{Effect}
+use Rattle.rules.specs.Outcome.{Effect, underHead}
 use Rattle.rules.specs.Learn.{Arrival}
 use Rattle.rules.specs.Errors.{isThrough}
 use Rattle.rules.specs.Receive.{ofPath, isStaleFor, receiving}
@@ -55,9 +54,8 @@ with25 stale = ruledBy (receivingBy stale) breaking
 -- carry the stepped numbers.
 abbrev pub breakingBy : (Row → Row) → List ℕ → ℕ → ℕ → Address → Ruling Effect
 breakingBy f t room c neighbour =
-    let e : Effect = brokenOff t c neighbour in
     let u : List ℕ = eachHeld (λ r. cond (isThrough c neighbour r) (f r) r) t in
-    withOutcome (record { table = putHead u (headAt (e .table)); frames = e .frames }) (breaking t room c neighbour)
+    withOutcome (record { table = underHead t (number t) c u; frames = brokenOff t c neighbour .frames }) (breaking t room c neighbour)
 
 abbrev pub withBroken : (Row → Row) → Rules
 withBroken f = ruledBy receiving (breakingBy f)

@@ -2,12 +2,11 @@
 use Prim.Native.Nat.{ℕ, _-_, _^_}
 use mathlib.Core.Bool.{not}
 use mathlib.Core.List.{List}
-use lib.Dec.{ltb}
 use Rattle.table.specs.declared.address.Address.{Address}
 use Rattle.table.specs.Address.{individual, same}
 use Rattle.table.specs.Layout.{sized}
 use Rattle.table.specs.Table.{own, number, clock, isTable, eachHeld}
-use Rattle.rules.specs.Decision.{Decision, Ruling, decide, refuse_when_, accept, _>>_}
+use Rattle.rules.specs.Decision.{Decision, Ruling, decide, refuse_when_, _above_, _below_, accept, _>>_}
 use Rattle.rules.specs.Outcome.{Effect, underHead}
 use Rattle.rules.specs.Errors.{afterBreak, brokenEntries, errorsFor}
 
@@ -22,11 +21,11 @@ brokenOff t c neighbour =
 abbrev pub breaking : List ℕ → ℕ → ℕ → Address → Ruling Effect
 breaking t room c neighbour = do
   refuse 1 when not (sized t)
-  refuse 2 when ltb room 1560
-  refuse 3 when ltb (2 ^ 48 - 1) c
+  refuse 2 when room below 1560
+  refuse 3 when c above 2 ^ 48 - 1
   refuse 4 when not (individual neighbour)
   refuse 21 when not (isTable t)
-  refuse 22 when ltb c (clock t)
+  refuse 22 when c below clock t
   refuse 23 when same neighbour (own t)
   accept (brokenOff t c neighbour)
 

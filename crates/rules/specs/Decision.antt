@@ -2,6 +2,7 @@
 use Prim.Native.Nat.{ℕ}
 use mathlib.Core.Bool.{Bool, cond}
 use mathlib.Core.List.{List, [], _∷_}
+use lib.Dec.{ltb}
 
 pub data Decision (A : Type 0) : Type 0 where
   refused : ℕ → Decision A
@@ -21,6 +22,15 @@ pub record Ruling (A : Type 0) : Type 0 where
 infix 6 refuse_when_
 abbrev pub refuse_when_ : ℕ → Bool → Check
 refuse_when_ n b = record { number = n; applies = b }
+
+-- the comparisons of the checks, in words
+infix 45 _above_
+abbrev pub _above_ : ℕ → ℕ → Bool
+_above_ x bound = ltb bound x
+
+infix 45 _below_
+abbrev pub _below_ : ℕ → ℕ → Bool
+_below_ x bound = ltb x bound
 
 abbrev pub accept : {A : Type 0} → A → Ruling A
 accept a = record { checks = []; otherwise = a }

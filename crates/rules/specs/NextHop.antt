@@ -3,7 +3,6 @@ use Prim.Native.Nat.{ℕ, _-_, _^_}
 use mathlib.Core.Bool.{Bool, not}
 use mathlib.Core.List.{List}
 use mathlib.Core.Option.{Option, none, some}
-use lib.Dec.{ltb}
 use Rattle.table.specs.declared.address.Address.{Address}
 use Rattle.table.specs.declared.row.Row.{Row}
 use Rattle.table.specs.Address.{individual}
@@ -11,7 +10,7 @@ use Rattle.table.specs.Row.{active}
 use Rattle.table.specs.Layout.{sized}
 use Rattle.table.specs.Table.{clock, isTable, rowFor}
 use Rattle.rules.specs.Lists.{has}
-use Rattle.rules.specs.Decision.{Decision, Ruling, decide, refuse_when_, accept, _>>_}
+use Rattle.rules.specs.Decision.{Decision, Ruling, decide, refuse_when_, _above_, _below_, accept, _>>_}
 
 -- the row is there and active at clock c
 abbrev pub activeAt : ℕ → Option Row → Bool
@@ -31,10 +30,10 @@ alongRow c row = do
 abbrev pub findingNextHop : List ℕ → ℕ → Address → Ruling Address
 findingNextHop t c destination = do
   refuse 1 when not (sized t)
-  refuse 3 when ltb (2 ^ 48 - 1) c
+  refuse 3 when c above 2 ^ 48 - 1
   refuse 9 when not (individual destination)
   refuse 21 when not (isTable t)
-  refuse 22 when ltb c (clock t)
+  refuse 22 when c below clock t
   alongRow c (rowFor t destination)
 
 unfoldable pub nextHop : List ℕ → ℕ → Address → Decision Address

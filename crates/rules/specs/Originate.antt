@@ -4,7 +4,7 @@ use Prim.Native.Nat.{ℕ, _*_, _/_, _%_}
 use mathlib.Core.Bool.{Bool, not, _&&_, _||_, cond}
 use mathlib.Core.List.{List, [], _∷_, map}
 use mathlib.Core.Option.{Option, none, some}
-use lib.Dec.{eqb, leb, ltb}
+use lib.Dec.{eqb, leb}
 use lib.ListN.{length, getD}
 use Rattle.octets.specs.LittleEndian.{fieldsAt}
 use Rattle.counters.specs.declared.SequenceNumber.{SequenceNumber}
@@ -19,7 +19,7 @@ use Rattle.element.specs.declared.list.ListKind.the-variants.{NumberedAddresses
 use Rattle.element.specs.Element.{rann, rreq}
 use Rattle.element.specs.Entries.{each}
 use Rattle.element.specs.Lists.{allOnes, anyForbidden, among, twice}
-use Rattle.rules.specs.Decision.{Decision, Ruling, decide, refuse_when_, accept, _>>_}
+use Rattle.rules.specs.Decision.{Decision, Ruling, decide, refuse_when_, _above_, _below_, accept, _>>_}
 use Rattle.rules.specs.Lists.{any}
 use Rattle.rules.specs.Outcome.{Effect, headWith}
 use Rattle.rules.specs.Onward.{toAll}
@@ -91,10 +91,10 @@ askedFor t i = record { flags = i .flags; address = i .address; number = knownNu
 abbrev pub asking : List ℕ → ℕ → ℕ → List ℕ → Ruling Effect
 asking t room lifetime s = do
   refuse 1 when not (sized t)
-  refuse 2 when ltb room 1560
+  refuse 2 when room below 1560
   refuse 8 when not (itemsFit s)
   refuse 9 when anyForbidden NumberedAddresses (itemAddresses (itemsIn s))
-  refuse 10 when twice (itemAddresses (itemsIn s)) || any (λ (i : Item). ltb 3 (i .flags)) (itemsIn s)
+  refuse 10 when twice (itemAddresses (itemsIn s)) || any (λ (i : Item). i .flags above 3) (itemsIn s)
   refuse 11 when eqb lifetime 0
   refuse 21 when not (isTable t)
   refuse 24 when among (own t) (itemAddresses (itemsIn s))
@@ -108,8 +108,8 @@ ask t room lifetime s = decide (asking t room lifetime s)
 abbrev pub announcing : List ℕ → ℕ → ℕ → ℕ → Ruling Effect
 announcing t room flags lifetime = do
   refuse 1 when not (sized t)
-  refuse 2 when ltb room 1560
-  refuse 10 when ltb 1 flags
+  refuse 2 when room below 1560
+  refuse 10 when flags above 1
   refuse 11 when eqb lifetime 0
   refuse 21 when not (isTable t)
   accept (announced t flags lifetime)
@@ -125,7 +125,7 @@ allWithDOAndRF = record { flags = 3; address = allOnes; number = record { 0 = 0 
 abbrev pub requestingAsRoot : List ℕ → ℕ → ℕ → ℕ → Ruling Effect
 requestingAsRoot t room flags lifetime = do
   refuse 1 when not (sized t)
-  refuse 2 when ltb room 1560
+  refuse 2 when room below 1560
   refuse 10 when not (eqb flags 0 || eqb flags 1 || eqb flags 4 || eqb flags 5)
   refuse 11 when eqb lifetime 0
   refuse 21 when not (isTable t)

@@ -20,7 +20,7 @@ use Rattle.element.specs.declared.list.ListKind.the-variants.{Targets, Numbered
 use Rattle.element.specs.Element.{Element, rann, rreq, rrep, rerr}
 use Rattle.element.specs.Octets.{wrongLength, otherId, misfit, readElement}
 use Rattle.element.specs.Lists.{allOnes, anyForbidden, among, twice, onesBesideOthers}
-use Rattle.rules.specs.Decision.{Decision, Ruling, decide, refuse_when_, accept, _>>_}
+use Rattle.rules.specs.Decision.{Decision, Ruling, decide, refuse_when_, _above_, _below_, accept, _>>_}
 use Rattle.rules.specs.Lists.{any, those, has}
 use Rattle.rules.specs.Flags.{unicast}
 use Rattle.rules.specs.Outcome.{Effect, underHead}
@@ -145,8 +145,8 @@ module _ (t : List ℕ) (a : Arrival) where
 abbrev pub receiving : List ℕ → ℕ → Arrival → List ℕ → Ruling Effect
 receiving t room a s = do
   refuse 1 when not (sized t)
-  refuse 2 when ltb room 1560
-  refuse 3 when ltb (2 ^ 48 - 1) (a .clock)
+  refuse 2 when room below 1560
+  refuse 3 when a .clock above 2 ^ 48 - 1
   refuse 4 when not (individual (a .transmitter))
   refuse 5 when eqb (a .link .0) 0
   refuse 6 when wrongLength s
@@ -156,15 +156,15 @@ receiving t room a s = do
   refuse 10 when hasBadList (readElement s)
   refuse 11 when ofPath (λ p. eqb (p .lifetime) 0) (readElement s)
   refuse 12 when ofPath (λ p. eqb (p .hops .0) 255) (readElement s)
-  refuse 13 when ofPath (λ p. ltb (2 ^ 32 - 2) (metricHere a p .0)) (readElement s)
+  refuse 13 when ofPath (λ p. metricHere a p .0 above 2 ^ 32 - 2) (readElement s)
   refuse 14 when isLowTtlReply (readElement s)
   refuse 21 when not (isTable t)
-  refuse 22 when ltb (a .clock) (clock t)
+  refuse 22 when a .clock below clock t
   refuse 23 when same (a .transmitter) (own t)
   refuse 24 when ofPath (λ p. same (p .subject) (own t)) (readElement s)
   refuse 25 when ofPath (isStale t a) (readElement s)
   refuse 26 when matchesNothing t a (readElement s)
-  refuse 27 when ofPath (λ p. ltb (freeRows t) (rowsNeeded t a p)) (readElement s)
+  refuse 27 when ofPath (λ p. rowsNeeded t a p above freeRows t) (readElement s)
   accept (received t a (readElement s))
 
 unfoldable pub receive : List ℕ → ℕ → Arrival → List ℕ → Decision Effect

@@ -4,7 +4,7 @@ use Prim.Native.Nat.{ℕ, zero, suc, _+_, _-_, _*_, _/_, _^_}
 use mathlib.Core.Bool.{Bool, not, _&&_, _||_, cond}
 use mathlib.Core.List.{List, [], _∷_, map}
 use mathlib.Core.Option.{Option, none, some}
-use lib.Dec.{eqb, leb, ltb}
+use lib.Dec.{eqb, leb}
 use lib.ListN.{length, take, drop}
 use Rattle.table.specs.declared.address.Address.{Address}
 use Rattle.table.specs.declared.row.Row.{Row}
@@ -14,7 +14,7 @@ use Rattle.table.specs.Layout.{sized}
 use Rattle.table.specs.Table.{clock, isTable, rowFor}
 use Rattle.element.specs.Entries.{each}
 use Rattle.element.specs.Lists.{among, twice}
-use Rattle.rules.specs.Decision.{Decision, refused, accepted, Ruling, decide, refuse_when_, accept, _>>_}
+use Rattle.rules.specs.Decision.{Decision, refused, accepted, Ruling, decide, refuse_when_, _above_, _below_, accept, _>>_}
 use Rattle.rules.specs.Lists.{any}
 
 -- ---- 1 to 16 tables of one length, side by side
@@ -83,11 +83,11 @@ walkedAtExit (accepted w) = w
 abbrev pub walking : List ℕ → ℕ → ℕ → Address → Address → Ruling Walked
 walking s count c start d = do
   refuse 1 when not (sideBySide s count)
-  refuse 3 when ltb (2 ^ 48 - 1) c
+  refuse 3 when c above 2 ^ 48 - 1
   refuse 9 when not (individual d)
   refuse 10 when not (among start (points (tablesIn s count))) || twice (points (tablesIn s count))
   refuse 21 when any (λ (t : List ℕ). not (isTable t)) (tablesIn s count)
-  refuse 22 when any (λ (t : List ℕ). ltb c (clock t)) (tablesIn s count)
+  refuse 22 when any (λ (t : List ℕ). c below clock t) (tablesIn s count)
   accept (follow (tablesIn s count) c d count start 0)
 
 unfoldable pub walk : List ℕ → ℕ → ℕ → Address → Address → Decision Walked
