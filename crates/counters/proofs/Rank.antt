@@ -66,8 +66,9 @@ module _ {base : ℕ} (small : base < 2 ^ 32) {s t : SequenceNumber} (hs : Windo
   unfolding wrapped
   newer-ahead h =
       let signs = and-eq-true-iff (ltb 0 (wrapped (s .0) (t .0))) (ltb (wrapped (s .0) (t .0)) (2 ^ 31)) .0 (rw newer-by at h) in
-      ahead
-      (omega (arith, ltb-true 0 (wrapped (s .0) (t .0)) (signs .0), ltb-true (wrapped (s .0) (t .0)) (2 ^ 31) (signs .1), hs .fits, hs .near, ht .fits, ht .near))
+      let above = ltb-true 0 (wrapped (s .0) (t .0)) (signs .0) in
+      let below = ltb-true (wrapped (s .0) (t .0)) (2 ^ 31) (signs .1) in
+      ahead (omega (arith, above, below, hs .fits, hs .near, ht .fits, ht .near))
 
 -- the next number is ahead, where it still lies inside the window
 pub next-ahead : {base : ℕ} → base < 2 ^ 32 → {t : SequenceNumber} {m m′ : ℕ} → Window base t → Window base (nextNumber t)

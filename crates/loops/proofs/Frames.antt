@@ -108,7 +108,8 @@ module _ (d : Address) (base : ℕ) (u : List ℕ) (a : Arrival) (p : PathInfo) 
   own-reply-backed : (n : SequenceNumber) → Replies (reply a p (own u) n (record { 0 = 0 }) (record { 0 = 0 }) ∷ [])
   own-reply-backed n = reply-backed d base (own u) (rowFor u d) a p (own u) n (record { 0 = 0 }) (record { 0 = 0 }) inl
 
-  row-stands : (to : Address) (r : Row) → rowFor u to ≡ some r → eqb (r .known) 1 ≡ true → r .destination ≡ d → Stands base (rowFor u d) (r .number) (r .metric .0)
+  row-stands : (to : Address) (r : Row) → rowFor u to ≡ some r → eqb (r .known) 1 ≡ true → r .destination ≡ d
+      → Stands base (rowFor u d) (r .number) (r .metric .0)
   row-stands to r found known about =
       record {
         row = r;

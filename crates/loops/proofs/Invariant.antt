@@ -174,9 +174,11 @@ module _ (d : Address) (base : ℕ) (m : Mesh) (inv : Inv d base m) (a : Address
   sound = fine .sound (rw row-same at near)
 
   -- a statement about the rows after the call: it holds at the point of the call, and elsewhere it held before
-  each : (P : Address → Option Row → Type 0) → P a (rowFor (e .table) d) → ((b : Address) → P b (rowAt d (m .tables) b)) → (b : Address) → P b (rowAt d tables′ b)
+  each : (P : Address → Option Row → Type 0) → P a (rowFor (e .table) d) → ((b : Address) → P b (rowAt d (m .tables) b))
+      → (b : Address) → P b (rowAt d tables′ b)
   each P at elsewhere b =
-      ⊎-elim (λ q. subst (λ (x : Address). P x (rowAt d tables′ x)) q (rw row-same at)) (λ apart. rw (row-other b apart) (elsewhere b)) (equal-or-not a b)
+      ⊎-elim (λ q. subst (λ (x : Address). P x (rowAt d tables′ x)) q (rw row-same at))
+      (λ apart. rw (row-other b apart) (elsewhere b)) (equal-or-not a b)
 
   abbrev BackedNow : Sent → Type 0
   BackedNow s = Backed d base (s .sender) (rowAt d tables′ (s .sender)) (pathIn (s .octets))

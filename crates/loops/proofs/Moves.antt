@@ -63,7 +63,8 @@ module _ (d : Address) (base : ℕ) (small : base < 2 ^ 32) (log : List Sent) (t
         found = k;
         known = refl;
         good = at-least-trans
-            (path-no-worse base small t a p (h .fresh) (st .row) (ap (rowFor t) e ∙ st .found) (st .known) (near′ _ k refl) (near (st .row) (st .found) (st .known)))
+            (path-no-worse base small t a p (h .fresh) (st .row) (ap (rowFor t) e ∙ st .found) (st .known)
+            (near′ _ k refl) (near (st .row) (st .found) (st .known)))
             (st .good);
       }
   learnt-stands-on o′ (other apart (renewal e takes k)) near near′ st =

@@ -89,5 +89,7 @@ pub needs-its-premise : NeedsPremise
 unfolding outsideLoops way endOf
 needs-its-premise = (
   outside-loops,
-  λ base small. false-of _ (λ within. true-not-false outside-loops (LoopFree.loop-free (outside .destination) base small (outside .points) (outside .events) outside-fits within _ _)),
+  λ base small. false-of _ (λ within.
+      let no-loop = LoopFree.loop-free (outside .destination) base small (outside .points) (outside .events) outside-fits within in
+      true-not-false outside-loops (no-loop _ _)),
 )

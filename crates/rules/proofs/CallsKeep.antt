@@ -89,12 +89,14 @@ module _ (t : List ℕ) (a : Arrival) where
       let u : List ℕ = learnt a (f .path) t in
       let k : Keeps t u = learnt-keeps t a (f .path) h in
       let done : Answered = allAnswered u a (f .path) (number t) targets in
-      let fit : AnsweredFits (length targets) done = all-answered-fits u (k .whole) a (f .path) (h .fits) (number t) (number-fits t (ok .whole)) targets (ok .fits .entries) in
+      let fit : AnsweredFits (length targets) done =
+      all-answered-fits u (k .whole) a (f .path) (h .fits) (number t) (number-fits t (ok .whole)) targets (ok .fits .entries) in
       let few = leb-true (length targets) 20 (and-eq-true-iff (leb 1 (length targets)) (leb (length targets) 20) .0 (ok .fits .count) .1) in
       record {
         leaves = at-clock (rreq f targets) ok u k (done .number) (fit .number);
         frames = all-append (λ (x : Frame). Fits (x .element)) (done .replies) (rreqOnward u a f (done .kept)) (fit .replies)
-            (rreq-onward-fits a f (ok .fits .fields .1 .1 .1 .0) (h .fits) (h .hops) (h .metric) u (done .kept) (fit .kept) (omega (arith, few, fit .fewer)));
+            (rreq-onward-fits a f (ok .fits .fields .1 .1 .1 .0) (h .fits) (h .hops) (h .metric) u (done .kept) (fit .kept)
+            (omega (arith, few, fit .fewer)));
       }
 
   rerr-kept : (flags : ℕ) (destinations : List NumberedAddress) → Accepted t a (rerr flags destinations) → Kept t (rerrReceived t a flags destinations)

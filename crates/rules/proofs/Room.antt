@@ -118,7 +118,9 @@ module _ (u : List ℕ) (a : Arrival) where
 module _ (u : List ℕ) (a : Arrival) (p : PathInfo) where
   reply-length : (to : Address) (n : SequenceNumber) (hops : HopCount) (metric : Metric) → length (frameOctets (reply a p to n hops metric ∷ [])) ≤ 40
   unfolding frameOctets flatMap reply
-  reply-length to n hops metric = omega (arith, length-append (writeFrame (a .transmitter) (reply a p to n hops metric .element)) [], frame-length (a .transmitter) (reply a p to n hops metric .element))
+  reply-length to n hops metric =
+      let e : Element = reply a p to n hops metric .element in
+      omega (arith, length-append (writeFrame (a .transmitter) e) [], frame-length (a .transmitter) e)
 
   abbrev Small : Answered → Type 0
   Small x = length (frameOctets (x .replies)) ≤ 40
