@@ -24,7 +24,7 @@ use Rattle.rules.specs.Outcome.{Frame, Effect}
 use Rattle.rules.specs.Learn.{Arrival, learnt}
 use Rattle.rules.specs.Destinations.{Answered, allAnswered}
 use Rattle.rules.specs.Onward.{onward, toAll, rannOnward, rreqOnward, rrepOnward}
-use Rattle.rules.specs.Errors.{afterError, afterBreak, brokenEntries}
+use Rattle.rules.specs.Errors.{afterError, afterBreak, brokenEntries, errorAt}
 use Rattle.rules.specs.Receive.{pathOf, rannReceived, rrepReceived, rreqReceived, rerrReceived, received, receiving, receive}
 use Rattle.rules.specs.Originate.{ownPath, announced, requested, asking, ask, announcing, announce, requestingAsRoot, rootRequest}
 use Rattle.rules.specs.Break.{brokenOff, breaking, breakNeighbour}
@@ -34,12 +34,13 @@ use Rattle.rules.proofs.Alls.{all-append}
 use Rattle.rules.proofs.AsGood.{InWindow, Falls, break-falls, error-falls}
 use Rattle.rules.proofs.Learning.{Heard, learnt-keeps}
 use Rattle.rules.proofs.Falling.{break-keeps-row, error-keeps-row}
+use Rattle.rules.proofs.Emitting.{to-all-emitted, rann-emitted, rreq-emitted, rrep-emitted, errors-emitted}
 use Rattle.rules.proofs.Accepted.{Accepted, accepted-element}
 use Rattle.rules.proofs.CallsKeep.{Kept, call-kept}
 use Rattle.loops.specs.Mesh.{Sent}
 use Rattle.loops.proofs.Invariant.{Near, Backed, pathIn, Sound, Fine, stay, backed-path, backed-none}
 use Rattle.loops.proofs.Moves.{changed-move, learnt-move, learnt-absent, learnt-stands}
-use Rattle.loops.proofs.Frames.{AllBacked, to-all-backed, errors-backed, rann-backed, rreq-backed, rrep-backed, replies-backed}
+use Rattle.loops.proofs.Frames.{AllBacked, replies-backed}
 
 -- an element that is received is one of the log, from its sender
 abbrev pub FromLog : List Sent → Call → Type 0
@@ -60,7 +61,7 @@ module _ (d : Address) (base : ℕ) (log : List Sent) (t : List ℕ) where
       record {
         move = rw row (stay (rowFor t d));
         absent = λ self before. row ∙ before;
-        backed = to-all-backed d base (own t) (rowFor (putHead t h) d) e (rw is (backed-path _ inl));
+        backed = to-all-emitted (λ (x : Element). Backed d base (own t) (rowFor (putHead t h) d) (pathOf x)) e (rw is (backed-path _ inl)) .each;
       }
 
   requested-sound : (flags lifetime : ℕ) (targets : List Target) → Sound d base log t (requested t flags lifetime targets)
@@ -87,10 +88,10 @@ module _ (d : Address) (base : ℕ) (small : base < 2 ^ 32) (log : List Sent) (t
 
   break-sound : (c : ℕ) (neighbour : Address) → Near base (rowFor (brokenOff t c neighbour .table) d)
       → Sound d base log t (brokenOff t c neighbour)
-  unfolding brokenOff
+  unfolding brokenOff errorAt
   break-sound c neighbour =
       fallen-sound (afterBreak c neighbour) (break-keeps-row c neighbour) (break-falls base small c neighbour) _ _
-      (errors-backed d base (own t) _ (brokenEntries t c neighbour))
+      (errors-emitted (λ (x : Element). Backed d base (own t) _ (pathOf x)) (brokenEntries t c neighbour) (λ i l. backed-none) .each)
 
   -- ---- an element from the log
 
@@ -119,12 +120,16 @@ module _ (d : Address) (base : ℕ) (small : base < 2 ^ 32) (log : List Sent) (t
       unfolding u onward
       onward-backed = backed-path _ (λ about. inr (learnt-stands d t a p heard base about))
 
+    -- an element is backed by the row for d after steps 1 and 2
+    abbrev BackedAfter : PathInfo → Element → Type 0
+    BackedAfter p e = Backed d base (own (learnt a p t)) (rowFor (learnt a p t) d) (pathOf e)
+
     rann-sound : (p : PathInfo) → pathIn (s .octets) ≡ some p → Heard t a p → Near base (rowFor (rannReceived t a p .table) d)
         → Sound d base log t (rannReceived t a p)
     unfolding rannReceived u
     rann-sound p has heard =
         heard-sound p has heard _ (rannOnward a p)
-        (rann-backed d base (own (learnt a p t)) (rowFor (learnt a p t) d) a p (onward-backed p has heard))
+        (rann-emitted (BackedAfter p) a p (onward-backed p has heard) .each)
 
     rrep-sound : (f : RrepFields) (dependents : List NumberedAddress) → pathIn (s .octets) ≡ some (f .path) → Heard t a (f .path)
         → Near base (rowFor (rrepReceived t a f dependents .table) d) → Sound d base log t (rrepReceived t a f dependents)
@@ -132,7 +137,7 @@ module _ (d : Address) (base : ℕ) (small : base < 2 ^ 32) (log : List Sent) (t
     rrep-sound f dependents has heard =
         let v : List ℕ = learnt a (f .path) t in
         heard-sound (f .path) has heard _ (rrepOnward (learnt a (f .path) t) a f dependents)
-        (rrep-backed d base (own v) (rowFor v d) v a f dependents (onward-backed (f .path) has heard))
+        (rrep-emitted (BackedAfter (f .path)) v a f dependents (onward-backed (f .path) has heard) .each)
 
     rreq-sound : (f : RreqFields) (targets : List Target) → pathIn (s .octets) ≡ some (f .path) → Heard t a (f .path)
         → Near base (rowFor (rreqReceived t a f targets .table) d) → Sound d base log t (rreqReceived t a f targets)
@@ -143,7 +148,7 @@ module _ (d : Address) (base : ℕ) (small : base < 2 ^ 32) (log : List Sent) (t
         heard-sound (f .path) has heard _ (done .replies ++ rreqOnward v a f (done .kept))
         (all-append (λ (g : Frame). Backed d base (own v) (rowFor v d) (pathOf (g .element))) (done .replies) (rreqOnward v a f (done .kept))
         (replies-backed d base v a (f .path) (number t) targets)
-        (rreq-backed d base (own v) (rowFor v d) v a f (onward-backed (f .path) has heard) (done .kept)))
+        (rreq-emitted (BackedAfter (f .path)) v a f (done .kept) (λ _. onward-backed (f .path) has heard) .each))
 
     received-sound : (e : Element) → readElement (s .octets) ≡ e → Accepted t a e → Near base (rowFor (received t a e .table) d)
         → Sound d base log t (received t a e)
@@ -155,7 +160,7 @@ module _ (d : Address) (base : ℕ) (small : base < 2 ^ 32) (log : List Sent) (t
         fallen-sound (afterError (a .clock) (a .transmitter) destinations)
         (error-keeps-row (a .clock) (a .transmitter) destinations (ok .fits .entries))
         (error-falls base small (a .clock) (a .transmitter) destinations) _ _
-        (to-all-backed d base (own t) _ _ backed-none)
+        (to-all-emitted (λ (x : Element). Backed d base (own t) _ (pathOf x)) _ backed-none .each)
 
   -- ---- every call
 

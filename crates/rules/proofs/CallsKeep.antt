@@ -46,7 +46,8 @@ use Rattle.rules.proofs.Alls.{all-append, all-map, all-those, those-few
 use Rattle.rules.proofs.Tables.{Whole, whole, Keeps, Leaves, own-fits, number-fits, request-fits, clock-small, head-leaves}
 use Rattle.rules.proofs.Learning.{PathFits, Heard, learnt-keeps}
 use Rattle.rules.proofs.Falling.{next-fits, break-keeps, error-keeps}
-use Rattle.rules.proofs.Sending.{FramesFit, AnsweredFits, to-all-fits, rann-fits, rreq-fits, rerr-fits, rann-onward-fits, rreq-onward-fits, rrep-onward-fits, all-answered-fits, entries-fit, errors-fit}
+use Rattle.rules.proofs.Emitting.{to-all-emitted}
+use Rattle.rules.proofs.Sending.{FramesFit, AnsweredFits, replies-fit, rann-fits, rreq-fits, rerr-fits, rann-onward-fits, rreq-onward-fits, rrep-onward-fits, all-answered-fits, entries-fit, errors-fit}
 use Rattle.rules.proofs.Accepted.{Accepted, accepted-element}
 
 -- the call leaves a table of the same point, and emits what fits
@@ -89,12 +90,12 @@ module _ (t : List ℕ) (a : Arrival) where
       let u : List ℕ = learnt a (f .path) t in
       let k : Keeps t u = learnt-keeps t a (f .path) h in
       let done : Answered = allAnswered u a (f .path) (number t) targets in
-      let fit : AnsweredFits (length targets) done =
-      all-answered-fits u (k .whole) a (f .path) (h .fits) (number t) (number-fits t (ok .whole)) targets (ok .fits .entries) in
+      let fit : AnsweredFits (length targets) done = all-answered-fits u a (f .path) (number t) (number-fits t (ok .whole)) targets (ok .fits .entries) in
       let few = leb-true (length targets) 20 (and-eq-true-iff (leb 1 (length targets)) (leb (length targets) 20) .0 (ok .fits .count) .1) in
       record {
         leaves = at-clock (rreq f targets) ok u k (done .number) (fit .number);
-        frames = all-append (λ (x : Frame). Fits (x .element)) (done .replies) (rreqOnward u a f (done .kept)) (fit .replies)
+        frames = all-append (λ (x : Frame). Fits (x .element)) (done .replies) (rreqOnward u a f (done .kept))
+            (replies-fit u (k .whole) a (f .path) (h .fits) (number t) targets)
             (rreq-onward-fits a f (ok .fits .fields .1 .1 .1 .0) (h .fits) (h .hops) (h .metric) u (done .kept) (fit .kept)
             (omega (arith, few, fit .fewer)));
       }
@@ -107,9 +108,9 @@ module _ (t : List ℕ) (a : Arrival) where
       record {
         leaves = at-clock (rerr flags destinations) ok _
             (error-keeps (a .clock) (a .transmitter) destinations (ok .fits .entries) t (ok .whole)) (number t) (number-fits t (ok .whole));
-        frames = to-all-fits (rerr flags (those test destinations))
+        frames = to-all-emitted Fits (rerr flags (those test destinations))
             (rerr-fits flags (those test destinations) (ok .fits .fields .0) (all-those FitsNumbered test destinations (ok .fits .entries))
-            (those-some test destinations (not-false (any test destinations) (ok .matched))) (omega (arith, few, those-fewer test destinations)));
+            (those-some test destinations (not-false (any test destinations) (ok .matched))) (omega (arith, few, those-fewer test destinations))) .each;
       }
 
   received-kept : (e : Element) → Accepted t a e → Kept t (received t a e)
@@ -147,7 +148,7 @@ module _ (t : List ℕ) (w : Whole t) where
   announced-kept flags lifetime f l =
       record {
         leaves = head-leaves t t w same-table (nextNumber (number t)) (requestId t) (clock t) (next-fits (number t)) (request-fits t w) (clock-small t w);
-        frames = to-all-fits (rann (ownPath t flags lifetime)) (rann-fits (ownPath t flags lifetime) (own-path-fits flags lifetime f l));
+        frames = to-all-emitted Fits (rann (ownPath t flags lifetime)) (rann-fits (ownPath t flags lifetime) (own-path-fits flags lifetime f l)) .each;
       }
 
   requested-kept : (flags lifetime : ℕ) (targets : List Target) → flags < 256 ^ 1 → lifetime < 256 ^ 4 → All FitsTarget targets
@@ -157,7 +158,7 @@ module _ (t : List ℕ) (w : Whole t) where
       record {
         leaves = head-leaves t t w same-table (nextNumber (number t)) (nextRequest (requestId t)) (clock t) (next-fits (number t)) request-next-fits
             (clock-small t w);
-        frames = to-all-fits _ (rreq-fits _ targets request-next-fits (own-path-fits flags lifetime f l) fit one few);
+        frames = to-all-emitted Fits _ (rreq-fits _ targets request-next-fits (own-path-fits flags lifetime f l) fit one few) .each;
       }
 
   -- the items of an ask

@@ -6,6 +6,7 @@ pub mod Alls
 pub mod Tables
 pub mod Learning
 pub mod Falling
+pub mod Emitting
 pub mod Sending
 pub mod Accepted
 pub mod CallsKeep

@@ -4,7 +4,7 @@ use mathlib.Core.Path.{_≡_, refl}
 use mathlib.Core.Bool.{true}
 use mathlib.Core.List.{List, [], _∷_}
 use mathlib.Core.Option.{Option, none, some}
-use lib.Dec.{eqb, leb, ltb}
+use lib.Dec.{eqb, leb}
 use lib.ListN.{length, take, drop, length-append, length-take, length-drop}
 use native.Mathlib.Omega.{arith}
 use borrow.Author.Tests.{le-leb}
@@ -13,11 +13,11 @@ use Rattle.octets.proofs.Laws.{FitFields}
 use Rattle.counters.specs.declared.SequenceNumber.{SequenceNumber}
 use Rattle.counters.specs.declared.HopCount.{HopCount}
 use Rattle.counters.specs.declared.Metric.{Metric}
-use Rattle.counters.specs.Numbers.{stepped, nextNumber}
+use Rattle.counters.specs.Numbers.{nextNumber}
 use Rattle.table.specs.declared.address.Address.{Address}
 use Rattle.table.specs.declared.row.Row.{Row}
 use Rattle.table.specs.Address.{same}
-use Rattle.table.specs.Row.{active, invalidated, raised}
+use Rattle.table.specs.Row.{invalidated, raised}
 use Rattle.table.specs.Layout.{rows, rowAt}
 use Rattle.table.specs.Table.{own, rowFor}
 use Rattle.table.proofs.HeadAndRows.{FitRow, row-fits}
@@ -27,40 +27,26 @@ use Rattle.element.specs.declared.PathInfo.{PathInfo}
 use Rattle.element.specs.declared.RreqFields.{RreqFields}
 use Rattle.element.specs.declared.RrepFields.{RrepFields}
 use Rattle.element.specs.declared.Target.{Target}
-use Rattle.element.specs.Element.{Element, rann, rreq, rrep, rerr}
+use Rattle.element.specs.Element.{rann, rreq, rrep, rerr}
 use Rattle.element.specs.Lists.{allOnes}
 use Rattle.element.specs.Entries.{each, All}
 use Rattle.element.proofs.ListParts.{FitsTarget, FitsNumbered}
 use Rattle.element.proofs.ReadBack.{Fits, all-each}
-use Rattle.rules.specs.Flags.{replyWanted, unicast, hasRF, withDO}
+use Rattle.rules.specs.Flags.{replyWanted, hasRF, withDO}
 use Rattle.rules.specs.Outcome.{Frame}
 use Rattle.rules.specs.Learn.{Arrival, metricHere}
-use Rattle.rules.specs.Destinations.{Answered, reply, answeredNumber, answersFor, forOneself, forAllOnes, forAnother, answered, allAnswered, keptAfterReply}
-use Rattle.rules.specs.Onward.{onward, towards, toAll, ifTtlLeft, rannOnward, rreqOnward, rrepOnward}
+use Rattle.rules.specs.Destinations.{Answered, rowReply, reply, answeredNumber, answersFor, forOneself, forAllOnes, forAnother, answered, allAnswered, keptAfterReply}
+use Rattle.rules.specs.Onward.{onward, rannOnward, rreqOnward, rrepOnward}
 use Rattle.rules.specs.Errors.{isThrough, broken, brokenEntry, brokenEntries, errorAt, errorsFor}
 use Rattle.rules.proofs.Branches.{cond-cases}
-use Rattle.rules.proofs.Alls.{all-one, all-append, all-between, all-take, all-drop, all-flat-map}
+use Rattle.rules.proofs.Alls.{all-one, all-append, all-take, all-drop, all-flat-map}
 use Rattle.rules.proofs.Tables.{Whole, own-fits}
 use Rattle.rules.proofs.Learning.{PathFits}
 use Rattle.rules.proofs.Falling.{next-fits}
+use Rattle.rules.proofs.Emitting.{Each, rann-emitted, rreq-emitted, rrep-emitted, replies-emitted, errors-emitted}
 
 abbrev pub FramesFit : List Frame → Type 0
-FramesFit frames = All (λ (f : Frame). Fits (f .element)) frames
-
-none-fits : FramesFit []
-unfolding All
-none-fits = tt
-
-pub to-all-fits : (e : Element) → Fits e → FramesFit (toAll e)
-to-all-fits e f = all-one (λ (x : Frame). Fits (x .element)) (record { receiver = allOnes; element = e }) f
-
-towards-fits : (c : ℕ) (e : Element) → Fits e → (o : Option Row) → FramesFit (towards c e o)
-unfolding towards
-towards-fits c e f none = none-fits
-towards-fits c e f (some r) = cond-cases FramesFit (active c r) (λ _. all-one (λ (x : Frame). Fits (x .element)) _ f) (λ _. none-fits)
-
-if-ttl-left-fits : (p : PathInfo) (frames : List Frame) → FramesFit frames → FramesFit (ifTtlLeft p frames)
-if-ttl-left-fits p frames f = cond-cases FramesFit (ltb (p .ttl) 2) (λ _. none-fits) (λ _. f)
+FramesFit frames = Each Fits frames
 
 -- ---- elements whose path fits
 
@@ -117,34 +103,48 @@ module _ (a : Arrival) (p : PathInfo) (f : PathFits p) (hops : p .hops .0 < 255)
       }
 
   pub rann-onward-fits : FramesFit (rannOnward a p)
-  unfolding rannOnward
-  rann-onward-fits = if-ttl-left-fits p _ (to-all-fits (rann (onward a p)) (rann-fits (onward a p) onward-fits))
+  rann-onward-fits = rann-emitted Fits a p (rann-fits (onward a p) onward-fits) .each
 
 module _ (a : Arrival) (f : RreqFields) (request : f .request .0 < 256 ^ 4) (fits : PathFits (f .path)) (hops : f .path .hops .0 < 255)
     (metric : metricHere a (f .path) .0 ≤ 2 ^ 32 - 2) where
   pub rreq-onward-fits : (t : List ℕ) (kept : List Target) → All FitsTarget kept → length kept ≤ 20 → FramesFit (rreqOnward t a f kept)
-  unfolding rreqOnward
-  rreq-onward-fits t [] fit few = none-fits
-  rreq-onward-fits t (q ∷ qs) fit few =
-      let e : Element = rreq (record { request = f .request; path = onward a (f .path) }) (q ∷ qs) in
-      let e-fits : Fits e = rreq-fits _ (q ∷ qs) request (onward-fits a (f .path) fits hops metric) fit (omega arith) few in
-      if-ttl-left-fits (f .path) _
-      (cond-cases FramesFit (unicast (f .path)) (λ _. towards-fits (a .clock) e e-fits (rowFor t (q .address))) (λ _. to-all-fits e e-fits))
+  rreq-onward-fits t kept fit few =
+      rreq-emitted Fits t a f kept (λ one. rreq-fits _ kept request (onward-fits a (f .path) fits hops metric) fit one few) .each
 
 module _ (a : Arrival) (f : RrepFields) (fits : PathFits (f .path)) (hops : f .path .hops .0 < 255)
     (metric : metricHere a (f .path) .0 ≤ 2 ^ 32 - 2) where
   pub rrep-onward-fits : (t : List ℕ) (dependents : List NumberedAddress) → FitsNumbered (f .source) → All FitsNumbered dependents
       → leb (length dependents) 22 ≡ true → FramesFit (rrepOnward t a f dependents)
-  unfolding rrepOnward
   rrep-onward-fits t dependents source fit few =
-      cond-cases FramesFit (same (f .source .address) (own t)) (λ _. none-fits)
-      (λ _. towards-fits (a .clock) _ (rrep-fits _ dependents (onward-fits a (f .path) fits hops metric) source fit few) (rowFor t (f .source .address)))
+      rrep-emitted Fits t a f dependents (rrep-fits _ dependents (onward-fits a (f .path) fits hops metric) source fit few) .each
 
--- ---- the destinations of a RREQ
+-- ---- the replies
+
+-- the table t is that after steps 1 and 2
+module _ (t : List ℕ) (w : Whole t) (a : Arrival) (p : PathInfo) (f : PathFits p) where
+  reply-fits : (d : Address) (n : SequenceNumber) (hops : HopCount) (metric : Metric) → d .0 < 256 ^ 6 → n .0 < 256 ^ 4 → hops .0 < 256 ^ 1
+      → metric .0 < 256 ^ 4 → Fits (reply a p d n hops metric .element)
+  unfolding reply FitFields All
+  reply-fits d n hops metric d-fits n-fits hops-fit metric-fits =
+      rrep-fits _ []
+      (record { flags = omega arith; hops = hops-fit; ttl = omega arith; subject = d-fits; number = n-fits; lifetime = f .lifetime; metric = metric-fits })
+      (f .subject, (f .number, tt)) tt refl
+
+  row-reply-fits : (r : Row) → FitRow r → Fits (rowReply a p r .element)
+  unfolding FitRow FitFields
+  row-reply-fits r g =
+      reply-fits (r .destination) (r .number) (r .hops) (r .metric) (g .1 .1 .1 .1 .0) (g .1 .1 .1 .1 .1 .1 .0) (g .1 .1 .0) (g .1 .1 .1 .1 .1 .1 .1 .0)
+
+  pub replies-fit : (n : SequenceNumber) (targets : List Target) → FramesFit (allAnswered t a p n targets .replies)
+  replies-fit n targets =
+      replies-emitted Fits t a p
+      (λ k. reply-fits (own t) (nextNumber k) (record { 0 = 0 }) (record { 0 = 0 }) (own-fits t w) (next-fits k) (omega arith) (omega arith))
+      (λ d r found known. row-reply-fits r (row-fits-its-octets t d r found (w .octets))) n targets .each
+
+-- ---- the own number and the destinations that are kept
 
 pub record AnsweredFits (n : ℕ) (x : Answered) : Type 0 where
   pub number : x .number .0 < 256 ^ 4
-  pub replies : FramesFit (x .replies)
   pub kept : All FitsTarget (x .kept)
   pub fewer : length (x .kept) ≤ n
 
@@ -152,50 +152,11 @@ with-do-fits : (q : Target) → FitsTarget q → FitsTarget (withDO q)
 unfolding FitFields withDO
 with-do-fits q f = let k = f .0 in (omega arith, f .1)
 
-answered-number-fits : (self requested : SequenceNumber) → answeredNumber self requested .0 < 256 ^ 4
-unfolding answeredNumber stepped
-answered-number-fits self requested = omega arith
-
--- the table t is that after steps 1 and 2
-module _ (t : List ℕ) (w : Whole t) (a : Arrival) (p : PathInfo) (f : PathFits p) where
-  reply-fits : (d : Address) (n : SequenceNumber) (hops : HopCount) (metric : Metric) → d .0 < 256 ^ 6 → n .0 < 256 ^ 4 → hops .0 < 256 ^ 1
-      → metric .0 < 256 ^ 4 → FramesFit (reply a p d n hops metric ∷ [])
-  unfolding reply FitFields All
-  reply-fits d n hops metric d-fits n-fits hops-fit metric-fits =
-      all-one (λ (x : Frame). Fits (x .element)) (reply a p d n hops metric)
-      (rrep-fits _ []
-      (record { flags = omega arith; hops = hops-fit; ttl = omega arith; subject = d-fits; number = n-fits; lifetime = f .lifetime; metric = metric-fits })
-      (f .subject, (f .number, tt)) tt refl)
-
-  own-reply-fits : (n : SequenceNumber) → n .0 < 256 ^ 4 → FramesFit (reply a p (own t) n (record { 0 = 0 }) (record { 0 = 0 }) ∷ [])
-  own-reply-fits n fits = reply-fits (own t) n (record { 0 = 0 }) (record { 0 = 0 }) (own-fits t w) fits (omega arith) (omega arith)
-
+module _ (t : List ℕ) (a : Arrival) (p : PathInfo) where
   module _ (n : SequenceNumber) (n-fits : n .0 < 256 ^ 4) (q : Target) (q-fits : FitsTarget q) where
-    kept-on-fits : AnsweredFits 1 (record { number = n; replies = []; kept = q ∷ [] })
-    kept-on-fits = record { number = n-fits; replies = none-fits; kept = all-one FitsTarget q q-fits; fewer = omega arith }
-
-    oneself-fits : AnsweredFits 1 (forOneself t a p n q)
-    unfolding forOneself All
-    oneself-fits =
-        let fits = answered-number-fits n (q .number) in
-        record { number = fits; replies = own-reply-fits (answeredNumber n (q .number)) fits; kept = tt; fewer = omega arith }
-
-    all-fits : AnsweredFits 1 (forAllOnes t a p n q)
-    unfolding forAllOnes
-    all-fits =
-        cond-cases (AnsweredFits 1) (replyWanted p)
-        (λ _. record {
-          number = next-fits n;
-          replies = own-reply-fits (nextNumber n) (next-fits n);
-          kept = all-one FitsTarget q q-fits;
-          fewer = omega arith;
-        })
-        (λ _. kept-on-fits)
-
-    row-reply-fits : (r : Row) → FitRow r → FramesFit (reply a p (r .destination) (r .number) (r .hops) (r .metric) ∷ [])
-    unfolding FitRow FitFields
-    row-reply-fits r g =
-        reply-fits (r .destination) (r .number) (r .hops) (r .metric) (g .1 .1 .1 .1 .0) (g .1 .1 .1 .1 .1 .1 .0) (g .1 .1 .0) (g .1 .1 .1 .1 .1 .1 .1 .0)
+    -- kept unchanged, under a number that fits
+    kept-fits : (k : SequenceNumber) (replies : List Frame) → k .0 < 256 ^ 4 → AnsweredFits 1 (record { number = k; replies = replies; kept = q ∷ [] })
+    kept-fits k replies fits = record { number = fits; kept = all-one FitsTarget q q-fits; fewer = omega arith }
 
     kept-after-fits : All FitsTarget (keptAfterReply q) × (length (keptAfterReply q) ≤ 1)
     unfolding All
@@ -203,29 +164,25 @@ module _ (t : List ℕ) (w : Whole t) (a : Arrival) (p : PathInfo) (f : PathFits
         cond-cases (λ (kept : List Target). All FitsTarget kept × (length kept ≤ 1)) (hasRF q)
         (λ _. (all-one FitsTarget (withDO q) (with-do-fits q q-fits), omega arith)) (λ _. (tt, omega arith))
 
-    another-fits : (o : Option Row) → rowFor t (q .address) ≡ o → AnsweredFits 1 (forAnother t a p n q o)
+    another-fits : (o : Option Row) → AnsweredFits 1 (forAnother t a p n q o)
     unfolding forAnother
-    another-fits none e = kept-on-fits
-    another-fits (some r) e =
+    another-fits none = kept-fits n [] n-fits
+    another-fits (some r) =
         cond-cases (AnsweredFits 1) (answersFor (a .clock) q r)
-        (λ _. record {
-          number = n-fits;
-          replies = row-reply-fits r (row-fits-its-octets t (q .address) r e (w .octets));
-          kept = kept-after-fits .0;
-          fewer = kept-after-fits .1;
-        })
-        (λ _. kept-on-fits)
+        (λ _. record { number = n-fits; kept = kept-after-fits .0; fewer = kept-after-fits .1 }) (λ _. kept-fits n [] n-fits)
 
     answered-fits : AnsweredFits 1 (answered t a p n q)
-    unfolding answered
+    unfolding answered forOneself answeredNumber forAllOnes All
     answered-fits =
-        cond-cases (AnsweredFits 1) (same (q .address) (own t)) (λ _. oneself-fits)
-        (λ _. cond-cases (AnsweredFits 1) (same (q .address) allOnes) (λ _. all-fits) (λ _. another-fits (rowFor t (q .address)) refl))
+        cond-cases (AnsweredFits 1) (same (q .address) (own t)) (λ _. record { number = next-fits _; kept = tt; fewer = omega arith })
+        (λ _. cond-cases (AnsweredFits 1) (same (q .address) allOnes)
+        (λ _. cond-cases (AnsweredFits 1) (replyWanted p) (λ _. kept-fits _ _ (next-fits n)) (λ _. kept-fits n [] n-fits))
+        (λ _. another-fits (rowFor t (q .address))))
 
   pub all-answered-fits : (n : SequenceNumber) → n .0 < 256 ^ 4 → (targets : List Target) → All FitsTarget targets
       → AnsweredFits (length targets) (allAnswered t a p n targets)
   unfolding allAnswered All
-  all-answered-fits n n-fits [] fit = record { number = n-fits; replies = none-fits; kept = tt; fewer = omega arith }
+  all-answered-fits n n-fits [] fit = record { number = n-fits; kept = tt; fewer = omega arith }
   all-answered-fits n n-fits (q ∷ qs) fit =
       let this : Answered = answered t a p n q in
       let this-fits : AnsweredFits 1 this = answered-fits n n-fits q (fit .0) in
@@ -233,7 +190,6 @@ module _ (t : List ℕ) (w : Whole t) (a : Arrival) (p : PathInfo) (f : PathFits
       let rest-fits : AnsweredFits (length qs) rest = all-answered-fits (this .number) (this-fits .number) qs (fit .1) in
       record {
         number = rest-fits .number;
-        replies = all-append (λ (x : Frame). Fits (x .element)) (this .replies) (rest .replies) (this-fits .replies) (rest-fits .replies);
         kept = all-append FitsTarget (this .kept) (rest .kept) (this-fits .kept) (rest-fits .kept);
         fewer = omega (arith, length-append (this .kept) (rest .kept), this-fits .fewer, rest-fits .fewer);
       }
@@ -266,6 +222,4 @@ error-at-fits entries fit i l =
     (omega (arith, long, length-take 25 part)) (omega (arith, length-take 25 part))
 
 pub errors-fit : (entries : List NumberedAddress) → All FitsNumbered entries → FramesFit (errorsFor entries)
-unfolding errorsFor
-errors-fit entries fit =
-    all-between (λ (x : Frame). Fits (x .element)) (errorAt entries) 0 ((length entries + 24) / 25) (λ k _ l. error-at-fits entries fit k (omega (arith, l)))
+errors-fit entries fit = errors-emitted Fits entries (error-at-fits entries fit) .each

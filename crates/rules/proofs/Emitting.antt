@@ -1,0 +1,148 @@
+-- The frames that calls emit, whatever is asked of their elements: it holds of all of them if it holds of each kind, and there
+-- are at most so many. Assumes nothing.
+use Prim.Native.Nat.{ℕ, _+_, _/_, _<_, _≤_}
+use mathlib.Core.Path.{_≡_, refl}
+use mathlib.Core.Bool.{true, not, _&&_, and-eq-true-iff}
+use mathlib.Core.List.{List, [], _∷_}
+use mathlib.Core.Option.{Option, none, some}
+use lib.Dec.{eqb, ltb}
+use lib.ListN.{length, length-append}
+use native.Mathlib.Omega.{arith}
+use Rattle.counters.specs.declared.SequenceNumber.{SequenceNumber}
+use Rattle.counters.specs.Numbers.{nextNumber, older}
+use Rattle.table.specs.declared.address.Address.{Address}
+use Rattle.table.specs.declared.row.Row.{Row}
+use Rattle.table.specs.Address.{same}
+use Rattle.table.specs.Row.{active}
+use Rattle.table.specs.Table.{own, rowFor}
+use Rattle.element.specs.declared.NumberedAddress.{NumberedAddress}
+use Rattle.element.specs.declared.PathInfo.{PathInfo}
+use Rattle.element.specs.declared.RreqFields.{RreqFields}
+use Rattle.element.specs.declared.RrepFields.{RrepFields}
+use Rattle.element.specs.declared.Target.{Target}
+use Rattle.element.specs.Element.{Element, rann, rreq, rrep}
+use Rattle.element.specs.Entries.{All}
+use Rattle.element.specs.Lists.{allOnes}
+use Rattle.element.proofs.Scans.{each-length}
+use Rattle.rules.specs.Flags.{replyWanted, unicast, hasDO}
+use Rattle.rules.specs.Outcome.{Frame}
+use Rattle.rules.specs.Learn.{Arrival}
+use Rattle.rules.specs.Destinations.{Answered, ownReply, rowReply, answeredNumber, answersFor, forOneself, forAllOnes, forAnother, answered, allAnswered}
+use Rattle.rules.specs.Onward.{onward, toAll, towards, ifTtlLeft, rannOnward, rreqOnward, rrepOnward}
+use Rattle.rules.specs.Errors.{errorAt, errorsFor}
+use Rattle.rules.proofs.Branches.{cond-cases}
+use Rattle.rules.proofs.Alls.{all-append, all-between}
+
+-- the elements of all frames are as Q says
+abbrev pub Each : (Element → Type 0) → List Frame → Type 0
+Each Q frames = All (λ (f : Frame). Q (f .element)) frames
+
+-- and there are at most n
+pub record Emits (Q : Element → Type 0) (n : ℕ) (frames : List Frame) : Type 0 where
+  pub each : Each Q frames
+  pub few : length frames ≤ n
+
+-- an intermediate reply is given only from a row of known number
+answers-known : (c : ℕ) (q : Target) (r : Row) → answersFor c q r ≡ true → eqb (r .known) 1 ≡ true
+unfolding answersFor
+answers-known c q r h =
+    let first = and-eq-true-iff (not (hasDO q) && active c r && eqb (r .known) 1) (not (older (r .number) (q .number))) .0 h in
+    and-eq-true-iff (not (hasDO q) && active c r) (eqb (r .known) 1) .0 (first .0) .1
+
+module _ (Q : Element → Type 0) where
+  none-emitted : (n : ℕ) → Emits Q n []
+  unfolding All
+  none-emitted n = record { each = tt; few = omega arith }
+
+  one-emitted : (f : Frame) → Q (f .element) → Emits Q 1 (f ∷ [])
+  unfolding All
+  one-emitted f h = record { each = (h, tt); few = omega arith }
+
+  pub to-all-emitted : (e : Element) → Q e → Emits Q 1 (toAll e)
+  to-all-emitted e h = one-emitted _ h
+
+  -- ---- what goes on
+
+  towards-emitted : (c : ℕ) (e : Element) → Q e → (next : Option Row) → Emits Q 1 (towards c e next)
+  unfolding towards
+  towards-emitted c e h none = none-emitted 1
+  towards-emitted c e h (some r) = cond-cases (Emits Q 1) (active c r) (λ _. one-emitted _ h) (λ _. none-emitted 1)
+
+  if-ttl-left-emitted : (p : PathInfo) (frames : List Frame) → Emits Q 1 frames → Emits Q 1 (ifTtlLeft p frames)
+  if-ttl-left-emitted p frames h = cond-cases (Emits Q 1) (ltb (p .ttl) 2) (λ _. none-emitted 1) (λ _. h)
+
+  pub rann-emitted : (a : Arrival) (p : PathInfo) → Q (rann (onward a p)) → Emits Q 1 (rannOnward a p)
+  unfolding rannOnward
+  rann-emitted a p h = if-ttl-left-emitted p (toAll (rann (onward a p))) (to-all-emitted (rann (onward a p)) h)
+
+  module _ (u : List ℕ) (a : Arrival) where
+    pub rreq-emitted : (f : RreqFields) (kept : List Target)
+        → (1 ≤ length kept → Q (rreq (record { request = f .request; path = onward a (f .path) }) kept)) → Emits Q 1 (rreqOnward u a f kept)
+    unfolding rreqOnward
+    rreq-emitted f [] h = none-emitted 1
+    rreq-emitted f (q ∷ qs) h =
+        if-ttl-left-emitted (f .path) _
+        (cond-cases (Emits Q 1) (unicast (f .path)) (λ _. towards-emitted (a .clock) _ (h (omega arith)) (rowFor u (q .address)))
+        (λ _. to-all-emitted _ (h (omega arith))))
+
+    pub rrep-emitted : (f : RrepFields) (dependents : List NumberedAddress)
+        → Q (rrep (record { path = onward a (f .path); source = f .source }) dependents) → Emits Q 1 (rrepOnward u a f dependents)
+    unfolding rrepOnward
+    rrep-emitted f dependents h =
+        cond-cases (Emits Q 1) (same (f .source .address) (own u)) (λ _. none-emitted 1)
+        (λ _. towards-emitted (a .clock) _ h (rowFor u (f .source .address)))
+
+    -- ---- replies: for oneself, under a number that was stepped; and from a row of known number
+
+    module _ (p : PathInfo) (oneself : (n : SequenceNumber) → Q (ownReply a p (own u) (nextNumber n) .element))
+        (fromRow : (d : Address) (r : Row) → rowFor u d ≡ some r → eqb (r .known) 1 ≡ true → Q (rowReply a p r .element)) where
+      abbrev Replies : ℕ → Answered → Type 0
+      Replies n x = Emits Q n (x .replies)
+
+      oneself-answered : (n : SequenceNumber) (q : Target) → Replies 1 (forOneself u a p n q)
+      unfolding forOneself answeredNumber
+      oneself-answered n q = one-emitted _ (oneself _)
+
+      all-ones-answered : (n : SequenceNumber) (q : Target) → Replies 1 (forAllOnes u a p n q)
+      unfolding forAllOnes
+      all-ones-answered n q = cond-cases (Replies 1) (replyWanted p) (λ _. one-emitted _ (oneself n)) (λ _. none-emitted 1)
+
+      another-answered : (n : SequenceNumber) (q : Target) (o : Option Row) → rowFor u (q .address) ≡ o → Replies 1 (forAnother u a p n q o)
+      unfolding forAnother
+      another-answered n q none found = none-emitted 1
+      another-answered n q (some r) found =
+          cond-cases (Replies 1) (answersFor (a .clock) q r)
+          (λ e. one-emitted _ (fromRow (q .address) r found (answers-known (a .clock) q r e))) (λ _. none-emitted 1)
+
+      one-answered : (n : SequenceNumber) (q : Target) → Replies 1 (answered u a p n q)
+      unfolding answered
+      one-answered n q =
+          cond-cases (Replies 1) (same (q .address) (own u)) (λ _. oneself-answered n q)
+          (λ _. cond-cases (Replies 1) (same (q .address) allOnes) (λ _. all-ones-answered n q)
+          (λ _. another-answered n q (rowFor u (q .address)) refl))
+
+      -- at most one for a destination
+      pub replies-emitted : (n : SequenceNumber) (targets : List Target) → Replies (length targets) (allAnswered u a p n targets)
+      unfolding allAnswered
+      replies-emitted n [] = none-emitted 0
+      replies-emitted n (q ∷ qs) =
+          let this : Answered = answered u a p n q in
+          let rest : Answered = allAnswered u a p (this .number) qs in
+          let first : Replies 1 this = one-answered n q in
+          let others : Replies (length qs) rest = replies-emitted (this .number) qs in
+          record {
+            each = all-append (λ (f : Frame). Q (f .element)) (this .replies) (rest .replies) (first .each) (others .each);
+            few = omega (arith, length-append (this .replies) (rest .replies), first .few, others .few);
+          }
+
+  -- ---- the errors of a break
+
+  pub errors-emitted : (entries : List NumberedAddress) → ((i : ℕ) → i < (length entries + 24) / 25 → Q (errorAt entries i .element))
+      → Emits Q ((length entries + 24) / 25) (errorsFor entries)
+  unfolding errorsFor
+  errors-emitted entries h =
+      let n : ℕ = (length entries + 24) / 25 in
+      record {
+        each = all-between (λ (f : Frame). Q (f .element)) (errorAt entries) 0 n (λ k _ l. h k (omega (arith, l)));
+        few = omega (arith, each-length (errorAt entries) 0 n);
+      }
