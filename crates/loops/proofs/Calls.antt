@@ -28,7 +28,7 @@ use Rattle.rules.specs.Errors.{afterError, afterBreak, brokenEntries, errorAt}
 use Rattle.rules.specs.Receive.{pathOf, rannReceived, rrepReceived, rreqReceived, rerrReceived, received, receiving, receive}
 use Rattle.rules.specs.Originate.{ownPath, announced, requested, asking, ask, announcing, announce, requestingAsRoot, rootRequest}
 use Rattle.rules.specs.Break.{brokenOff, breaking, breakNeighbour}
-use Rattle.rules.specs.Calls.{Call, receives, asks, announces, requestsAsRoot, breaks, outcome, OperandsFit}
+use Rattle.rules.specs.Calls.{Call, receives, makes, asks, announces, requestsAsRoot, breaks, outcome, OperandsFit}
 use Rattle.rules.proofs.Rulings.{passed}
 use Rattle.rules.proofs.Alls.{all-append}
 use Rattle.rules.proofs.AsGood.{InWindow, Falls, break-falls, error-falls}
@@ -45,10 +45,7 @@ use Rattle.loops.proofs.Frames.{AllBacked, replies-backed}
 -- an element that is received is one of the log, from its sender
 abbrev pub FromLog : List Sent → Call → Type 0
 FromLog log (receives a octets) = (s : Sent) × List·Memᴰ s log × (s .sender ≡ a .transmitter) × (s .octets ≡ octets)
-FromLog log (asks lifetime items) = Unit {0}
-FromLog log (announces flags lifetime) = Unit {0}
-FromLog log (requestsAsRoot flags lifetime) = Unit {0}
-FromLog log (breaks c neighbour) = Unit {0}
+FromLog log (makes call) = Unit {0}
 
 -- ---- originating: no row is written, and what is sent is the point's own path
 
@@ -173,16 +170,16 @@ module _ (d : Address) (base : ℕ) (small : base < 2 ^ 32) (log : List Sent) (t
         subst (λ (x : Effect). Near base (rowFor (x .table) d) → Sound d base log t x) (p .1)
         (received-sound a (from .0) (from .1) (from .2) (readElement octets′) (ap readElement (from .3))
         (accepted-element t room a octets′ octets (fit .0) (fit .1) (p .0)))
-    call-sound (asks lifetime items) fit from e is =
+    call-sound (makes (asks lifetime items)) fit from e is =
         subst (λ (x : Effect). Near base (rowFor (x .table) d) → Sound d base log t x) (passed (asking t room lifetime items) e is .1)
         (λ _. requested-sound d base log t _ _ _)
-    call-sound (announces flags lifetime) fit from e is =
+    call-sound (makes (announces flags lifetime)) fit from e is =
         subst (λ (x : Effect). Near base (rowFor (x .table) d) → Sound d base log t x) (passed (announcing t room flags lifetime) e is .1)
         (λ _. announced-sound d base log t flags lifetime)
-    call-sound (requestsAsRoot flags lifetime) fit from e is =
+    call-sound (makes (requestsAsRoot flags lifetime)) fit from e is =
         subst (λ (x : Effect). Near base (rowFor (x .table) d) → Sound d base log t x) (passed (requestingAsRoot t room flags lifetime) e is .1)
         (λ _. requested-sound d base log t _ _ _)
-    call-sound (breaks c neighbour) fit from e is =
+    call-sound (makes (breaks c neighbour)) fit from e is =
         subst (λ (x : Effect). Near base (rowFor (x .table) d) → Sound d base log t x) (passed (breaking t room c neighbour) e is .1)
         (break-sound c neighbour)
 

@@ -29,7 +29,7 @@ use Rattle.rules.specs.Calls.{Call, outcome, OperandsFit}
 use Rattle.rules.proofs.Branches.{cond-cases}
 use Rattle.rules.proofs.Alls.{all-append, all-map}
 use Rattle.rules.proofs.CallsKeep.{Kept, call-kept}
-use Rattle.loops.specs.Mesh.{Point, Sent, Mesh, freshTable, start, tableOf, withTable, Action, delivers, asks, announces, requestsAsRoot, breaks, readsOnly, Event, deliveryOf, callOf, sentBy, leaves, calls, happen, run, throughout, met}
+use Rattle.loops.specs.Mesh.{Point, Sent, Mesh, freshTable, start, tableOf, withTable, Action, delivers, makes, readsOnly, Event, deliveryOf, callOf, sentBy, leaves, calls, happen, run, throughout, met}
 use Rattle.loops.specs.Premise.{beside, knownIn, held, numbersFor, isWithin, allWithin}
 use Rattle.loops.specs.Statements.{ActionFits}
 use Rattle.loops.proofs.Tables.{table-own, table-listed}
@@ -158,10 +158,7 @@ delivery-made log fits place c link (some s) at call is =
 made : (log : List Sent) → All SentFits log → (action : Action) → ActionFits action → (call : Call) → callOf log action ≡ some call → Made log call
 unfolding callOf
 made log fits (delivers place c link) fit call is = delivery-made log fits place c link (getElem? log place) refl call is
-made log fits (asks lifetime items) fit call is = subst (Made log) (Option·some-injective _ call is) (record { fit = fit; from = tt })
-made log fits (announces flags lifetime) fit call is = subst (Made log) (Option·some-injective _ call is) (record { fit = fit; from = tt })
-made log fits (requestsAsRoot flags lifetime) fit call is = subst (Made log) (Option·some-injective _ call is) (record { fit = fit; from = tt })
-made log fits (breaks c neighbour) fit call is = subst (Made log) (Option·some-injective _ call is) (record { fit = tt; from = tt })
+made log fits (makes own-call) fit call is = subst (Made log) (Option·some-injective _ call is) (record { fit = fit; from = tt })
 made log fits readsOnly fit call is = absurd (Option·none-ne-some call is)
 
 module _ (d : Address) (base : ℕ) (small : base < 2 ^ 32) where

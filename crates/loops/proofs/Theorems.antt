@@ -13,7 +13,7 @@ use Rattle.rules.specs.Outcome.{Frame}
 use Rattle.rules.specs.Errors.{afterBreak}
 use Rattle.rules.specs.Receive.{isStale, receive}
 use Rattle.rules.specs.Break.{brokenOff, breakNeighbour}
-use Rattle.rules.specs.Calls.{receives, asks, announces, requestsAsRoot, breaks, outcome}
+use Rattle.rules.specs.Calls.{receives, makes, asks, announces, requestsAsRoot, breaks, outcome}
 use Rattle.rules.proofs.Alls.{all-implies}
 use Rattle.rules.proofs.CallsKeep.{Kept, call-kept}
 use Rattle.rules.proofs.Room.{call-room}
@@ -69,10 +69,10 @@ sharp = wrong-rules-loop
 pub else-the-rules : ElseTheRules
 unfolding ruledBy outcome receive isStale breakNeighbour brokenOff afterBreak
 else-the-rules t room (receives a s) = refl
-else-the-rules t room (asks lifetime items) = refl
-else-the-rules t room (announces flags lifetime) = refl
-else-the-rules t room (requestsAsRoot flags lifetime) = refl
-else-the-rules t room (breaks c neighbour) = refl
+else-the-rules t room (makes (asks lifetime items)) = refl
+else-the-rules t room (makes (announces flags lifetime)) = refl
+else-the-rules t room (makes (requestsAsRoot flags lifetime)) = refl
+else-the-rules t room (makes (breaks c neighbour)) = refl
 
 outside-fits : All (λ (e : Event). ActionFits (e .action)) (outside .events)
 unfolding All

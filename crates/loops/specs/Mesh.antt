@@ -14,7 +14,7 @@ use Rattle.table.specs.Table.{own, rowFor, fresh}
 use Rattle.element.specs.Octets.{writeElement}
 use Rattle.rules.specs.Decision.{Decision, refused, accepted}
 use Rattle.rules.specs.Outcome.{Frame, Effect}
-use Rattle.rules.specs.Calls.{Call}
+use Rattle.rules.specs.Calls.{OwnCall, Call}
 
 -- ---- points, and what they have sent
 
@@ -55,14 +55,11 @@ withTable a u (t ∷ tables) = cond (same (own t) a) (u ∷ tables) (t ∷ withT
 -- ---- calls
 
 -- What a point does. `delivers`: it receives the element at a place of the log, counted from 0, with the point that sent it as
--- transmitter; places come in any order, some often, some never. `readsOnly` is any call that writes no table: a next hop or a
--- walk, whose outcomes have none.
+-- transmitter; places come in any order, some often, some never. `makes`: it asks, announces, sends a root request or reports a
+-- broken neighbour. `readsOnly` is any call that writes no table: a next hop or a walk, whose outcomes have none.
 pub data Action : Type 0 where
   delivers : (place clock : ℕ) → (link : Metric) → Action
-  asks : (lifetime : ℕ) → (items : List ℕ) → Action
-  announces : (flags lifetime : ℕ) → Action
-  requestsAsRoot : (flags lifetime : ℕ) → Action
-  breaks : (clock : ℕ) → (neighbour : Address) → Action
+  makes : OwnCall → Action
   readsOnly : Action
 
 -- one call of the list: the address of the point that makes it, the length of its output, and what it does
@@ -79,10 +76,7 @@ deliveryOf c link (some s) = some (Call.receives (record { clock = c; transmitte
 -- the call that an action is; none for `readsOnly`, and for a place of the log where nothing stands
 unfoldable pub callOf : List Sent → Action → Option Call
 callOf log (delivers place c link) = deliveryOf c link (getElem? log place)
-callOf log (asks lifetime items) = some (Call.asks lifetime items)
-callOf log (announces flags lifetime) = some (Call.announces flags lifetime)
-callOf log (requestsAsRoot flags lifetime) = some (Call.requestsAsRoot flags lifetime)
-callOf log (breaks c neighbour) = some (Call.breaks c neighbour)
+callOf log (makes call) = some (Call.makes call)
 callOf log readsOnly = none
 
 -- the elements of the frames that the point a emits

@@ -14,9 +14,9 @@ use Rattle.table.specs.Address.{same}
 use Rattle.element.specs.Lists.{twice}
 use Rattle.rules.specs.Decision.{Decision, refused}
 use Rattle.rules.specs.Outcome.{Effect, Exit, atExit}
-use Rattle.rules.specs.Calls.{Call, outcome}
+use Rattle.rules.specs.Calls.{Call, asks, announces, requestsAsRoot, breaks, outcome}
 use Rattle.rules.specs.Walk.{Walked, walkedAtExit, walk}
-use Rattle.loops.specs.Mesh.{Rules, Point, Mesh, start, tableOf, Action, delivers, asks, announces, requestsAsRoot, breaks, Event, callOf, happen, run, throughout, met}
+use Rattle.loops.specs.Mesh.{Rules, Point, Mesh, start, tableOf, Action, delivers, makes, Event, callOf, happen, run, throughout, met}
 use Rattle.loops.specs.Premise.{held, allWithin}
 use Rattle.loops.specs.WrongRules.{comparesPlainly, takesEqualReplies, takesEqualIfInactive, dropsBroken, keepsNumber}
 
@@ -57,22 +57,22 @@ _gets_over_at_ p place link c = does p (delivers place c (record { 0 = link }))
 -- p asks for q with flags 1 and this lifetime
 infix 70 _asks-for_lasting_
 abbrev pub _asks-for_lasting_ : Address → Address → ℕ → Event
-_asks-for_lasting_ p q lifetime = does p (asks lifetime (1 ∷ numberOctets 6 (q .0)))
+_asks-for_lasting_ p q lifetime = does p (makes (asks lifetime (1 ∷ numberOctets 6 (q .0))))
 
 -- p announces itself, with lifetime 1000
 infix 70 _announces-itself
 abbrev pub _announces-itself : Address → Event
-_announces-itself p = does p (announces 0 1000)
+_announces-itself p = does p (makes (announces 0 1000))
 
 -- p sends a root request with these flags and lifetime 1000
 infix 70 _requests-as-root_
 abbrev pub _requests-as-root_ : Address → ℕ → Event
-_requests-as-root_ p flags = does p (requestsAsRoot flags 1000)
+_requests-as-root_ p flags = does p (makes (requestsAsRoot flags 1000))
 
 -- p reports at clock 0 that its neighbour q is broken
 infix 70 _loses_
 abbrev pub _loses_ : Address → Address → Event
-_loses_ p q = does p (breaks 0 q)
+_loses_ p q = does p (makes (breaks 0 q))
 
 -- ---- a run, and what is to be seen of it
 

@@ -25,9 +25,9 @@ use Rattle.rules.specs.Fresh.{makeFresh}
 use Rattle.rules.specs.Forget.{forget}
 use Rattle.rules.specs.Errors.{broken}
 use Rattle.rules.specs.Receive.{isStaleFor}
-use Rattle.rules.specs.Calls.{Call, outcome, OperandsFit}
+use Rattle.rules.specs.Calls.{Call, outcome, OwnOperandsFit, OperandsFit}
 use Rattle.edges.specs.Edges.{edges, shutOut}
-use Rattle.loops.specs.Mesh.{Point, start, Action, delivers, asks, announces, requestsAsRoot, breaks, readsOnly, Event, run, throughout, met}
+use Rattle.loops.specs.Mesh.{Point, start, Action, delivers, makes, readsOnly, Event, run, throughout, met}
 use Rattle.loops.specs.Premise.{allWithin}
 use Rattle.loops.specs.WrongRules.{ruledBy, receivingBy, breakingBy}
 use Rattle.loops.specs.Runs.{worked, wentRound, loops, counterexamples, outside, outsideLoops}
@@ -94,10 +94,7 @@ pub record PointFits (p : Point) : Type 0 where
 -- the operands of an action are what C's types can hold: a lifetime has 32 bits, an octet is below 256; all else is free
 abbrev pub ActionFits : Action → Type 0
 ActionFits (delivers place c link) = Unit {0}
-ActionFits (asks lifetime items) = (lifetime < 256 ^ 4) × Octets items
-ActionFits (announces flags lifetime) = lifetime < 256 ^ 4
-ActionFits (requestsAsRoot flags lifetime) = lifetime < 256 ^ 4
-ActionFits (breaks c neighbour) = Unit {0}
+ActionFits (makes call) = OwnOperandsFit call
 ActionFits readsOnly = Unit {0}
 
 -- For any set of points with fresh tables and different addresses,

@@ -18,7 +18,7 @@ use Rattle.rules.specs.Learn.{Arrival}
 use Rattle.rules.specs.Errors.{isThrough}
 use Rattle.rules.specs.Receive.{ofPath, isStaleFor, receiving}
 use Rattle.rules.specs.Break.{brokenOff, breaking}
-use Rattle.rules.specs.Calls.{receives, asks, announces, requestsAsRoot, breaks, outcome}
+use Rattle.rules.specs.Calls.{receives, makes, asks, announces, requestsAsRoot, breaks, outcome}
 use Rattle.loops.specs.Mesh.{Rules}
 
 -- ---- the rules with one thing changed
@@ -36,10 +36,10 @@ withOutcome a r = record { checks = r .checks; otherwise = a }
 unfoldable pub ruledBy :
     (List ℕ → ℕ → Arrival → List ℕ → Ruling Effect) → (List ℕ → ℕ → ℕ → Address → Ruling Effect) → Rules
 ruledBy receive break t room (receives a s) = decide (receive t room a s)
-ruledBy receive break t room (asks lifetime items) = outcome t room (asks lifetime items)
-ruledBy receive break t room (announces flags lifetime) = outcome t room (announces flags lifetime)
-ruledBy receive break t room (requestsAsRoot flags lifetime) = outcome t room (requestsAsRoot flags lifetime)
-ruledBy receive break t room (breaks c neighbour) = decide (break t room c neighbour)
+ruledBy receive break t room (makes (asks lifetime items)) = outcome t room (makes (asks lifetime items))
+ruledBy receive break t room (makes (announces flags lifetime)) = outcome t room (makes (announces flags lifetime))
+ruledBy receive break t room (makes (requestsAsRoot flags lifetime)) = outcome t room (makes (requestsAsRoot flags lifetime))
+ruledBy receive break t room (makes (breaks c neighbour)) = decide (break t room c neighbour)
 
 -- refusal 25 by another test of the element and the row
 abbrev pub receivingBy : (Element → Arrival → PathInfo → Row → Bool) → List ℕ → ℕ → Arrival → List ℕ → Ruling Effect

@@ -39,7 +39,7 @@ use Rattle.rules.specs.Errors.{matches, brokenEntries}
 use Rattle.rules.specs.Receive.{matchesNothing, rannReceived, rrepReceived, rreqReceived, rerrReceived, received, receiving, receive}
 use Rattle.rules.specs.Originate.{ownPath, announced, requested, Item, itemWidths, itemAt, itemsIn, itemsFit, knownNumber, askedFor, asking, ask, announcing, announce, allWithDOAndRF, requestingAsRoot, rootRequest}
 use Rattle.rules.specs.Break.{brokenOff, breaking, breakNeighbour}
-use Rattle.rules.specs.Calls.{Call, receives, asks, announces, requestsAsRoot, breaks, outcome, OperandsFit}
+use Rattle.rules.specs.Calls.{Call, receives, makes, asks, announces, requestsAsRoot, breaks, outcome, OperandsFit}
 use Rattle.rules.proofs.Rulings.{passed, passed-check}
 use Rattle.rules.proofs.Branches.{cond-cases}
 use Rattle.rules.proofs.Alls.{all-append, all-map, all-those, those-fewer, those-some}
@@ -258,7 +258,7 @@ module _ (t : List ℕ) (octets : Octets t) (room : ℕ) where
   pub call-kept : (call : Call) → OperandsFit call → (e : Effect) → outcome t room call ≡ accepted e → Kept t e
   unfolding outcome
   call-kept (receives a s) fit e is = receive-kept a s (fit .0) (fit .1) e is
-  call-kept (asks lifetime items) fit e is = ask-kept lifetime items (fit .0) (fit .1) e is
-  call-kept (announces flags lifetime) fit e is = announce-kept flags lifetime fit e is
-  call-kept (requestsAsRoot flags lifetime) fit e is = root-kept flags lifetime fit e is
-  call-kept (breaks c neighbour) fit e is = break-kept c neighbour e is
+  call-kept (makes (asks lifetime items)) fit e is = ask-kept lifetime items (fit .0) (fit .1) e is
+  call-kept (makes (announces flags lifetime)) fit e is = announce-kept flags lifetime fit e is
+  call-kept (makes (requestsAsRoot flags lifetime)) fit e is = root-kept flags lifetime fit e is
+  call-kept (makes (breaks c neighbour)) fit e is = break-kept c neighbour e is

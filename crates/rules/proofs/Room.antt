@@ -33,7 +33,7 @@ use Rattle.rules.specs.Errors.{isThrough, brokenEntry, brokenEntries}
 use Rattle.rules.specs.Receive.{rannReceived, rrepReceived, rreqReceived, rerrReceived, received, receiving, receive}
 use Rattle.rules.specs.Originate.{announced, requested, asking, ask, announcing, announce, requestingAsRoot, rootRequest}
 use Rattle.rules.specs.Break.{brokenOff, breaking, breakNeighbour}
-use Rattle.rules.specs.Calls.{Call, receives, asks, announces, requestsAsRoot, breaks, outcome, OperandsFit}
+use Rattle.rules.specs.Calls.{Call, receives, makes, asks, announces, requestsAsRoot, breaks, outcome, OperandsFit}
 use Rattle.rules.proofs.Branches.{cond-cases}
 use Rattle.rules.proofs.Rulings.{passed, passed-check}
 use Rattle.rules.proofs.Alls.{all-after, all-implies}
@@ -159,15 +159,15 @@ module _ (t : List ℕ) (octets : Octets t) (room : ℕ) where
       let frames = call-kept t octets room (receives a s) fit e is .frames in
       subst (λ (x : Effect). FramesFit (x .frames) → length (frameOctets (x .frames)) ≤ 1560) (p .1)
       (received-room a (readElement s) (accepted-element t room a s octets (fit .0) (fit .1) (p .0))) frames
-  call-room (asks lifetime items) fit e is =
-      call-few 1 (omega arith) (asks lifetime items) fit e _ is (passed (asking t room lifetime items) e is .1) (omega arith)
-  call-room (announces flags lifetime) fit e is =
-      call-few 1 (omega arith) (announces flags lifetime) fit e _ is (passed (announcing t room flags lifetime) e is .1) (omega arith)
-  call-room (requestsAsRoot flags lifetime) fit e is =
-      call-few 1 (omega arith) (requestsAsRoot flags lifetime) fit e _ is (passed (requestingAsRoot t room flags lifetime) e is .1) (omega arith)
-  call-room (breaks c neighbour) fit e is =
+  call-room (makes (asks lifetime items)) fit e is =
+      call-few 1 (omega arith) (makes (asks lifetime items)) fit e _ is (passed (asking t room lifetime items) e is .1) (omega arith)
+  call-room (makes (announces flags lifetime)) fit e is =
+      call-few 1 (omega arith) (makes (announces flags lifetime)) fit e _ is (passed (announcing t room flags lifetime) e is .1) (omega arith)
+  call-room (makes (requestsAsRoot flags lifetime)) fit e is =
+      call-few 1 (omega arith) (makes (requestsAsRoot flags lifetime)) fit e _ is (passed (requestingAsRoot t room flags lifetime) e is .1) (omega arith)
+  call-room (makes (breaks c neighbour)) fit e is =
       let p = passed (breaking t room c neighbour) e is in
       let size = not-false (sized t) (passed-check 1 (breaking t room c neighbour .checks) (p .0)) in
       let entries : List NumberedAddress = brokenEntries t c neighbour in
       let errors = errors-emitted Anything entries (λ _ _. tt) .few in
-      call-few 6 (omega arith) (breaks c neighbour) fit e _ is (p .1) (omega (arith, errors, entries-128 t size c neighbour))
+      call-few 6 (omega arith) (makes (breaks c neighbour)) fit e _ is (p .1) (omega (arith, errors, entries-128 t size c neighbour))

@@ -34,6 +34,7 @@ findingNextHop t c destination = do
   refuse 9 when not (individual destination)
   refuse 21 when not (isTable t)
   refuse 22 when c below clock t
+  -- 28. no active row
   alongRow c (rowFor t destination)
 
 unfoldable pub nextHop : List ℕ → ℕ → Address → Decision Address
