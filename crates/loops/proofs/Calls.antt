@@ -1,6 +1,7 @@
 -- Each accepted call is `Fine`. Assumes nothing.
 use Prim.Native.Nat.{ℕ, _^_, _<_}
 use mathlib.Core.Path.{_≡_, refl, ap, subst, _∙_}
+use mathlib.Core.Bool.{Bool}
 use mathlib.Core.List.{List, _++_, List·Memᴰ}
 use mathlib.Core.Option.{some, Option·map}
 use mathlib.Core.Logic.{inl, inr}
@@ -9,9 +10,9 @@ use Rattle.table.specs.declared.address.Address.{Address}
 use Rattle.table.specs.declared.row.Head.{Head}
 use Rattle.table.specs.declared.row.Row.{Row}
 use Rattle.table.specs.Layout.{putHead}
-use Rattle.table.specs.Table.{own, number, rowFor, eachHeld}
+use Rattle.table.specs.Table.{own, number, rowFor, changeWhere}
 use Rattle.table.proofs.Heads.{head-found}
-use Rattle.table.proofs.EachHeld.{KeepsRow, each-found}
+use Rattle.table.proofs.Changes.{KeepsRows, changed, by-test, change-found}
 use Rattle.element.specs.declared.NumberedAddress.{NumberedAddress}
 use Rattle.element.specs.declared.PathInfo.{PathInfo}
 use Rattle.element.specs.declared.RreqFields.{RreqFields}
@@ -24,16 +25,16 @@ use Rattle.rules.specs.Outcome.{Frame, Effect}
 use Rattle.rules.specs.Learn.{Arrival, learnt}
 use Rattle.rules.specs.Destinations.{Answered, allAnswered}
 use Rattle.rules.specs.Onward.{onward, toAll, rannOnward, rreqOnward, rrepOnward}
-use Rattle.rules.specs.Errors.{afterError, afterBreak, brokenEntries, errorAt}
+use Rattle.rules.specs.Errors.{isThrough, isLostBy, erred, broken, brokenEntries, errorAt}
 use Rattle.rules.specs.Receive.{pathOf, rannReceived, rrepReceived, rreqReceived, rerrReceived, received, receiving, receive}
 use Rattle.rules.specs.Originate.{ownPath, announced, requested, asking, ask, announcing, announce, requestingAsRoot, rootRequest}
 use Rattle.rules.specs.Break.{brokenOff, breaking, breakNeighbour}
 use Rattle.rules.specs.Calls.{Call, receives, makes, asks, announces, requestsAsRoot, breaks, outcome, OperandsFit}
 use Rattle.rules.proofs.Rulings.{passed}
 use Rattle.rules.proofs.Alls.{all-append}
-use Rattle.rules.proofs.AsGood.{InWindow, Falls, break-falls, error-falls}
+use Rattle.rules.proofs.AsGood.{InWindow, Falls, stays, break-falls, error-falls}
 use Rattle.rules.proofs.Learning.{Heard, learnt-keeps}
-use Rattle.rules.proofs.Falling.{break-keeps-row, error-keeps-row}
+use Rattle.rules.proofs.Falling.{break-keeps-rows, error-keeps-rows}
 use Rattle.rules.proofs.Emitting.{to-all-emitted, rann-emitted, rreq-emitted, rrep-emitted, errors-emitted}
 use Rattle.rules.proofs.Accepted.{Accepted, accepted-element}
 use Rattle.rules.proofs.CallsKeep.{Kept, call-kept}
@@ -72,22 +73,26 @@ module _ (d : Address) (base : ℕ) (log : List Sent) (t : List ℕ) where
 module _ (d : Address) (base : ℕ) (small : base < 2 ^ 32) (log : List Sent) (t : List ℕ) (octets : Octets t) (near : Near base (rowFor t d)) where
   -- ---- rows that fall, under frames that bring no path
 
-  fallen-sound : (f : Row → Row) → KeepsRow f → ((r : Row) → InWindow base r → InWindow base (f r) → Falls base small r (f r))
-      → (h : Head) (frames : List Frame) → AllBacked d base (own t) (rowFor (putHead (eachHeld f t) h) d) frames
-      → Near base (rowFor (putHead (eachHeld f t) h) d) → Sound d base log t (record { table = putHead (eachHeld f t) h; frames = frames })
-  fallen-sound f keeps fall h frames backed near′ =
-      let row : rowFor (putHead (eachHeld f t) h) d ≡ Option·map f (rowFor t d) = head-found (eachHeld f t) h d ∙ each-found f keeps t octets d in
+  fallen-sound : (p : Row → Bool) (f : Row → Row) → KeepsRows p f → ((r : Row) → InWindow base r → InWindow base (f r) → Falls base small r (f r))
+      → (h : Head) (frames : List Frame) → AllBacked d base (own t) (rowFor (putHead (changeWhere p f t) h) d) frames
+      → Near base (rowFor (putHead (changeWhere p f t) h) d) → Sound d base log t (record { table = putHead (changeWhere p f t) h; frames = frames })
+  fallen-sound p f keeps fall h frames backed near′ =
+      let row : rowFor (putHead (changeWhere p f t) h) d ≡ Option·map (changed p f) (rowFor t d) =
+      head-found (changeWhere p f t) h d ∙ change-found p f keeps t octets d in
       record {
-        move = rw row (changed-move small f fall (rowFor t d) near (rw row at near′));
-        absent = λ self before. row ∙ ap (Option·map f) before;
+        move = rw row (changed-move small (changed p f) falls-or-stays (rowFor t d) near (rw row at near′));
+        absent = λ self before. row ∙ ap (Option·map (changed p f)) before;
         backed = backed;
       }
+    where
+      falls-or-stays : (r : Row) → InWindow base r → InWindow base (changed p f r) → Falls base small r (changed p f r)
+      falls-or-stays r near = by-test p f (λ (q : Row). InWindow base q → Falls base small r q) r (λ _. stays refl) (λ _. fall r near)
 
   break-sound : (c : ℕ) (neighbour : Address) → Near base (rowFor (brokenOff t c neighbour .table) d)
       → Sound d base log t (brokenOff t c neighbour)
   unfolding brokenOff errorAt
   break-sound c neighbour =
-      fallen-sound (afterBreak c neighbour) (break-keeps-row c neighbour) (break-falls base small c neighbour) _ _
+      fallen-sound (isThrough c neighbour) broken (break-keeps-rows c neighbour) (break-falls base small) _ _
       (errors-emitted (λ (x : Element). Backed d base (own t) _ (pathOf x)) (brokenEntries t c neighbour) (λ i l. backed-none) .each)
 
   -- ---- an element from the log
@@ -154,9 +159,8 @@ module _ (d : Address) (base : ℕ) (small : base < 2 ^ 32) (log : List Sent) (t
     received-sound (rreq f targets) is ok = rreq-sound f targets (ap pathOf is) (ok .heard (f .path) refl)
     received-sound (rrep f dependents) is ok = rrep-sound f dependents (ap pathOf is) (ok .heard (f .path) refl)
     received-sound (rerr flags destinations) is ok =
-        fallen-sound (afterError (a .clock) (a .transmitter) destinations)
-        (error-keeps-row (a .clock) (a .transmitter) destinations (ok .fits .entries))
-        (error-falls base small (a .clock) (a .transmitter) destinations) _ _
+        fallen-sound (isLostBy (a .clock) (a .transmitter)) (erred destinations)
+        (error-keeps-rows (a .clock) (a .transmitter) destinations (ok .fits .entries)) (error-falls base small destinations) _ _
         (to-all-emitted (λ (x : Element). Backed d base (own t) _ (pathOf x)) _ backed-none .each)
 
   -- ---- every call

@@ -7,7 +7,7 @@ use lib.Dec.{eqb, ltb}
 use Rattle.table.specs.declared.address.Address.{Address}
 use Rattle.table.specs.declared.row.Row.{Row}
 use Rattle.table.specs.Row.{active, freeRow, invalidated, raised}
-use Rattle.table.specs.Table.{number, rowFor, eachHeld}
+use Rattle.table.specs.Table.{number, rowFor, changeWhere}
 use Rattle.element.specs.declared.PathInfo.{PathInfo}
 use Rattle.element.specs.Element.{Element, rann, rreq, rrep, rerr}
 use Rattle.element.specs.Octets.{readElement}
@@ -54,7 +54,7 @@ with25 stale = ruledBy (receivingBy stale) breaking
 -- carry the stepped numbers.
 abbrev pub breakingBy : (Row → Row) → List ℕ → ℕ → ℕ → Address → Ruling Effect
 breakingBy f t room c neighbour =
-    let u : List ℕ = eachHeld (λ r. cond (isThrough c neighbour r) (f r) r) t in
+    let u : List ℕ = changeWhere (isThrough c neighbour) f t in
     withOutcome (record { table = underHead t (number t) c u; frames = brokenOff t c neighbour .frames }) (breaking t room c neighbour)
 
 abbrev pub withBroken : (Row → Row) → Rules

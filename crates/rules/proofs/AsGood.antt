@@ -13,14 +13,13 @@ use borrow.Author.Tests.{ltb-true, leb-true, eqb-true}
 use Rattle.counters.specs.declared.SequenceNumber.{SequenceNumber}
 use Rattle.counters.specs.Numbers.{newer}
 use Rattle.counters.proofs.Rank.{Window, AtLeast, level, not-stale, newer-ahead, next-ahead}
-use Rattle.table.specs.declared.address.Address.{Address}
 use Rattle.table.specs.declared.row.Row.{Row}
 use Rattle.table.specs.Row.{active, invalidated, raised}
 use Rattle.table.specs.Table.{rowFor}
 use Rattle.element.specs.declared.NumberedAddress.{NumberedAddress}
 use Rattle.element.specs.declared.PathInfo.{PathInfo}
 use Rattle.rules.specs.Learn.{Arrival, metricHere, takesLink}
-use Rattle.rules.specs.Errors.{isThrough, isLostBy, numberBeside, erred, afterError, broken, afterBreak}
+use Rattle.rules.specs.Errors.{numberBeside, erredWith, erred, broken}
 use Rattle.rules.specs.Receive.{isStaleFor, isStale}
 use Rattle.rules.proofs.Branches.{cond-cases}
 
@@ -51,33 +50,24 @@ module _ (base : ℕ) (small : base < 2 ^ 32) where
   unfolding raised invalidated
   raised-falls n r h = falls refl refl h
 
-  broken-falls : (r : Row) → InWindow base r → InWindow base (broken r) → Falls r (broken r)
+  pub break-falls : (r : Row) → InWindow base r → InWindow base (broken r) → Falls r (broken r)
   unfolding broken raised invalidated
-  broken-falls r near =
+  break-falls r near =
       cond-cases (λ (q : Row). InWindow base q → Falls r q) (eqb (r .known) 1)
       (λ k near′. raised-falls _ r (λ _. next-ahead small (near k) (near′ k)))
       (λ _ _. invalid-falls r)
 
-  pub break-falls : (c : ℕ) (neighbour : Address) (r : Row) → InWindow base r → InWindow base (afterBreak c neighbour r)
-      → Falls r (afterBreak c neighbour r)
-  unfolding afterBreak
-  break-falls c neighbour r near =
-      cond-cases (λ (q : Row). InWindow base q → Falls r q) (isThrough c neighbour r) (λ _. broken-falls r near) (λ _ _. stays refl)
-
-  erred-falls : (o : Option SequenceNumber) (r : Row) → InWindow base r → InWindow base (erred o r) → Falls r (erred o r)
-  unfolding erred raised invalidated
-  erred-falls none r near = λ _. stays refl
-  erred-falls (some n) r near =
+  erred-with-falls : (o : Option SequenceNumber) (r : Row) → InWindow base r → InWindow base (erredWith o r) → Falls r (erredWith o r)
+  unfolding erredWith raised invalidated
+  erred-with-falls none r near = λ _. stays refl
+  erred-with-falls (some n) r near =
       cond-cases (λ (q : Row). InWindow base q → Falls r q) (newer n (r .number))
       (λ e near′. raised-falls _ r (λ k. newer-ahead small (near′ k) (near k) e))
       (λ _ _. invalid-falls r)
 
-  pub error-falls : (c : ℕ) (transmitter : Address) (named : List NumberedAddress) (r : Row) → InWindow base r
-      → InWindow base (afterError c transmitter named r) → Falls r (afterError c transmitter named r)
-  unfolding afterError
-  error-falls c transmitter named r near =
-      cond-cases (λ (q : Row). InWindow base q → Falls r q) (isLostBy c transmitter r)
-      (λ _. erred-falls (numberBeside (r .destination) named) r near) (λ _ _. stays refl)
+  pub error-falls : (named : List NumberedAddress) (r : Row) → InWindow base r → InWindow base (erred named r) → Falls r (erred named r)
+  unfolding erred
+  error-falls named r = erred-with-falls (numberBeside (r .destination) named) r
 
 -- a transmitter's row of known number is changed only if that makes its metric no worse
 pub link-no-worse : (a : Arrival) (r : Row) → takesLink a (some r) ≡ true → eqb (r .known) 1 ≡ true → a .link .0 ≤ r .metric .0

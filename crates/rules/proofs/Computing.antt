@@ -7,7 +7,7 @@ use Rattle.table.specs.Address.{individual}
 use Rattle.table.specs.Layout.{sized, headAt, putHead, allZero, rowAt, putRow}
 use Rattle.table.specs.Row.{headOk, isFree, isUnnumbered, isOther, statusOk, boundsOk, isHeld, rowOk, active, renewed, numbered, invalidated, raised}
 use Rattle.table.specs.Places.{first, count, every}
-use Rattle.table.specs.Table.{vacant, holds, findRow, rowFor, freeRows, firstFree, alone, isTable, fresh, placeFor, store, freed, changeBelow, eachHeld}
+use Rattle.table.specs.Table.{vacant, holds, findRow, rowFor, freeRows, firstFree, alone, isTable, fresh, placeFor, store, freed, changeBelow, changeWhere}
 use Rattle.element.specs.Layout.{known, kindWith, fits}
 use Rattle.element.specs.Entries.{each, numberedAt, numberedOctets, targetAt, targetOctets}
 use Rattle.element.specs.Octets.{wrongLength, otherId, misfit, readAs, readElement, fixedOctets, writeElement, writeFrame}
@@ -21,7 +21,7 @@ use Rattle.rules.specs.NextHop.{alongRow, nextHop}
 use Rattle.rules.specs.Learn.{expiryOf, subjectRow, transmitterRow, takesLink, subjectLearnt, transmitterLearnt, learnt}
 use Rattle.rules.specs.Destinations.{reply, answeredNumber, answersFor, forOneself, forAllOnes, forAnother, answered, allAnswered}
 use Rattle.rules.specs.Onward.{onward, towards, rannOnward, rreqOnward, rrepOnward}
-use Rattle.rules.specs.Errors.{isThrough, isLostBy, matches, numberBeside, erred, afterError, broken, afterBreak, brokenEntry, brokenEntries, errorAt, errorsFor}
+use Rattle.rules.specs.Errors.{isThrough, isLostBy, matches, numberBeside, erredWith, erred, broken, brokenEntry, brokenEntries, errorAt, errorsFor}
 use Rattle.rules.specs.Receive.{hasBadAddress, severalOrAll, hasBadList, isLowTtlReply, isStaleFor, isStale, matchesNothing, rowsNeeded, rannReceived, rrepReceived, rreqReceived, rerrReceived, received, receive}
 use Rattle.rules.specs.Originate.{ownPath, announced, requested, itemAt, itemsFit, knownNumber, askedFor, ask, announce, rootRequest}
 use Rattle.rules.specs.Break.{brokenOff, breakNeighbour}
@@ -33,14 +33,14 @@ unfolding flatMap numberOctets numberAt over withNumber fieldsAt withFields fiel
     stepped wrapped newer older
     individual sized headAt putHead allZero rowAt putRow headOk isFree isUnnumbered isOther statusOk boundsOk isHeld rowOk
     active renewed numbered invalidated raised first count every vacant holds findRow rowFor freeRows firstFree alone
-    isTable fresh placeFor store freed changeBelow eachHeld
+    isTable fresh placeFor store freed changeBelow changeWhere
     known kindWith fits each numberedAt numberedOctets targetAt targetOctets wrongLength otherId misfit readAs readElement
     fixedOctets writeElement writeFrame allowed anyForbidden among twice onesBesideOthers
     any all those bit withDO frameOctets headWith atExit makeFresh forget alongRow nextHop
     expiryOf subjectRow transmitterRow takesLink subjectLearnt transmitterLearnt learnt
     reply answeredNumber answersFor forOneself forAllOnes forAnother answered allAnswered
     onward towards rannOnward rreqOnward rrepOnward
-    isThrough isLostBy matches numberBeside erred afterError broken afterBreak brokenEntry brokenEntries errorAt errorsFor
+    isThrough isLostBy matches numberBeside erredWith erred broken brokenEntry brokenEntries errorAt errorsFor
     hasBadAddress severalOrAll hasBadList isLowTtlReply isStaleFor isStale matchesNothing rowsNeeded
     rannReceived rrepReceived rreqReceived rerrReceived received receive
     ownPath announced requested itemAt itemsFit knownNumber askedFor ask announce rootRequest

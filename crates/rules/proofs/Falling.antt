@@ -1,26 +1,27 @@
 -- A break and a received error: every row stays held, and the table stays one. Assumes nothing.
 use Prim.Native.Nat.{ℕ, _^_, _<_}
 use mathlib.Core.Path.{_≡_, refl, sym, ap, subst, _∙_}
-use mathlib.Core.Bool.{true, false, and-eq-true-iff}
+use mathlib.Core.Bool.{Bool, true, false, and-eq-true-iff}
 use mathlib.Core.List.{List, [], _∷_}
 use mathlib.Core.Option.{Option, none, some, Option·none-ne-some, Option·some-injective}
-use lib.Dec.{eqb}
+use lib.Dec.{eqb, ltb}
 use native.Mathlib.Omega.{arith}
+use borrow.Author.Tests.{eqb-true}
 use Rattle.octets.proofs.Laws.{FitFields}
 use Rattle.counters.specs.declared.SequenceNumber.{SequenceNumber}
 use Rattle.counters.specs.Numbers.{stepped, nextNumber, newer}
 use Rattle.table.specs.declared.address.Address.{Address}
 use Rattle.table.specs.declared.row.Row.{Row}
 use Rattle.table.specs.Address.{same}
-use Rattle.table.specs.Row.{isHeld, invalidated, raised}
-use Rattle.table.specs.Table.{own, eachHeld}
-use Rattle.table.proofs.EachHeld.{KeepsRow, each-length, each-head, each-octets, each-legal}
+use Rattle.table.specs.Row.{active, isHeld, invalidated, raised}
+use Rattle.table.specs.Table.{own, changeWhere}
+use Rattle.table.proofs.Changes.{KeepsRows, change-length, change-head, change-octets, change-legal}
 use Rattle.table.proofs.HeadAndRows.{FitRow}
 use Rattle.table.proofs.HeldRows.{Held, held-says, held-is, invalid-fits, raised-fits, invalid-held, raised-held}
 use Rattle.element.specs.declared.NumberedAddress.{NumberedAddress}
 use Rattle.element.specs.Entries.{All}
 use Rattle.element.proofs.ListParts.{FitsNumbered}
-use Rattle.rules.specs.Errors.{isThrough, isLostBy, numberBeside, erred, afterError, broken, afterBreak}
+use Rattle.rules.specs.Errors.{isThrough, isLostBy, numberBeside, erredWith, erred, broken}
 use Rattle.rules.proofs.Branches.{cond-cases}
 use Rattle.rules.proofs.Tables.{Whole, Keeps}
 
@@ -36,12 +37,6 @@ lost-destination r r′ (unchanged e) = ap (λ (q : Row). q .destination) e
 lost-destination r r′ (invalid e) = ap (λ (q : Row). q .destination) e
 lost-destination r r′ (higher n l k e) = ap (λ (q : Row). q .destination) e
 
-lost-held : (r r′ : Row) → Lost r r′ → eqb (r .status) 0 ≡ false → eqb (r′ .status) 0 ≡ false
-unfolding invalidated raised
-lost-held r r′ (unchanged e) h = ap (λ (q : Row). eqb (q .status) 0) e ∙ h
-lost-held r r′ (invalid e) h = ap (λ (q : Row). eqb (q .status) 0) e
-lost-held r r′ (higher n l k e) h = ap (λ (q : Row). eqb (q .status) 0) e
-
 lost-fits : (r r′ : Row) → Lost r r′ → FitRow r → FitRow r′
 lost-fits r r′ (unchanged e) f = subst FitRow (sym e) f
 lost-fits r r′ (invalid e) f = subst FitRow (sym e) (invalid-fits r f)
@@ -56,27 +51,38 @@ lost-legal a r r′ (higher n l k e) h =
     let down : Held a (invalidated r) = invalid-held r a (held-says a r h) in
     subst (λ (q : Row). isHeld a q ≡ true) (sym e) (held-is a (raised n (invalidated r)) (raised-held (invalidated r) a down n k))
 
--- ---- a change of every row that loses some
+lost-held : (r r′ : Row) → Lost r r′ → eqb (r .status) 0 ≡ false → eqb (r′ .status) 0 ≡ false
+unfolding invalidated raised
+lost-held r r′ (unchanged e) h = ap (λ (q : Row). eqb (q .status) 0) e ∙ h
+lost-held r r′ (invalid e) h = ap (λ (q : Row). eqb (q .status) 0) e
+lost-held r r′ (higher n l k e) h = ap (λ (q : Row). eqb (q .status) 0) e
 
-module _ (f : Row → Row) (lost : (r : Row) → Lost r (f r)) where
-  lost-keeps-row : KeepsRow f
-  lost-keeps-row =
+-- ---- a change of active rows that loses some of them
+
+active-held : (c : ℕ) (r : Row) → active c r ≡ true → eqb (r .status) 0 ≡ false
+unfolding active
+active-held c r e = ap (λ k. eqb k 0) (eqb-true (r .status) 1 (and-eq-true-iff (eqb (r .status) 1) (ltb c (r .expiry)) .0 e .0))
+
+module _ (p : Row → Bool) (f : Row → Row) (c : ℕ) (acts : (r : Row) → p r ≡ true → active c r ≡ true) (lost : (r : Row) → p r ≡ true → Lost r (f r)) where
+  lost-keeps-rows : KeepsRows p f
+  lost-keeps-rows =
       record {
-        destination = λ r. lost-destination r (f r) (lost r);
-        held = λ r. lost-held r (f r) (lost r);
-        fits = λ r. lost-fits r (f r) (lost r);
+        was-held = λ r e. active-held c r (acts r e);
+        held = λ r e. lost-held r (f r) (lost r e) (active-held c r (acts r e));
+        destination = λ r e. lost-destination r (f r) (lost r e);
+        fits = λ r e. lost-fits r (f r) (lost r e);
       }
 
-  lost-keeps : (t : List ℕ) → Whole t → Keeps t (eachHeld f t)
+  lost-keeps : (t : List ℕ) → Whole t → Keeps t (changeWhere p f t)
   lost-keeps t w =
       record {
         whole = record {
-          octets = each-octets f t (w .octets);
-          long = rw each-length (w .long);
-          legal = each-legal f lost-keeps-row t (w .octets) (w .legal) (λ r. lost-legal (own t) r (f r) (lost r));
+          octets = change-octets p f t (w .octets);
+          long = rw change-length (w .long);
+          legal = change-legal p f lost-keeps-rows t (w .octets) (w .legal) (λ r e. lost-legal (own t) r (f r) (lost r e));
         };
-        head = each-head f t;
-        length = each-length f t;
+        head = change-head p f t;
+        length = change-length p f t;
       }
 
 -- ---- a break
@@ -89,16 +95,16 @@ broken-loses : (r : Row) → Lost r (broken r)
 unfolding broken
 broken-loses r = cond-cases (Lost r) (eqb (r .known) 1) (λ k. higher _ (next-fits (r .number)) k refl) (λ _. invalid refl)
 
-break-loses : (c : ℕ) (neighbour : Address) (r : Row) → Lost r (afterBreak c neighbour r)
-unfolding afterBreak
-break-loses c neighbour r = cond-cases (Lost r) (isThrough c neighbour r) (λ _. broken-loses r) (λ _. unchanged refl)
+through-acts : (c : ℕ) (hop : Address) (r : Row) → isThrough c hop r ≡ true → active c r ≡ true
+unfolding isThrough
+through-acts c hop r e = and-eq-true-iff (active c r) (same (r .next) hop) .0 e .0
 
 module _ (c : ℕ) (neighbour : Address) where
-  pub break-keeps-row : KeepsRow (afterBreak c neighbour)
-  break-keeps-row = lost-keeps-row (afterBreak c neighbour) (break-loses c neighbour)
+  pub break-keeps-rows : KeepsRows (isThrough c neighbour) broken
+  break-keeps-rows = lost-keeps-rows (isThrough c neighbour) broken c (through-acts c neighbour) (λ r _. broken-loses r)
 
-  pub break-keeps : (t : List ℕ) → Whole t → Keeps t (eachHeld (afterBreak c neighbour) t)
-  break-keeps = lost-keeps (afterBreak c neighbour) (break-loses c neighbour)
+  pub break-keeps : (t : List ℕ) → Whole t → Keeps t (changeWhere (isThrough c neighbour) broken t)
+  break-keeps = lost-keeps (isThrough c neighbour) broken c (through-acts c neighbour) (λ r _. broken-loses r)
 
 -- ---- a received error, whose entries fit their octets
 
@@ -111,23 +117,25 @@ beside-fits d (m ∷ named) f n =
     (λ _. beside-fits d named (f .1) n)
 
 module _ (c : ℕ) (transmitter : Address) (named : List NumberedAddress) (fit : All FitsNumbered named) where
-  erred-loses : (r : Row) → eqb (r .known) 1 ≡ true → (o : Option SequenceNumber) → numberBeside (r .destination) named ≡ o → Lost r (erred o r)
-  unfolding erred
-  erred-loses r k none e = unchanged refl
-  erred-loses r k (some n) e =
+  erred-with-loses : (r : Row) → eqb (r .known) 1 ≡ true → (o : Option SequenceNumber) → numberBeside (r .destination) named ≡ o → Lost r (erredWith o r)
+  unfolding erredWith
+  erred-with-loses r k none e = unchanged refl
+  erred-with-loses r k (some n) e =
       cond-cases (Lost r) (newer n (r .number)) (λ _. higher n (beside-fits (r .destination) named fit n e) k refl) (λ _. invalid refl)
 
-  lost-known : (r : Row) → isLostBy c transmitter r ≡ true → eqb (r .known) 1 ≡ true
+  -- a match is active, and its number is known
+  match-is : (r : Row) → isLostBy c transmitter r ≡ true → (active c r ≡ true) × (eqb (r .known) 1 ≡ true)
   unfolding isLostBy
-  lost-known r e = and-eq-true-iff (isThrough c transmitter r) (eqb (r .known) 1) .0 e .1
+  match-is r e =
+      let both = and-eq-true-iff (isThrough c transmitter r) (eqb (r .known) 1) .0 e in
+      (through-acts c transmitter r (both .0), both .1)
 
-  error-loses : (r : Row) → Lost r (afterError c transmitter named r)
-  unfolding afterError
-  error-loses r =
-      cond-cases (Lost r) (isLostBy c transmitter r) (λ e. erred-loses r (lost-known r e) (numberBeside (r .destination) named) refl) (λ _. unchanged refl)
+  erred-loses : (r : Row) → isLostBy c transmitter r ≡ true → Lost r (erred named r)
+  unfolding erred
+  erred-loses r e = erred-with-loses r (match-is r e .1) (numberBeside (r .destination) named) refl
 
-  pub error-keeps-row : KeepsRow (afterError c transmitter named)
-  error-keeps-row = lost-keeps-row (afterError c transmitter named) error-loses
+  pub error-keeps-rows : KeepsRows (isLostBy c transmitter) (erred named)
+  error-keeps-rows = lost-keeps-rows (isLostBy c transmitter) (erred named) c (λ r e. match-is r e .0) erred-loses
 
-  pub error-keeps : (t : List ℕ) → Whole t → Keeps t (eachHeld (afterError c transmitter named) t)
-  error-keeps = lost-keeps (afterError c transmitter named) error-loses
+  pub error-keeps : (t : List ℕ) → Whole t → Keeps t (changeWhere (isLostBy c transmitter) (erred named) t)
+  error-keeps = lost-keeps (isLostBy c transmitter) (erred named) c (λ r e. match-is r e .0) erred-loses

@@ -5,16 +5,16 @@ use mathlib.Core.List.{List}
 use Rattle.table.specs.declared.address.Address.{Address}
 use Rattle.table.specs.Address.{individual, same}
 use Rattle.table.specs.Layout.{sized}
-use Rattle.table.specs.Table.{own, number, clock, isTable, eachHeld}
+use Rattle.table.specs.Table.{own, number, clock, isTable, changeWhere}
 use Rattle.rules.specs.Decision.{Decision, Ruling, decide, refuse_when_, _above_, _below_, accept, _>>_}
 use Rattle.rules.specs.Outcome.{Effect, underHead}
-use Rattle.rules.specs.Errors.{afterBreak, brokenEntries, errorsFor}
+use Rattle.rules.specs.Errors.{isThrough, broken, brokenEntries, errorsFor}
 
 -- every active row through that neighbour breaks, the clock is stored, and those rows are announced
 unfoldable pub brokenOff : List ℕ → ℕ → Address → Effect
 brokenOff t c neighbour =
     record {
-      table = underHead t (number t) c (eachHeld (afterBreak c neighbour) t);
+      table = underHead t (number t) c (changeWhere (isThrough c neighbour) broken t);
       frames = errorsFor (brokenEntries t c neighbour);
     }
 

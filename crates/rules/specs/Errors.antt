@@ -40,23 +40,19 @@ numberBeside d [] = none
 numberBeside d (m ∷ named) = cond (same (m .address) d) (some (m .number)) (numberBeside d named)
 
 -- a match is invalidated; if the received number is newer, the row takes it and metric 4,294,967,295
-unfoldable pub erred : Option SequenceNumber → Row → Row
-erred none r = r
-erred (some n) r = cond (newer n (r .number)) (raised n (invalidated r)) (invalidated r)
+unfoldable pub erredWith : Option SequenceNumber → Row → Row
+erredWith none r = r
+erredWith (some n) r = cond (newer n (r .number)) (raised n (invalidated r)) (invalidated r)
 
--- a row after a RERR
-unfoldable pub afterError : ℕ → Address → List NumberedAddress → Row → Row
-afterError c transmitter named r = cond (isLostBy c transmitter r) (erred (numberBeside (r .destination) named) r) r
+-- a row after a RERR that names these destinations
+unfoldable pub erred : List NumberedAddress → Row → Row
+erred named r = erredWith (numberBeside (r .destination) named) r
 
 -- ---- a broken neighbour
 
 -- a row that breaks is invalidated; if its number is known, it is stepped by one and metric becomes 4,294,967,295
 unfoldable pub broken : Row → Row
 broken r = cond (eqb (r .known) 1) (raised (nextNumber (r .number)) (invalidated r)) (invalidated r)
-
--- a row after a break
-unfoldable pub afterBreak : ℕ → Address → Row → Row
-afterBreak c neighbour r = cond (isThrough c neighbour r) (broken r) r
 
 -- its entry in an error, with the number that the break leaves
 unfoldable pub brokenEntry : ℕ → Address → Row → List NumberedAddress

@@ -10,7 +10,7 @@ use Rattle.table.specs.declared.address.Address.{Address}
 use Rattle.table.specs.declared.row.Row.{Row}
 use Rattle.table.specs.Address.{individual, same}
 use Rattle.table.specs.Layout.{sized}
-use Rattle.table.specs.Table.{own, number, clock, isTable, rowFor, newRows, freeRows, eachHeld}
+use Rattle.table.specs.Table.{own, number, clock, isTable, rowFor, newRows, freeRows, changeWhere}
 use Rattle.element.specs.declared.PathInfo.{PathInfo}
 use Rattle.element.specs.declared.NumberedAddress.{NumberedAddress}
 use Rattle.element.specs.declared.Target.{Target}
@@ -27,7 +27,7 @@ use Rattle.rules.specs.Outcome.{Effect, underHead}
 use Rattle.rules.specs.Learn.{Arrival, metricHere, learnt}
 use Rattle.rules.specs.Destinations.{Answered, allAnswered}
 use Rattle.rules.specs.Onward.{rannOnward, rreqOnward, rrepOnward, toAll}
-use Rattle.rules.specs.Errors.{matches, afterError}
+use Rattle.rules.specs.Errors.{isLostBy, matches, erred}
 
 -- ---- what a RANN, a RREQ and a RREP have in common
 
@@ -130,7 +130,7 @@ module _ (t : List ℕ) (a : Arrival) where
   unfoldable pub rerrReceived : ℕ → List NumberedAddress → Effect
   rerrReceived flags destinations =
       record {
-        table = underHead t (number t) (a .clock) (eachHeld (afterError (a .clock) (a .transmitter) destinations) t);
+        table = underHead t (number t) (a .clock) (changeWhere (isLostBy (a .clock) (a .transmitter)) (erred destinations) t);
         frames = toAll (rerr flags (those (matches t (a .clock) (a .transmitter)) destinations));
       }
 

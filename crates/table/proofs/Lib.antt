@@ -1,6 +1,6 @@
 -- The laws of tables, for this crate's proofs and its callers'.
 pub mod Cases
-pub mod EachHeld
+pub mod Changes
 pub mod HeadAndRows
 pub mod Heads
 pub mod Lookup

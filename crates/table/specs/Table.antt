@@ -99,13 +99,13 @@ store t r = putAt t r (placeFor t (r .destination))
 unfoldable pub freed : List ℕ → Address → List ℕ
 freed t d = putAt t freeRow (findRow t d)
 
--- row i is changed by f if it is held; and so each held row below n
-abbrev pub changeAt : (Row → Row) → ℕ → List ℕ → List ℕ
-changeAt f i t = cond (vacant t i) t (putRow t i (f (rowAt t i)))
+-- row i is changed by f if it passes the test p; and so each row below n, and each row: the others stay, octet by octet
+abbrev pub changeAt : (Row → Bool) → (Row → Row) → ℕ → List ℕ → List ℕ
+changeAt p f i t = cond (p (rowAt t i)) (putRow t i (f (rowAt t i))) t
 
-unfoldable pub changeBelow : (Row → Row) → ℕ → List ℕ → List ℕ
-changeBelow f zero t = t
-changeBelow f (suc n) t = changeAt f n (changeBelow f n t)
+unfoldable pub changeBelow : (Row → Bool) → (Row → Row) → ℕ → List ℕ → List ℕ
+changeBelow p f zero t = t
+changeBelow p f (suc n) t = changeAt p f n (changeBelow p f n t)
 
-unfoldable pub eachHeld : (Row → Row) → List ℕ → List ℕ
-eachHeld f t = changeBelow f (rows t) t
+unfoldable pub changeWhere : (Row → Bool) → (Row → Row) → List ℕ → List ℕ
+changeWhere p f t = changeBelow p f (rows t) t
