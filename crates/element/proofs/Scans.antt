@@ -12,10 +12,11 @@ use Rattle.octets.specs.LittleEndian.{numberAt, fieldsAt}
 use Rattle.table.specs.declared.address.Address.{Address}
 use Rattle.table.specs.Address.{same}
 use Rattle.element.specs.declared.list.ListKind.{ListKind}
-use Rattle.element.specs.declared.list.ListKind.the-variants.{Targets, NumberedAddresses}
+use Rattle.element.specs.declared.list.ListKind.the-variants.{Targets, NumberedAddresses, Items}
+use Rattle.element.specs.declared.Item.{Item}
 use Rattle.element.specs.declared.NumberedAddress.{NumberedAddress}
 use Rattle.element.specs.declared.Target.{Target}
-use Rattle.element.specs.Entries.{each, numberedFrom, numberedAt, targetFrom, targetAt}
+use Rattle.element.specs.Entries.{each, itemFrom, itemAt, numberedFrom, numberedAt, targetFrom, targetAt}
 use Rattle.element.specs.Lists.{addressIn, entriesIn, addressesFrom, addressesIn, allOnes, allowed, anyForbidden, among, twice, onesBesideOthers}
 
 -- ---- entries one after another
@@ -56,6 +57,10 @@ module _ (part : List ℕ) (i : ℕ) where
   unfolding numberedAt fieldsAt
   numbered-read p₁ p₂ = cc (add-zero (10 * i))
 
+  pub item-read : {a b : ℕ} → a ≡ numberAt 1 part (7 * i) → b ≡ numberAt 6 part (7 * i + 1) → itemFrom (a ∷ b ∷ []) ≡ itemAt part i
+  unfolding itemAt fieldsAt
+  item-read p₁ p₂ = cc (add-zero (7 * i))
+
   module _ (k : ListKind) (l : i < entriesIn k part) where
     pub target-within : k ≡ Targets → 11 * (i + 1) ≤ length part
     unfolding entriesIn
@@ -65,31 +70,37 @@ module _ (part : List ℕ) (i : ℕ) where
     unfolding entriesIn
     numbered-within e = let h = rw e at l in omega arith
 
+    pub item-within : k ≡ Items → 7 * (i + 1) ≤ length part
+    unfolding entriesIn
+    item-within e = let h = rw e at l in omega arith
+
     pub target-address : k ≡ Targets → (t : Target) → t ≡ targetAt part i → t .address ≡ addressIn k part i
     target-address ke t e = rw (ke, e)
 
     pub numbered-address : k ≡ NumberedAddresses → (a : NumberedAddress) → a ≡ numberedAt part i → a .address ≡ addressIn k part i
     numbered-address ke a e = rw (ke, e)
 
--- ---- scans: F asks p of each entry and those after it, and ends at the first that passes
+    pub item-address : k ≡ Items → (a : Item) → a ≡ itemAt part i → a .address ≡ addressIn k part i
+    item-address ke a e = rw (ke, e)
 
-module _ (F : List Address → Bool) (p : Address → List Address → Bool) (empty : F [] ≡ false)
-    (more : (a : Address) (rest : List Address) → F (a ∷ rest) ≡ (p a rest || F rest))
-    (k : ListKind) (part : List ℕ) where
-  from-next : (i : ℕ) → i < entriesIn k part → F (addressesFrom k part i) ≡ (p (addressIn k part i) (addressesFrom k part (i + 1)) || F (addressesFrom k part (i + 1)))
-  unfolding addressesFrom
-  from-next i l = ap F (each-next (addressIn k part) i (entriesIn k part) l) ∙ more (addressIn k part i) (addressesFrom k part (i + 1))
+-- ---- scans: F asks p of each entry and those after it, and ends at the first that passes; g is what the whole scan gives
 
-  scan-found : (i : ℕ) (g : Bool) → i < entriesIn k part → p (addressIn k part i) (addressesFrom k part (i + 1)) ≡ true → F (addressesFrom k part i) ≡ g → true ≡ g
-  scan-found i g l yes-p e = sym (from-next i l ∙ ap (λ (b : Bool). b || F (addressesFrom k part (i + 1))) yes-p) ∙ e
+module _ {A : Type 0} (F : List A → Bool) (p : A → List A → Bool) (empty : F [] ≡ false)
+    (more : (a : A) (rest : List A) → F (a ∷ rest) ≡ (p a rest || F rest)) (f : ℕ → A) (n i : ℕ) (g : Bool) where
+  abbrev after : List A
+  after = each f (i + 1) (n - (i + 1))
 
-  scan-more : (i : ℕ) (g : Bool) → i < entriesIn k part → p (addressIn k part i) (addressesFrom k part (i + 1)) ≡ false → F (addressesFrom k part i) ≡ g
-      → F (addressesFrom k part (i + 1)) ≡ g
-  scan-more i g l no-p e = sym (from-next i l ∙ ap (λ (b : Bool). b || F (addressesFrom k part (i + 1))) no-p) ∙ e
+  scan-next : i < n → F (each f i (n - i)) ≡ (p (f i) after || F after)
+  scan-next l = ap F (each-next f i n l) ∙ more (f i) after
 
-  scan-ended : (i : ℕ) (g : Bool) → entriesIn k part ≤ i → F (addressesFrom k part i) ≡ g → false ≡ g
-  unfolding addressesFrom
-  scan-ended i g l e = sym empty ∙ ap F (sym (each-end (addressIn k part) i (entriesIn k part) l)) ∙ e
+  pub scan-found : i < n → p (f i) after ≡ true → F (each f i (n - i)) ≡ g → true ≡ g
+  scan-found l yes-p e = sym (scan-next l ∙ ap (λ (b : Bool). b || F after) yes-p) ∙ e
+
+  pub scan-more : i < n → p (f i) after ≡ false → F (each f i (n - i)) ≡ g → F after ≡ g
+  scan-more l no-p e = sym (scan-next l ∙ ap (λ (b : Bool). b || F after) no-p) ∙ e
+
+  pub scan-ended : n ≤ i → F (each f i (n - i)) ≡ g → false ≡ g
+  scan-ended l e = sym empty ∙ ap F (sym (each-end f i n l)) ∙ e
 
 -- as the loops ask it: n entries, at entry i, and g what the whole scan gives
 module _ (k : ListKind) (part : List ℕ) (n : ℕ) (ne : n ≡ entriesIn k part) (i : ℕ) (g : Bool) where
@@ -103,56 +114,56 @@ module _ (k : ListKind) (part : List ℕ) (n : ℕ) (ne : n ≡ entriesIn k part
         allowed-is = be ∙ ap (allowed k) ae
 
         pub forbidden-found : not b ≡ true → anyForbidden k (addressesFrom k part i) ≡ g → true ≡ g
-        unfolding anyForbidden
+        unfolding addressesFrom anyForbidden
         forbidden-found no-b =
-            scan-found (anyForbidden k) (λ c rest. not (allowed k c)) refl (λ c rest. refl) k part i g entry-there (ap not (sym allowed-is) ∙ no-b)
+            scan-found (anyForbidden k) (λ c rest. not (allowed k c)) refl (λ c rest. refl) (addressIn k part) (entriesIn k part) i g entry-there (ap not (sym allowed-is) ∙ no-b)
 
         pub forbidden-more : not b ≡ false → anyForbidden k (addressesFrom k part i) ≡ g → anyForbidden k (addressesFrom k part (i + 1)) ≡ g
-        unfolding anyForbidden
+        unfolding addressesFrom anyForbidden
         forbidden-more yes-b =
-            scan-more (anyForbidden k) (λ c rest. not (allowed k c)) refl (λ c rest. refl) k part i g entry-there (ap not (sym allowed-is) ∙ yes-b)
+            scan-more (anyForbidden k) (λ c rest. not (allowed k c)) refl (λ c rest. refl) (addressIn k part) (entriesIn k part) i g entry-there (ap not (sym allowed-is) ∙ yes-b)
 
       module _ (d : Address) where
         same-is : same a d ≡ same (addressIn k part i) d
         same-is = ap (λ (c : Address). same c d) ae
 
         pub among-found : a .0 ≡ d .0 → among d (addressesFrom k part i) ≡ g → true ≡ g
-        unfolding among
+        unfolding addressesFrom among
         among-found e =
-            scan-found (among d) (λ c rest. same c d) refl (λ c rest. refl) k part i g entry-there (sym same-is ∙ eq-eqb (a .0) (d .0) e)
+            scan-found (among d) (λ c rest. same c d) refl (λ c rest. refl) (addressIn k part) (entriesIn k part) i g entry-there (sym same-is ∙ eq-eqb (a .0) (d .0) e)
 
         pub among-more : (a .0 ≡ d .0 → ⊥) → among d (addressesFrom k part i) ≡ g → among d (addressesFrom k part (i + 1)) ≡ g
-        unfolding among
+        unfolding addressesFrom among
         among-more e =
-            scan-more (among d) (λ c rest. same c d) refl (λ c rest. refl) k part i g entry-there (sym same-is ∙ ne-eqb (a .0) (d .0) e)
+            scan-more (among d) (λ c rest. same c d) refl (λ c rest. refl) (addressIn k part) (entriesIn k part) i g entry-there (sym same-is ∙ ne-eqb (a .0) (d .0) e)
 
       module _ (b : Bool) (be : b ≡ among a (addressesFrom k part (i + 1))) where
         among-is : b ≡ among (addressIn k part i) (addressesFrom k part (i + 1))
         among-is = be ∙ ap (λ (c : Address). among c (addressesFrom k part (i + 1))) ae
 
         pub twice-found : b ≡ true → twice (addressesFrom k part i) ≡ g → true ≡ g
-        unfolding twice
-        twice-found yes-b = scan-found twice among refl (λ c rest. refl) k part i g entry-there (sym among-is ∙ yes-b)
+        unfolding addressesFrom twice
+        twice-found yes-b = scan-found twice among refl (λ c rest. refl) (addressIn k part) (entriesIn k part) i g entry-there (sym among-is ∙ yes-b)
 
         pub twice-more : b ≡ false → twice (addressesFrom k part i) ≡ g → twice (addressesFrom k part (i + 1)) ≡ g
-        unfolding twice
-        twice-more no-b = scan-more twice among refl (λ c rest. refl) k part i g entry-there (sym among-is ∙ no-b)
+        unfolding addressesFrom twice
+        twice-more no-b = scan-more twice among refl (λ c rest. refl) (addressIn k part) (entriesIn k part) i g entry-there (sym among-is ∙ no-b)
 
   module _ (l : n ≤ i) where
     all-passed : entriesIn k part ≤ i
     all-passed = rw (← ne) l
 
     pub forbidden-ended : anyForbidden k (addressesFrom k part i) ≡ g → false ≡ g
-    unfolding anyForbidden
-    forbidden-ended = scan-ended (anyForbidden k) (λ c rest. not (allowed k c)) refl (λ c rest. refl) k part i g all-passed
+    unfolding addressesFrom anyForbidden
+    forbidden-ended = scan-ended (anyForbidden k) (λ c rest. not (allowed k c)) refl (λ c rest. refl) (addressIn k part) (entriesIn k part) i g all-passed
 
     pub among-ended : (d : Address) → among d (addressesFrom k part i) ≡ g → false ≡ g
-    unfolding among
-    among-ended d = scan-ended (among d) (λ c rest. same c d) refl (λ c rest. refl) k part i g all-passed
+    unfolding addressesFrom among
+    among-ended d = scan-ended (among d) (λ c rest. same c d) refl (λ c rest. refl) (addressIn k part) (entriesIn k part) i g all-passed
 
     pub twice-ended : twice (addressesFrom k part i) ≡ g → false ≡ g
-    unfolding twice
-    twice-ended = scan-ended twice among refl (λ c rest. refl) k part i g all-passed
+    unfolding addressesFrom twice
+    twice-ended = scan-ended twice among refl (λ c rest. refl) (addressIn k part) (entriesIn k part) i g all-passed
 
 module _ (k : ListKind) (part : List ℕ) where
   pub ones-beside : (b : Bool) (n : ℕ) → b ≡ among allOnes (addressesIn k part) → n ≡ entriesIn k part
@@ -171,3 +182,8 @@ module _ (k : ListKind) (part : List ℕ) (n : ℕ) (ne : n ≡ length part / 10
   pub numbered-many : k ≡ NumberedAddresses → n ≡ entriesIn k part
   unfolding entriesIn
   numbered-many e = rw e ne
+
+module _ (k : ListKind) (part : List ℕ) (n : ℕ) (ne : n ≡ length part / 7) where
+  pub items-many : k ≡ Items → n ≡ entriesIn k part
+  unfolding entriesIn
+  items-many e = rw e ne

@@ -1,12 +1,14 @@
--- Entries of a list: by index, one after another, and what holds of all. Those of an element's list part. Assumes nothing.
+-- Entries of a list: by index, one after another, and what holds of all. Those of an element's list part, and
+-- the items of an ask. Assumes nothing.
 use Prim.Native.Nat.{ℕ, zero, suc, _*_, _/_}
 use mathlib.Core.List.{List, [], _∷_}
 use lib.ListN.{length, getD}
 use Rattle.octets.specs.LittleEndian.{fieldsAt, fieldOctets}
+use Rattle.element.specs.declared.Item.{Item}
 use Rattle.element.specs.declared.NumberedAddress.{NumberedAddress}
 use Rattle.element.specs.declared.Target.{Target}
 use Rattle.element.specs.Element.{numberedNumbers, targetNumbers}
-use Rattle.element.specs.Layout.{numberedWidths, targetWidths}
+use Rattle.element.specs.Layout.{itemWidths, numberedWidths, targetWidths}
 
 -- f i, f (i + 1) and so on, n of them
 unfoldable pub each : {A : Type 0} → (ℕ → A) → ℕ → ℕ → List A
@@ -52,3 +54,14 @@ targetsIn part = targetList (length part / 11) part
 
 unfoldable pub targetOctets : Target → List ℕ
 targetOctets t = fieldOctets targetWidths (targetNumbers t)
+
+-- ---- an ask's: flags 1, address 6
+
+abbrev pub itemFrom : List ℕ → Item
+itemFrom xs = record { flags = getD xs 0 0; address = record { 0 = getD xs 1 0 } }
+
+unfoldable pub itemAt : List ℕ → ℕ → Item
+itemAt part i = itemFrom (fieldsAt itemWidths part (7 * i) 0)
+
+abbrev pub itemsIn : List ℕ → List Item
+itemsIn part = each (itemAt part) 0 (length part / 7)

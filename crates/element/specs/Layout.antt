@@ -55,6 +55,10 @@ fieldWidths Rerr = 1 ∷ []
 abbrev pub targetWidths : List ℕ
 targetWidths = 1 ∷ 6 ∷ 4 ∷ []
 
+-- flags, address
+abbrev pub itemWidths : List ℕ
+itemWidths = 1 ∷ 6 ∷ []
+
 -- address, number
 abbrev pub numberedWidths : List ℕ
 numberedWidths = 6 ∷ 4 ∷ []

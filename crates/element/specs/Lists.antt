@@ -8,19 +8,21 @@ use lib.ListN.{length}
 use Rattle.table.specs.declared.address.Address.{Address}
 use Rattle.table.specs.Address.{individual, same}
 use Rattle.element.specs.declared.list.ListKind.{ListKind}
-use Rattle.element.specs.declared.list.ListKind.the-variants.{Targets, NumberedAddresses}
-use Rattle.element.specs.Entries.{each, numberedAt, targetAt}
+use Rattle.element.specs.declared.list.ListKind.the-variants.{Targets, NumberedAddresses, Items}
+use Rattle.element.specs.Entries.{each, itemAt, numberedAt, targetAt}
 
 -- ---- a list part by the kind of its entries
 
--- octets of an entry: flags 1, destination 6, number 4; or address 6, number 4
+-- octets of an entry: flags 1, destination 6, number 4; address 6, number 4; or flags 1, address 6
 abbrev pub sizeOf : ListKind → ℕ
 sizeOf Targets = 11
 sizeOf NumberedAddresses = 10
+sizeOf Items = 7
 
 abbrev pub addressIn : ListKind → List ℕ → ℕ → Address
 addressIn Targets part i = targetAt part i .address
 addressIn NumberedAddresses part i = numberedAt part i .address
+addressIn Items part i = itemAt part i .address
 
 unfoldable pub entriesIn : ListKind → List ℕ → ℕ
 entriesIn k part = length part / sizeOf k
@@ -37,10 +39,11 @@ addressesIn k part = addressesFrom k part 0
 abbrev pub allOnes : Address
 allOnes = record { 0 = 2 ^ 48 - 1 }
 
--- a destination is individual; as a RREQ destination all ones is allowed too
+-- a destination is individual; as a RREQ destination all ones is allowed too; an ask may not name all ones
 unfoldable pub allowed : ListKind → Address → Bool
 allowed Targets a = individual a || same a allOnes
 allowed NumberedAddresses a = individual a
+allowed Items a = individual a
 
 unfoldable pub anyForbidden : ListKind → List Address → Bool
 anyForbidden k [] = false

@@ -42,6 +42,12 @@ pub struct Target {
     pub number: SequenceNumber,
 }
 
+// An item of an ask: a destination to be asked for, with the flags that it gets in the RREQ.
+pub struct Item {
+    pub flags: u8,
+    pub address: Address,
+}
+
 // The fixed fields of a RREQ and of a RREP.
 pub struct RreqFields {
     pub request: RequestId,

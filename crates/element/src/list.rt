@@ -1,5 +1,6 @@
-// The list part of an element: its entries by index, and what can be wrong with the addresses of destinations. A list has
-// at most 25 entries, so all of this is by plain scans.
+// The list part of an element and the items of an ask: entries by index, and what can be wrong with the addresses of
+// destinations. A list has at most 25 entries, so all of this is by plain scans.
+use crate::Item;
 use crate::NumberedAddress;
 use crate::Target;
 use counters::SequenceNumber;
@@ -7,15 +8,16 @@ use table::address::Address;
 ghost use mathlib.Core.Path.{_≡_};
 ghost use Prim.Native.Nat.{_+_, _*_, _<_, _≤_};
 ghost use lib.ListN.{length};
-ghost use Rattle.element.specs.Entries.{numberedAt, targetAt};
+ghost use Rattle.element.specs.Entries.{itemAt, numberedAt, targetAt};
 ghost use Rattle.element.specs.Lists.{addressIn, addressesFrom, addressesIn, allowed, among, anyForbidden, entriesIn, onesBesideOthers, twice};
 
 const ALL_ONES: u64 = 281474976710655;
 
-// What the entries are: destinations of a RREQ; or dependents of a RREP and destinations of a RERR.
+// What the entries are: destinations of a RREQ; dependents of a RREP and destinations of a RERR; or items of an ask.
 pub enum ListKind {
     Targets,
     NumberedAddresses,
+    Items,
 }
 
 pub fn target_at(part: &[u8], i: usize) -> Target
@@ -41,6 +43,17 @@ pub fn numbered_at(part: &[u8], i: usize) -> NumberedAddress
     }
 }
 
+pub fn item_at(part: &[u8], i: usize) -> Item
+    requires { ⌜ 7 * (i + 1) ≤ length (now part) ⌝ }
+    ensures { λ r. ⌜ r ≡ itemAt (now (part .entry)) i ⌝ }
+{
+    let at = 7 * i;
+    Item {
+        flags: octets::read_u8(part, at),
+        address: Address(octets::read_u48(part, at + 1)),
+    }
+}
+
 // How many entries a list part has.
 pub fn entries_in(part: &[u8], kind: ListKind) -> usize
     ensures { λ r. ⌜ r ≡ entriesIn kind (now (part .entry)) ⌝ }
@@ -48,6 +61,7 @@ pub fn entries_in(part: &[u8], kind: ListKind) -> usize
     match kind {
         ListKind::Targets => part.len() / 11,
         ListKind::NumberedAddresses => part.len() / 10,
+        ListKind::Items => part.len() / 7,
     }
 }
 
@@ -58,6 +72,7 @@ fn address_at(part: &[u8], kind: ListKind, i: usize) -> Address
     match kind {
         ListKind::Targets => target_at(part, i).address,
         ListKind::NumberedAddresses => numbered_at(part, i).address,
+        ListKind::Items => item_at(part, i).address,
     }
 }
 
@@ -67,6 +82,7 @@ fn is_allowed(kind: ListKind, address: Address) -> bool
     match kind {
         ListKind::Targets => address.is_individual() | (address.0 == ALL_ONES),
         ListKind::NumberedAddresses => address.is_individual(),
+        ListKind::Items => address.is_individual(),
     }
 }
 

@@ -1,7 +1,7 @@
 -- Every accepted call leaves a table, and emits elements that fit their octets. Assumes nothing.
 use Prim.Native.Nat.{ℕ, _-_, _*_, _/_, _%_, _^_, _<_, _≤_}
 use mathlib.Core.Path.{_≡_, refl, _∙_}
-use mathlib.Core.Bool.{Bool, true, false, not, _&&_, _||_, and-eq-true-iff, true≢false}
+use mathlib.Core.Bool.{Bool, true, false, not, _&&_, and-eq-true-iff, true≢false}
 use mathlib.Core.List.{List, [], _∷_, map}
 use mathlib.Core.Option.{Option, none, some}
 use lib.Dec.{eqb, leb, ltb}
@@ -14,10 +14,12 @@ use Rattle.counters.specs.declared.SequenceNumber.{SequenceNumber}
 use Rattle.counters.specs.Numbers.{stepped, nextNumber, nextRequest}
 use Rattle.table.specs.declared.address.Address.{Address}
 use Rattle.table.specs.declared.row.Row.{Row}
+use Rattle.table.specs.Row.{headWith}
 use Rattle.table.specs.Layout.{headAt, putHead}
 use Rattle.table.specs.Table.{number, requestId, clock, rowFor}
 use Rattle.table.proofs.HeadAndRows.{FitRow}
 use Rattle.table.proofs.Lookup.{row-fits-its-octets}
+use Rattle.element.specs.declared.Item.{Item}
 use Rattle.element.specs.declared.NumberedAddress.{NumberedAddress}
 use Rattle.element.specs.declared.PathInfo.{PathInfo}
 use Rattle.element.specs.declared.RreqFields.{RreqFields}
@@ -25,19 +27,20 @@ use Rattle.element.specs.declared.RrepFields.{RrepFields}
 use Rattle.element.specs.declared.Target.{Target}
 use Rattle.element.specs.Element.{Element, rann, rreq, rrep, rerr}
 use Rattle.element.specs.Octets.{readElement}
-use Rattle.element.specs.Entries.{All}
+use Rattle.element.specs.Layout.{itemWidths}
+use Rattle.element.specs.Entries.{All, itemAt, itemsIn}
 use Rattle.element.proofs.Scans.{each-length}
 use Rattle.element.proofs.ListParts.{FitsTarget, FitsNumbered}
 use Rattle.element.proofs.ReadBack.{Fits, all-each}
 use Rattle.rules.specs.Decision.{Check, accepted}
 use Rattle.rules.specs.Lists.{any, those}
-use Rattle.rules.specs.Outcome.{Frame, Effect, headWith}
+use Rattle.rules.specs.Outcome.{Frame, Effect}
 use Rattle.rules.specs.Learn.{Arrival, learnt}
 use Rattle.rules.specs.Destinations.{Answered, allAnswered}
 use Rattle.rules.specs.Onward.{rreqOnward}
 use Rattle.rules.specs.Errors.{matches, brokenEntries}
 use Rattle.rules.specs.Receive.{matchesNothing, rannReceived, rrepReceived, rreqReceived, rerrReceived, received, receiving, receive}
-use Rattle.rules.specs.Originate.{ownPath, announced, requested, Item, itemWidths, itemAt, itemsIn, itemsFit, knownNumber, askedFor, asking, ask, announcing, announce, allWithDOAndRF, requestingAsRoot, rootRequest}
+use Rattle.rules.specs.Originate.{ownPath, announced, requested, itemsFit, knownNumber, askedFor, asking, ask, announcing, announce, isRootFlags, allWithDOAndRF, requestingAsRoot, rootRequest}
 use Rattle.rules.specs.Break.{brokenOff, breaking, breakNeighbour}
 use Rattle.rules.specs.Calls.{Call, receives, makes, asks, announces, requestsAsRoot, breaks, outcome, OperandsFit}
 use Rattle.rules.proofs.Rulings.{passed, passed-check}
@@ -193,7 +196,8 @@ items-count s e =
     (omega arith, omega arith)
 
 -- flags of a root request are 0, 1, 4 or 5
-root-flags-small : (flags : ℕ) → not (eqb flags 0 || eqb flags 1 || eqb flags 4 || eqb flags 5) ≡ false → flags < 256 ^ 1
+root-flags-small : (flags : ℕ) → not (isRootFlags flags) ≡ false → flags < 256 ^ 1
+unfolding isRootFlags
 root-flags-small flags e = by (ltb flags 6) refl
   where
     by : (b : Bool) → ltb flags 6 ≡ b → flags < 256 ^ 1

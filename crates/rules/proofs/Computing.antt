@@ -5,16 +5,16 @@ use Rattle.octets.specs.LittleEndian.{numberOctets, numberAt, over, withNumber,
 use Rattle.counters.specs.Numbers.{stepped, wrapped, newer, older}
 use Rattle.table.specs.Address.{individual}
 use Rattle.table.specs.Layout.{sized, headAt, putHead, allZero, rowAt, putRow}
-use Rattle.table.specs.Row.{headOk, isFree, isUnnumbered, isOther, statusOk, boundsOk, isHeld, rowOk, active, renewed, numbered, invalidated, raised}
+use Rattle.table.specs.Row.{headWith, headOk, isFree, isUnnumbered, isOther, statusOk, boundsOk, isHeld, rowOk, active, renewed, numbered, invalidated, raised}
 use Rattle.table.specs.Places.{first, count, every}
 use Rattle.table.specs.Table.{vacant, holds, findRow, rowFor, freeRows, firstFree, alone, isTable, fresh, placeFor, store, freed, changeBelow, changeWhere}
 use Rattle.element.specs.Layout.{known, kindWith, fits}
-use Rattle.element.specs.Entries.{each, numberedAt, numberedOctets, targetAt, targetOctets}
+use Rattle.element.specs.Entries.{each, numberedAt, numberedOctets, targetAt, targetOctets, itemAt}
 use Rattle.element.specs.Octets.{wrongLength, otherId, misfit, readAs, readElement, fixedOctets, writeElement, writeFrame}
-use Rattle.element.specs.Lists.{allowed, anyForbidden, among, twice, onesBesideOthers}
+use Rattle.element.specs.Lists.{entriesIn, addressesFrom, allowed, anyForbidden, among, twice, onesBesideOthers}
 use Rattle.rules.specs.Lists.{any, all, those}
 use Rattle.rules.specs.Flags.{bit, withDO}
-use Rattle.rules.specs.Outcome.{frameOctets, headWith, atExit}
+use Rattle.rules.specs.Outcome.{frameOctets, atExit}
 use Rattle.rules.specs.Fresh.{makeFresh}
 use Rattle.rules.specs.Forget.{forget}
 use Rattle.rules.specs.NextHop.{alongRow, nextHop}
@@ -23,7 +23,7 @@ use Rattle.rules.specs.Destinations.{reply, answeredNumber, answersFor, 
 use Rattle.rules.specs.Onward.{onward, towards, rannOnward, rreqOnward, rrepOnward}
 use Rattle.rules.specs.Errors.{isThrough, isLostBy, matches, numberBeside, erredWith, erred, broken, brokenEntry, brokenEntries, errorAt, errorsFor}
 use Rattle.rules.specs.Receive.{hasBadAddress, severalOrAll, hasBadList, isLowTtlReply, isStaleFor, isStale, matchesNothing, rowsNeeded, rannReceived, rrepReceived, rreqReceived, rerrReceived, received, receive}
-use Rattle.rules.specs.Originate.{ownPath, announced, requested, itemAt, itemsFit, knownNumber, askedFor, ask, announce, rootRequest}
+use Rattle.rules.specs.Originate.{ownPath, announced, requested, itemsFit, knownNumber, askedFor, ask, announce, isRootFlags, rootRequest}
 use Rattle.rules.specs.Break.{brokenOff, breakNeighbour}
 use Rattle.rules.specs.Calls.{outcome}
 use Rattle.rules.specs.Walk.{tableAt, sideBySide, rowOfPoint, follow, walk}
@@ -31,18 +31,18 @@ use Rattle.rules.specs.Walk.{tableAt, sideBySide, rowOfPoint, follow, wa
 unfoldable pub computing : Unit {0}
 unfolding flatMap numberOctets numberAt over withNumber fieldsAt withFields fieldOctets
     stepped wrapped newer older
-    individual sized headAt putHead allZero rowAt putRow headOk isFree isUnnumbered isOther statusOk boundsOk isHeld rowOk
+    individual sized headAt putHead allZero rowAt putRow headWith headOk isFree isUnnumbered isOther statusOk boundsOk isHeld rowOk
     active renewed numbered invalidated raised first count every vacant holds findRow rowFor freeRows firstFree alone
     isTable fresh placeFor store freed changeBelow changeWhere
-    known kindWith fits each numberedAt numberedOctets targetAt targetOctets wrongLength otherId misfit readAs readElement
-    fixedOctets writeElement writeFrame allowed anyForbidden among twice onesBesideOthers
-    any all those bit withDO frameOctets headWith atExit makeFresh forget alongRow nextHop
+    known kindWith fits each numberedAt numberedOctets targetAt targetOctets itemAt wrongLength otherId misfit readAs readElement
+    fixedOctets writeElement writeFrame entriesIn addressesFrom allowed anyForbidden among twice onesBesideOthers
+    any all those bit withDO frameOctets atExit makeFresh forget alongRow nextHop
     expiryOf subjectRow transmitterRow takesLink subjectLearnt transmitterLearnt learnt
     reply answeredNumber answersFor forOneself forAllOnes forAnother answered allAnswered
     onward towards rannOnward rreqOnward rrepOnward
     isThrough isLostBy matches numberBeside erredWith erred broken brokenEntry brokenEntries errorAt errorsFor
     hasBadAddress severalOrAll hasBadList isLowTtlReply isStaleFor isStale matchesNothing rowsNeeded
     rannReceived rrepReceived rreqReceived rerrReceived received receive
-    ownPath announced requested itemAt itemsFit knownNumber askedFor ask announce rootRequest
+    ownPath announced requested itemsFit knownNumber askedFor ask announce isRootFlags rootRequest
     brokenOff breakNeighbour outcome tableAt sideBySide rowOfPoint follow walk
 computing = tt

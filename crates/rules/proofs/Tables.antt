@@ -13,14 +13,13 @@ use Rattle.counters.specs.declared.SequenceNumber.{SequenceNumber}
 use Rattle.counters.specs.declared.RequestId.{RequestId}
 use Rattle.table.specs.declared.row.Head.{Head}
 use Rattle.table.specs.Address.{individual}
-use Rattle.table.specs.Row.{headOk}
+use Rattle.table.specs.Row.{headOk, headWith}
 use Rattle.table.specs.Layout.{sized, headAt, putHead}
 use Rattle.table.specs.Table.{own, number, requestId, clock, isTable}
 use Rattle.table.proofs.Cases.{sized-long}
 use Rattle.table.proofs.HeadAndRows.{FitHead, head-fits, head-same, head-octets, length-head}
 use Rattle.table.proofs.Heads.{head-legal}
 use Rattle.table.proofs.WellFormed.{Legal, legal-of}
-use Rattle.rules.specs.Outcome.{headWith}
 
 -- octets that are a table, as a call finds them once checks 1 and 21 are passed
 pub record Whole (t : List ℕ) : Type 0 where

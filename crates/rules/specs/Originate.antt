@@ -1,27 +1,27 @@
 -- 'Originating': ask, announce and root request. Each takes the next own number; hop count 0, TTL 31, metric 0, to all ones.
 -- Assumes nothing.
-use Prim.Native.Nat.{ℕ, _*_, _/_, _%_}
+use Prim.Native.Nat.{ℕ, _%_}
 use mathlib.Core.Bool.{Bool, not, _&&_, _||_, cond}
 use mathlib.Core.List.{List, [], _∷_, map}
 use mathlib.Core.Option.{Option, none, some}
 use lib.Dec.{eqb, leb}
-use lib.ListN.{length, getD}
-use Rattle.octets.specs.LittleEndian.{fieldsAt}
+use lib.ListN.{length}
 use Rattle.counters.specs.declared.SequenceNumber.{SequenceNumber}
 use Rattle.counters.specs.Numbers.{nextNumber, nextRequest}
-use Rattle.table.specs.declared.address.Address.{Address}
 use Rattle.table.specs.declared.row.Row.{Row}
+use Rattle.table.specs.Row.{headWith}
 use Rattle.table.specs.Layout.{sized, headAt, putHead}
 use Rattle.table.specs.Table.{own, number, requestId, clock, isTable, rowFor}
+use Rattle.element.specs.declared.Item.{Item}
 use Rattle.element.specs.declared.PathInfo.{PathInfo}
 use Rattle.element.specs.declared.Target.{Target}
-use Rattle.element.specs.declared.list.ListKind.the-variants.{NumberedAddresses}
+use Rattle.element.specs.declared.list.ListKind.the-variants.{Items}
 use Rattle.element.specs.Element.{rann, rreq}
-use Rattle.element.specs.Entries.{each}
-use Rattle.element.specs.Lists.{allOnes, anyForbidden, among, twice}
+use Rattle.element.specs.Entries.{itemsIn}
+use Rattle.element.specs.Lists.{addressesIn, allOnes, anyForbidden, among, twice}
 use Rattle.rules.specs.Decision.{Decision, Ruling, decide, refuse_when_, _above_, _below_, accept, _>>_}
 use Rattle.rules.specs.Lists.{any}
-use Rattle.rules.specs.Outcome.{Effect, headWith}
+use Rattle.rules.specs.Outcome.{Effect}
 use Rattle.rules.specs.Onward.{toAll}
 
 -- ---- what all three have in common
@@ -55,30 +55,14 @@ requested t flags lifetime targets =
       frames = toAll (rreq (record { request = nextRequest (requestId t); path = ownPath t flags lifetime }) targets);
     }
 
--- ---- ask: items of flags 1 and address 6
-
-pub record Item : Type 0 where
-  pub flags : ℕ
-  pub address : Address
-
-abbrev pub itemWidths : List ℕ
-itemWidths = 1 ∷ 6 ∷ []
-
-abbrev pub itemFrom : List ℕ → Item
-itemFrom xs = record { flags = getD xs 0 0; address = record { 0 = getD xs 1 0 } }
-
-unfoldable pub itemAt : List ℕ → ℕ → Item
-itemAt s i = itemFrom (fieldsAt itemWidths s (7 * i) 0)
-
-abbrev pub itemsIn : List ℕ → List Item
-itemsIn s = each (itemAt s) 0 (length s / 7)
-
-abbrev pub itemAddresses : List Item → List Address
-itemAddresses items = map (λ (i : Item). i .address) items
+-- ---- ask
 
 -- what 8 asks of an ask: 7 octets an item, 1 to 20 items
 unfoldable pub itemsFit : List ℕ → Bool
 itemsFit s = eqb (length s % 7) 0 && leb 7 (length s) && leb (length s) 140
+
+abbrev pub hasHighFlags : Item → Bool
+hasHighFlags i = i .flags above 3
 
 -- a destination's number is the row's known one, else 0
 unfoldable pub knownNumber : Option Row → SequenceNumber
@@ -93,43 +77,46 @@ asking t room lifetime s = do
   refuse 1 when not (sized t)
   refuse 2 when room below 1560
   refuse 8 when not (itemsFit s)
-  refuse 9 when anyForbidden NumberedAddresses (itemAddresses (itemsIn s))
-  refuse 10 when twice (itemAddresses (itemsIn s)) || any (λ (i : Item). i .flags above 3) (itemsIn s)
+  refuse 9 when anyForbidden Items (addressesIn Items s)
+  refuse 10 when twice (addressesIn Items s) || any hasHighFlags (itemsIn s)
   refuse 11 when eqb lifetime 0
   refuse 21 when not (isTable t)
-  refuse 24 when among (own t) (itemAddresses (itemsIn s))
+  refuse 24 when among (own t) (addressesIn Items s)
   accept (requested t 0 lifetime (map (askedFor t) (itemsIn s)))
 
 unfoldable pub ask : List ℕ → ℕ → ℕ → List ℕ → Decision Effect
 ask t room lifetime s = decide (asking t room lifetime s)
 
--- ---- announce
+-- ---- announce and root request
 
-abbrev pub announcing : List ℕ → ℕ → ℕ → ℕ → Ruling Effect
-announcing t room flags lifetime = do
+-- what both are refused for
+abbrev pub originating : {A : Type 0} → List ℕ → ℕ → (badFlags : Bool) → (lifetime : ℕ) → A → Ruling A
+originating t room badFlags lifetime a = do
   refuse 1 when not (sized t)
   refuse 2 when room below 1560
-  refuse 10 when flags above 1
+  refuse 10 when badFlags
   refuse 11 when eqb lifetime 0
   refuse 21 when not (isTable t)
-  accept (announced t flags lifetime)
+  accept a
+
+-- for an announcement, flags other than 0 or 1
+abbrev pub announcing : List ℕ → ℕ → ℕ → ℕ → Ruling Effect
+announcing t room flags lifetime = originating t room (flags above 1) lifetime (announced t flags lifetime)
 
 unfoldable pub announce : List ℕ → ℕ → ℕ → ℕ → Decision Effect
 announce t room flags lifetime = decide (announcing t room flags lifetime)
 
--- ---- root request: all ones as its one destination with DO and RF set and number 0
+-- for a root request, flags other than 0, 1, 4 or 5
+unfoldable pub isRootFlags : ℕ → Bool
+isRootFlags flags = eqb flags 0 || eqb flags 1 || eqb flags 4 || eqb flags 5
 
+-- all ones as its one destination with DO and RF set and number 0
 abbrev pub allWithDOAndRF : Target
 allWithDOAndRF = record { flags = 3; address = allOnes; number = record { 0 = 0 } }
 
 abbrev pub requestingAsRoot : List ℕ → ℕ → ℕ → ℕ → Ruling Effect
-requestingAsRoot t room flags lifetime = do
-  refuse 1 when not (sized t)
-  refuse 2 when room below 1560
-  refuse 10 when not (eqb flags 0 || eqb flags 1 || eqb flags 4 || eqb flags 5)
-  refuse 11 when eqb lifetime 0
-  refuse 21 when not (isTable t)
-  accept (requested t flags lifetime (allWithDOAndRF ∷ []))
+requestingAsRoot t room flags lifetime =
+    originating t room (not (isRootFlags flags)) lifetime (requested t flags lifetime (allWithDOAndRF ∷ []))
 
 unfoldable pub rootRequest : List ℕ → ℕ → ℕ → ℕ → Decision Effect
 rootRequest t room flags lifetime = decide (requestingAsRoot t room flags lifetime)

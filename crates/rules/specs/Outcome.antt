@@ -4,9 +4,8 @@ use mathlib.Core.List.{List, flatMap}
 use lib.ListN.{length}
 use Rattle.octets.specs.LittleEndian.{over}
 use Rattle.counters.specs.declared.SequenceNumber.{SequenceNumber}
-use Rattle.counters.specs.declared.RequestId.{RequestId}
 use Rattle.table.specs.declared.address.Address.{Address}
-use Rattle.table.specs.declared.row.Head.{Head}
+use Rattle.table.specs.Row.{headWith}
 use Rattle.table.specs.Layout.{headAt, putHead}
 use Rattle.table.specs.Table.{requestId}
 use Rattle.element.specs.Element.{Element}
@@ -25,11 +24,6 @@ pub record Effect : Type 0 where
 -- the frames as octets, without gaps
 unfoldable pub frameOctets : List Frame → List ℕ
 frameOctets frames = flatMap (λ (f : Frame). writeFrame (f .receiver) (f .element)) frames
-
--- the head h with this own number, request ID and latest clock
-unfoldable pub headWith : SequenceNumber → RequestId → ℕ → Head → Head
-headWith number request clock h =
-    record { own = h .own; zero2 = h .zero2; number = number; request = request; clock = clock; zero8 = h .zero8 }
 
 -- the rows of u under the head of t, with this own number and latest clock
 abbrev pub underHead : List ℕ → SequenceNumber → ℕ → List ℕ → List ℕ

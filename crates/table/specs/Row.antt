@@ -1,9 +1,10 @@
--- The head and the rows of a table as values: which are as they should be, and the steps that change a row.
+-- The head and the rows of a table as values: which are as they should be, and the steps that change them.
 -- Assumes nothing.
 use Prim.Native.Nat.{ℕ, _+_, _-_, _^_}
 use mathlib.Core.Bool.{Bool, _&&_, _||_, not}
 use lib.Dec.{eqb, leb, ltb}
 use Rattle.counters.specs.declared.SequenceNumber.{SequenceNumber}
+use Rattle.counters.specs.declared.RequestId.{RequestId}
 use Rattle.counters.specs.declared.Metric.{Metric}
 use Rattle.counters.specs.declared.HopCount.{HopCount}
 use Rattle.table.specs.declared.address.Address.{Address}
@@ -17,6 +18,11 @@ use Rattle.table.specs.Layout.{allZero, rowNumbers}
 -- of a fresh table: the given address and number, the rest zero
 abbrev pub freshHead : Address → SequenceNumber → Head
 freshHead own number = record { own = own; zero2 = 0; number = number; request = record { 0 = 0 }; clock = 0; zero8 = 0 }
+
+-- with this own number, request ID and latest clock
+unfoldable pub headWith : SequenceNumber → RequestId → ℕ → Head → Head
+headWith number request clock h =
+    record { own = h .own; zero2 = h .zero2; number = number; request = request; clock = clock; zero8 = h .zero8 }
 
 unfoldable pub headOk : Head → Bool
 headOk h = individual (h .own) && (eqb (h .zero2) 0 && leb (h .clock) (2 ^ 48 - 1) && eqb (h .zero8) 0)

@@ -7,7 +7,7 @@ use counters::SequenceNumber;
 ghost use mathlib.Core.Path.{_≡_};
 ghost use Prim.Native.Nat.{_+_, _≤_};
 ghost use lib.ListN.{length};
-ghost use Rattle.table.specs.Row.{active, freeRow, freshHead, invalidated, numbered, raised, renewed};
+ghost use Rattle.table.specs.Row.{active, freeRow, freshHead, headWith, invalidated, numbered, raised, renewed};
 ghost use Rattle.table.specs.Layout.{headAt, headNumbers, place, putHead, putRow, rowAt, rowNumbers};
 
 // The fields of the head and of a row, in the order of the octets. Those called zero hold no more than that.
@@ -45,6 +45,16 @@ impl Head {
             clock: 0,
             zero8: 0,
         }
+    }
+
+    // With what a call may change of it.
+    pub fn with(mut self, number: SequenceNumber, request: RequestId, clock: u64) -> Self
+        ensures { λ r. ⌜ r ≡ headWith number request clock self ⌝ }
+    {
+        self.number = number;
+        self.request = request;
+        self.clock = clock;
+        self
     }
 }
 

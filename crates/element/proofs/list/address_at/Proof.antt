@@ -1,6 +1,6 @@
 -- `element::list::address_at` meets its contract: kind by kind. Assumes nothing.
 use borrow.Author.Needs.{needs}
-use Rattle.element.proofs.Scans.{target-within, numbered-within, target-address, numbered-address}
+use Rattle.element.proofs.Scans.{target-within, numbered-within, item-within, target-address, numbered-address, item-address}
 use Rattle.element.proofs.list.address_at.Statement.{statement}
 use Rattle.element.proofs.list.address_at.Tie as tie
 
@@ -12,5 +12,8 @@ address-at-spec =
     (λ c κs. search target-within)
     (λ c. search needs)
     (λ c κs. search numbered-within)
+    (λ c. search needs)
+    (λ c κs. search item-within)
     (λ c. search target-address)
-    (λ c. search numbered-address))
+    (λ c. search numbered-address)
+    (λ c. search item-address))

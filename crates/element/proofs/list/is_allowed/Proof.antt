@@ -13,5 +13,8 @@ is-allowed-spec =
     (λ c κs. search needs)
     (λ c. search needs)
     (λ c κs. search needs)
+    (λ c. search needs)
+    (λ c κs. search needs)
+    (λ c. cc)
     (λ c. cc)
     (λ c. cc))
