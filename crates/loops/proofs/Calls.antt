@@ -1,6 +1,6 @@
 -- Each accepted call is `Fine`. Assumes nothing.
 use Prim.Native.Nat.{ℕ, _^_, _<_}
-use mathlib.Core.Path.{_≡_, refl, ap, subst, _∙_}
+use mathlib.Core.Path.{_≡_, refl, sym, ap, subst, _∙_}
 use mathlib.Core.Bool.{Bool}
 use mathlib.Core.List.{List, _++_, List·Memᴰ}
 use mathlib.Core.Option.{some, Option·map}
@@ -9,6 +9,7 @@ use Rattle.octets.specs.LittleEndian.{Octets}
 use Rattle.table.specs.declared.address.Address.{Address}
 use Rattle.table.specs.declared.row.Head.{Head}
 use Rattle.table.specs.declared.row.Row.{Row}
+use Rattle.table.specs.Row.{headWith}
 use Rattle.table.specs.Layout.{putHead}
 use Rattle.table.specs.Table.{own, number, rowFor, changeWhere}
 use Rattle.table.proofs.Heads.{head-found}
@@ -27,7 +28,7 @@ use Rattle.rules.specs.Destinations.{Answered, allAnswered}
 use Rattle.rules.specs.Onward.{onward, toAll, rannOnward, rreqOnward, rrepOnward}
 use Rattle.rules.specs.Errors.{isThrough, isLostBy, erred, broken, brokenEntries, errorAt}
 use Rattle.rules.specs.Receive.{pathOf, rannReceived, rrepReceived, rreqReceived, rerrReceived, received, receiving, receive}
-use Rattle.rules.specs.Originate.{ownPath, announced, requested, asking, ask, announcing, announce, requestingAsRoot, rootRequest}
+use Rattle.rules.specs.Originate.{rannNumbered, rreqNumbered, ownPath, announced, requested, asking, ask, announcing, announce, requestingAsRoot, rootRequest}
 use Rattle.rules.specs.Break.{brokenOff, breaking, breakNeighbour}
 use Rattle.rules.specs.Calls.{Call, receives, makes, asks, announces, requestsAsRoot, breaks, outcome, OperandsFit}
 use Rattle.rules.proofs.Rulings.{passed}
@@ -51,24 +52,24 @@ FromLog log (makes call) = Unit {0}
 -- ---- originating: no row is written, and what is sent is the point's own path
 
 module _ (d : Address) (base : ℕ) (log : List Sent) (t : List ℕ) where
-  originates : (h : Head) (e : Element) (flags lifetime : ℕ) → pathOf e ≡ some (ownPath t flags lifetime)
+  originates : (h : Head) → h .own ≡ own t → (e : Element) (flags lifetime : ℕ) → pathOf e ≡ some (ownPath h flags lifetime)
       → Sound d base log t (record { table = putHead t h; frames = toAll e })
   unfolding ownPath
-  originates h e flags lifetime is =
+  originates h same-point e flags lifetime is =
       let row : rowFor (putHead t h) d ≡ rowFor t d = head-found t h d in
       record {
         move = rw row (stay (rowFor t d));
         absent = λ self before. row ∙ before;
-        backed = to-all-emitted (λ (x : Element). Backed d base (own t) (rowFor (putHead t h) d) (pathOf x)) e (rw is (backed-path _ inl)) .each;
+        backed = to-all-emitted (λ (x : Element). Backed d base (own t) (rowFor (putHead t h) d) (pathOf x)) e (rw is (backed-path _ (λ about. inl (sym same-point ∙ about)))) .each;
       }
 
   requested-sound : (flags lifetime : ℕ) (targets : List Target) → Sound d base log t (requested t flags lifetime targets)
-  unfolding requested
-  requested-sound flags lifetime targets = originates _ _ flags lifetime refl
+  unfolding requested rreqNumbered headWith
+  requested-sound flags lifetime targets = originates _ refl _ flags lifetime refl
 
   announced-sound : (flags lifetime : ℕ) → Sound d base log t (announced t flags lifetime)
-  unfolding announced
-  announced-sound flags lifetime = originates _ _ flags lifetime refl
+  unfolding announced rannNumbered headWith
+  announced-sound flags lifetime = originates _ refl _ flags lifetime refl
 
 module _ (d : Address) (base : ℕ) (small : base < 2 ^ 32) (log : List Sent) (t : List ℕ) (octets : Octets t) (near : Near base (rowFor t d)) where
   -- ---- rows that fall, under frames that bring no path

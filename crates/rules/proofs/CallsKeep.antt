@@ -11,6 +11,7 @@ use borrow.Author.Tests.{ltb-false, ltb-true, leb-true, not-false, ne-eqb}
 use Rattle.octets.specs.LittleEndian.{Octets, fieldsAt}
 use Rattle.octets.proofs.Laws.{FitFields, fields-fit}
 use Rattle.counters.specs.declared.SequenceNumber.{SequenceNumber}
+use Rattle.counters.specs.declared.RequestId.{RequestId}
 use Rattle.counters.specs.Numbers.{stepped, nextNumber, nextRequest}
 use Rattle.table.specs.declared.address.Address.{Address}
 use Rattle.table.specs.declared.row.Row.{Row}
@@ -40,7 +41,7 @@ use Rattle.rules.specs.Destinations.{Answered, allAnswered}
 use Rattle.rules.specs.Onward.{rreqOnward}
 use Rattle.rules.specs.Errors.{matches, brokenEntries}
 use Rattle.rules.specs.Receive.{matchesNothing, rannReceived, rrepReceived, rreqReceived, rerrReceived, received, receiving, receive}
-use Rattle.rules.specs.Originate.{ownPath, announced, requested, itemsFit, knownNumber, askedFor, asking, ask, announcing, announce, isRootFlags, allWithDOAndRF, requestingAsRoot, rootRequest}
+use Rattle.rules.specs.Originate.{rannNumbered, rreqNumbered, ownPath, announced, requested, itemsFit, knownNumber, askedFor, asking, ask, announcing, announce, isRootFlags, allWithDOAndRF, requestingAsRoot, rootRequest}
 use Rattle.rules.specs.Break.{brokenOff, breaking, breakNeighbour}
 use Rattle.rules.specs.Calls.{Call, receives, makes, asks, announces, requestsAsRoot, breaks, outcome, OperandsFit}
 use Rattle.rules.proofs.Rulings.{passed, passed-check}
@@ -126,9 +127,11 @@ module _ (t : List ℕ) (a : Arrival) where
 -- ---- originating
 
 module _ (t : List ℕ) (w : Whole t) where
-  own-path-fits : (flags lifetime : ℕ) → flags < 256 ^ 1 → lifetime < 256 ^ 4 → PathFits (ownPath t flags lifetime)
-  unfolding ownPath
-  own-path-fits flags lifetime f l =
+  -- under the next own number, whatever else of the head changes
+  own-path-fits : (request : RequestId) (flags lifetime : ℕ) → flags < 256 ^ 1 → lifetime < 256 ^ 4
+      → PathFits (ownPath (headWith (nextNumber (number t)) request (clock t) (headAt t)) flags lifetime)
+  unfolding ownPath headWith
+  own-path-fits request flags lifetime f l =
       record {
         flags = f;
         hops = omega arith;
@@ -147,21 +150,21 @@ module _ (t : List ℕ) (w : Whole t) where
   request-next-fits = omega arith
 
   announced-kept : (flags lifetime : ℕ) → flags < 256 ^ 1 → lifetime < 256 ^ 4 → Kept t (announced t flags lifetime)
-  unfolding announced
+  unfolding announced rannNumbered
   announced-kept flags lifetime f l =
       record {
         leaves = head-leaves t t w same-table (nextNumber (number t)) (requestId t) (clock t) (next-fits (number t)) (request-fits t w) (clock-small t w);
-        frames = to-all-emitted Fits (rann (ownPath t flags lifetime)) (rann-fits (ownPath t flags lifetime) (own-path-fits flags lifetime f l)) .each;
+        frames = to-all-emitted Fits _ (rann-fits _ (own-path-fits (requestId t) flags lifetime f l)) .each;
       }
 
   requested-kept : (flags lifetime : ℕ) (targets : List Target) → flags < 256 ^ 1 → lifetime < 256 ^ 4 → All FitsTarget targets
       → 1 ≤ length targets → length targets ≤ 20 → Kept t (requested t flags lifetime targets)
-  unfolding requested
+  unfolding requested rreqNumbered headWith
   requested-kept flags lifetime targets f l fit one few =
       record {
         leaves = head-leaves t t w same-table (nextNumber (number t)) (nextRequest (requestId t)) (clock t) (next-fits (number t)) request-next-fits
             (clock-small t w);
-        frames = to-all-emitted Fits _ (rreq-fits _ targets request-next-fits (own-path-fits flags lifetime f l) fit one few) .each;
+        frames = to-all-emitted Fits _ (rreq-fits _ targets request-next-fits (own-path-fits (nextRequest (requestId t)) flags lifetime f l) fit one few) .each;
       }
 
   -- the items of an ask

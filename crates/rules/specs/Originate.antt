@@ -8,10 +8,11 @@ use lib.Dec.{eqb, leb}
 use lib.ListN.{length}
 use Rattle.counters.specs.declared.SequenceNumber.{SequenceNumber}
 use Rattle.counters.specs.Numbers.{nextNumber, nextRequest}
+use Rattle.table.specs.declared.row.Head.{Head}
 use Rattle.table.specs.declared.row.Row.{Row}
 use Rattle.table.specs.Row.{headWith}
 use Rattle.table.specs.Layout.{sized, headAt, putHead}
-use Rattle.table.specs.Table.{own, number, requestId, clock, isTable, rowFor}
+use Rattle.table.specs.Table.{own, number, clock, isTable, rowFor}
 use Rattle.element.specs.declared.Item.{Item}
 use Rattle.element.specs.declared.PathInfo.{PathInfo}
 use Rattle.element.specs.declared.Target.{Target}
@@ -26,34 +27,37 @@ use Rattle.rules.specs.Onward.{toAll}
 
 -- ---- what all three have in common
 
--- what the point t says of itself, under its next own number
-unfoldable pub ownPath : List ℕ → ℕ → ℕ → PathInfo
-ownPath t flags lifetime =
+-- the head after a new RANN is numbered: it takes the next own number
+unfoldable pub rannNumbered : Head → Head
+rannNumbered h = headWith (nextNumber (h .number)) (h .request) (h .clock) h
+
+-- the head after a new RREQ is numbered: it takes the next own number and the next request ID
+unfoldable pub rreqNumbered : Head → Head
+rreqNumbered h = headWith (nextNumber (h .number)) (nextRequest (h .request)) (h .clock) h
+
+-- what the point with this head says of itself
+unfoldable pub ownPath : Head → ℕ → ℕ → PathInfo
+ownPath h flags lifetime =
     record {
       flags = flags;
       hops = record { 0 = 0 };
       ttl = 31;
-      subject = own t;
-      number = nextNumber (number t);
+      subject = h .own;
+      number = h .number;
       lifetime = lifetime;
       metric = record { 0 = 0 };
     }
 
--- an announcement: the own number steps
 unfoldable pub announced : List ℕ → ℕ → ℕ → Effect
 announced t flags lifetime =
-    record {
-      table = putHead t (headWith (nextNumber (number t)) (requestId t) (clock t) (headAt t));
-      frames = toAll (rann (ownPath t flags lifetime));
-    }
+    let h : Head = rannNumbered (headAt t) in
+    record { table = putHead t h; frames = toAll (rann (ownPath h flags lifetime)) }
 
--- a request for these destinations: the own number and the request ID step
+-- a request for these destinations
 unfoldable pub requested : List ℕ → ℕ → ℕ → List Target → Effect
 requested t flags lifetime targets =
-    record {
-      table = putHead t (headWith (nextNumber (number t)) (nextRequest (requestId t)) (clock t) (headAt t));
-      frames = toAll (rreq (record { request = nextRequest (requestId t); path = ownPath t flags lifetime }) targets);
-    }
+    let h : Head = rreqNumbered (headAt t) in
+    record { table = putHead t h; frames = toAll (rreq (record { request = h .request; path = ownPath h flags lifetime }) targets) }
 
 -- ---- ask
 
