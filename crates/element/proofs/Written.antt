@@ -63,7 +63,7 @@ module _ (to : Address) (k : Kind) (n : ℕ) (xs : List ℕ) (as-many : length (
       te ∙ ap (λ (l : List ℕ). over s at (numberOctets 6 (to .0) ++ l)) (ap (fieldOctets (1 ∷ 1 ∷ fieldWidths k ++ countWidths k)) ye ∙ start-octets)
 
 -- a frame is its start and its list
-frame-parts : (to : Address) (e : Element) → writeFrame to e ≡ frameStart to (kindOf e) (countOf e) (fieldNumbers e) ++ listOctets e
+pub frame-parts : (to : Address) (e : Element) → writeFrame to e ≡ frameStart to (kindOf e) (countOf e) (fieldNumbers e) ++ listOctets e
 unfolding writeFrame writeElement
 frame-parts to e = sym (append-assoc (numberOctets 6 (to .0)) (fixedOctets (kindOf e) (countOf e) (fieldNumbers e)) (listOctets e))
 
@@ -102,7 +102,7 @@ module _ (s t ys : List ℕ) (at : ℕ) where
 
 -- what is written after the start makes the frame
 module _ (to : Address) (s t u : List ℕ) (at at′ : ℕ) where
-  finished : (e : Element) (n : ℕ) → n ≡ countOf e → t ≡ over s at (frameStart to (kindOf e) n (fieldNumbers e)) → at′ ≡ at + (8 + lengthWith (kindOf e) 0)
+  pub finished : (e : Element) (n : ℕ) → n ≡ countOf e → t ≡ over s at (frameStart to (kindOf e) n (fieldNumbers e)) → at′ ≡ at + (8 + lengthWith (kindOf e) 0)
       → u ≡ over t at′ (listOctets e) → u ≡ over s at (writeFrame to e)
   finished e n ne te ae ue =
       let start : List ℕ = frameStart to (kindOf e) n (fieldNumbers e) in

@@ -169,7 +169,7 @@ module _ (d : Address) (base : ℕ) (small : base < 2 ^ 32) (log : List Sent) (t
   module _ (room : ℕ) where
     call-sound : (call : Call) → OperandsFit call → FromLog log call → (e : Effect) → outcome t room call ≡ accepted e
         → Near base (rowFor (e .table) d) → Sound d base log t e
-    unfolding outcome receive ask announce rootRequest breakNeighbour
+    unfolding outcome receive asking ask announce rootRequest breaking breakNeighbour
     call-sound (receives a octets′) fit from e is =
         let p = passed (receiving t room a octets′) e is in
         subst (λ (x : Effect). Near base (rowFor (x .table) d) → Sound d base log t x) (p .1)

@@ -11,7 +11,7 @@ use Rattle.element.specs.Octets.{writeElement}
 use Rattle.element.proofs.ReadBack.{Fits, read-back, passes-6, passes-7, passes-8}
 use Rattle.rules.specs.Outcome.{Frame}
 use Rattle.rules.specs.Receive.{isStale, receive}
-use Rattle.rules.specs.Break.{brokenOff, breakNeighbour}
+use Rattle.rules.specs.Break.{brokenOff, breaking, breakNeighbour}
 use Rattle.rules.specs.Calls.{receives, makes, asks, announces, requestsAsRoot, breaks, outcome}
 use Rattle.rules.proofs.Alls.{all-implies}
 use Rattle.rules.proofs.CallsKeep.{Kept, call-kept}
@@ -66,7 +66,7 @@ pub sharp : Sharp
 sharp = wrong-rules-loop
 
 pub else-the-rules : ElseTheRules
-unfolding ruledBy outcome receive isStale breakNeighbour brokenOff
+unfolding ruledBy outcome receive isStale breaking breakNeighbour brokenOff
 else-the-rules t room (receives a s) = refl
 else-the-rules t room (makes (asks lifetime items)) = refl
 else-the-rules t room (makes (announces flags lifetime)) = refl

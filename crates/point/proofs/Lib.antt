@@ -1,1 +1,4 @@
+mod Asked
 mod Cases
+mod Checks
+mod Originated

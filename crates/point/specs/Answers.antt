@@ -1,10 +1,14 @@
 -- Document 01's numbers and values for the answers. Assumes nothing.
 use Prim.Native.Nat.{ℕ}
-use mathlib.Core.List.{List}
+use mathlib.Core.Bool.{cond}
+use mathlib.Core.List.{List, [], _∷_}
 use Rattle.table.specs.declared.address.Address.{Address}
-use Rattle.rules.specs.Decision.{Decision, refused, accepted, Left}
+use Rattle.rules.specs.Decision.{Decision, refused, accepted, Check, Left}
+use Rattle.rules.specs.Outcome.{Exit}
 use Rattle.point.specs.declared.Answer.{Answer}
 use Rattle.point.specs.declared.Answer.the-variants.{Accepted, Refused}
+use Rattle.point.specs.declared.Outcome.{Outcome}
+use Rattle.point.specs.declared.Outcome.the-variants.{Accepted as Done, Refused as NotDone}
 use Rattle.point.specs.declared.next_hop.Hop.{Hop}
 use Rattle.point.specs.declared.next_hop.Hop.the-variants.{Via, Refused as NoHop}
 
@@ -16,6 +20,16 @@ answerOf (Refused n) = n
 -- this answer with the table that the call leaves
 abbrev pub leaves : Answer → List ℕ → Left
 leaves a t = record { answer = answerOf a; table = t }
+
+-- what the checks of a call come to: the number of the first that applies, or an acceptance
+unfoldable pub answerTo : List Check → Answer
+answerTo [] = Accepted
+answerTo (k ∷ checks) = cond (k .applies) (Refused (k .number)) (answerTo checks)
+
+-- this outcome with the table and the output that the call leaves
+abbrev pub exits : Outcome → List ℕ → List ℕ → Exit
+exits (Done e) t output = record { answer = 0; frames = e .frames; octets = e .octets; table = t; output = output }
+exits (NotDone n) t output = record { answer = n; frames = 0; octets = 0; table = t; output = output }
 
 -- a next hop is an acceptance with its address
 abbrev pub decisionOf : Hop → Decision Address

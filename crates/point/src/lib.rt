@@ -1,7 +1,11 @@
 // The calls of a mesh point.
+pub mod announce;
+pub mod ask;
 pub mod forget;
 pub mod fresh;
 pub mod next_hop;
+mod originate;
+pub mod root_request;
 
 ghost use mathlib.Core.Path.{_≡_};
 ghost use Rattle.point.specs.Answers.{answerOf};
@@ -9,6 +13,18 @@ ghost use Rattle.point.specs.Answers.{answerOf};
 // The answer of a call that writes no frame.
 pub enum Answer {
     Accepted,
+    Refused(u32),
+}
+
+// What a call has written into the output.
+pub struct Emitted {
+    pub frames: u32,
+    pub octets: u32,
+}
+
+// The answer of a call that may emit frames.
+pub enum Outcome {
+    Accepted(Emitted),
     Refused(u32),
 }
 

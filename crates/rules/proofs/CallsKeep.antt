@@ -221,7 +221,7 @@ module _ (t : List ℕ) (octets : Octets t) (room : ℕ) where
       rw (← p .1) (received-kept t a (readElement s) (accepted-element t room a s octets fits o (p .0)))
 
   ask-kept : (lifetime : ℕ) (s : List ℕ) → lifetime < 256 ^ 4 → Octets s → (e : Effect) → ask t room lifetime s ≡ accepted e → Kept t e
-  unfolding ask
+  unfolding asking ask
   ask-kept lifetime s l o e is =
       let p = passed (asking t room lifetime s) e is in
       let checks : List Check = asking t room lifetime s .checks in
@@ -250,7 +250,7 @@ module _ (t : List ℕ) (octets : Octets t) (room : ℕ) where
       ((omega arith, (omega arith, (omega arith, tt))), tt) (omega arith) (omega arith))
 
   break-kept : (c : ℕ) (neighbour : Address) (e : Effect) → breakNeighbour t room c neighbour ≡ accepted e → Kept t e
-  unfolding breakNeighbour brokenOff
+  unfolding breaking breakNeighbour brokenOff
   break-kept c neighbour e is =
       let p = passed (breaking t room c neighbour) e is in
       let checks : List Check = breaking t room c neighbour .checks in

@@ -23,8 +23,8 @@ use Rattle.rules.specs.Destinations.{reply, answeredNumber, answersFor, 
 use Rattle.rules.specs.Onward.{onward, towards, rannOnward, rreqOnward, rrepOnward}
 use Rattle.rules.specs.Errors.{isThrough, isLostBy, matches, numberBeside, erredWith, erred, broken, brokenEntry, brokenEntries, errorAt, errorsFor}
 use Rattle.rules.specs.Receive.{hasBadAddress, severalOrAll, hasBadList, isLowTtlReply, isStaleFor, isStale, matchesNothing, rowsNeeded, rannReceived, rrepReceived, rreqReceived, rerrReceived, received, receive}
-use Rattle.rules.specs.Originate.{rannNumbered, rreqNumbered, ownPath, announced, requested, itemsFit, knownNumber, askedFor, ask, announce, isRootFlags, rootRequest}
-use Rattle.rules.specs.Break.{brokenOff, breakNeighbour}
+use Rattle.rules.specs.Originate.{rannNumbered, rreqNumbered, ownPath, announced, requested, itemsFit, knownNumber, askedFor, asking, ask, announce, isRootFlags, rootRequest}
+use Rattle.rules.specs.Break.{brokenOff, breaking, breakNeighbour}
 use Rattle.rules.specs.Calls.{outcome}
 use Rattle.rules.specs.Walk.{tableAt, sideBySide, rowOfPoint, follow, walk}
 
@@ -43,6 +43,6 @@ unfolding flatMap numberOctets numberAt over withNumber fieldsAt withFields fiel
     isThrough isLostBy matches numberBeside erredWith erred broken brokenEntry brokenEntries errorAt errorsFor
     hasBadAddress severalOrAll hasBadList isLowTtlReply isStaleFor isStale matchesNothing rowsNeeded
     rannReceived rrepReceived rreqReceived rerrReceived received receive
-    rannNumbered rreqNumbered ownPath announced requested itemsFit knownNumber askedFor ask announce isRootFlags rootRequest
-    brokenOff breakNeighbour outcome tableAt sideBySide rowOfPoint follow walk
+    rannNumbered rreqNumbered ownPath announced requested itemsFit knownNumber askedFor asking ask announce isRootFlags rootRequest
+    brokenOff breaking breakNeighbour outcome tableAt sideBySide rowOfPoint follow walk
 computing = tt

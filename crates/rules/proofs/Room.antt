@@ -1,9 +1,9 @@
 -- The frames of an accepted call take at most 1,560 octets: an output that passes refusal 2 has room for them. Assumes nothing.
-use Prim.Native.Nat.{ℕ, _+_, _*_, _%_, _≤_}
-use mathlib.Core.Path.{_≡_, subst}
-use mathlib.Core.Bool.{true, _&&_, and-eq-true-iff}
+use Prim.Native.Nat.{ℕ, _+_, _*_, _≤_}
+use mathlib.Core.Path.{_≡_, refl, subst}
+use mathlib.Core.Bool.{true, and-eq-true-iff}
 use mathlib.Core.List.{List, [], _∷_, _++_, flatMap}
-use lib.Dec.{eqb, leb}
+use lib.Dec.{leb}
 use lib.ListN.{length, length-append}
 use native.Mathlib.Omega.{arith}
 use native.Mathlib.Nat.{mul-zero, mul-suc}
@@ -13,6 +13,7 @@ use Rattle.table.specs.declared.address.Address.{Address}
 use Rattle.table.specs.declared.row.Row.{Row}
 use Rattle.table.specs.Layout.{sized, rows, rowAt}
 use Rattle.table.specs.Table.{number}
+use Rattle.table.proofs.Cases.{sized-short}
 use Rattle.element.specs.declared.NumberedAddress.{NumberedAddress}
 use Rattle.element.specs.declared.Kind.{Kind}
 use Rattle.element.specs.declared.Kind.the-variants.{Rann, Rreq, Rrep, Rerr}
@@ -88,22 +89,19 @@ fitting-frames frames fit =
 
 -- ---- at most 128 entries in the errors of a break, so at most six errors
 
-entry-one : (c : ℕ) (neighbour : Address) (r : Row) → length (brokenEntry c neighbour r) ≤ 1
+pub entry-one : (c : ℕ) (neighbour : Address) (r : Row) → length (brokenEntry c neighbour r) ≤ 1
 unfolding brokenEntry
 entry-one c neighbour r =
     cond-cases (λ (l : List NumberedAddress). length l ≤ 1) (isThrough c neighbour r) (λ _. omega arith) (λ _. omega arith)
 
-entries-few : (c : ℕ) (neighbour : Address) (l : List Row) → length (flatMap (brokenEntry c neighbour) l) ≤ length l
+pub entries-few : (c : ℕ) (neighbour : Address) (l : List Row) → length (flatMap (brokenEntry c neighbour) l) ≤ length l
 unfolding flatMap
 entries-few c neighbour [] = omega arith
 entries-few c neighbour (r ∷ l) =
     omega (arith, length-append (brokenEntry c neighbour r) (flatMap (brokenEntry c neighbour) l), entry-one c neighbour r, entries-few c neighbour l)
 
 rows-few : (t : List ℕ) → sized t ≡ true → rows t ≤ 128
-unfolding sized
-rows-few t e =
-    let long = leb-true (length t) 4128 (and-eq-true-iff (eqb (length t % 32) 0 && leb 64 (length t)) (leb (length t) 4128) .0 e .1) in
-    omega arith
+rows-few t e = omega (arith, sized-short t (sized t) refl e)
 
 entries-128 : (t : List ℕ) → sized t ≡ true → (c : ℕ) (neighbour : Address) → length (brokenEntries t c neighbour) ≤ 128
 unfolding brokenEntries
@@ -153,7 +151,7 @@ module _ (t : List ℕ) (octets : Octets t) (room : ℕ) where
       few-frames n l (e .frames) (subst (λ (x : Effect). length (x .frames) ≤ n) same-effect few) (call-kept t octets room call fit e is .frames)
 
   pub call-room : (call : Call) → OperandsFit call → (e : Effect) → outcome t room call ≡ accepted e → length (frameOctets (e .frames)) ≤ 1560
-  unfolding outcome receive ask announce rootRequest breakNeighbour announced requested brokenOff
+  unfolding outcome receive asking ask announce rootRequest breaking breakNeighbour announced requested brokenOff
   call-room (receives a s) fit e is =
       let p = passed (receiving t room a s) e is in
       let frames = call-kept t octets room (receives a s) fit e is .frames in

@@ -18,7 +18,7 @@ brokenOff t c neighbour =
       frames = errorsFor (brokenEntries t c neighbour);
     }
 
-abbrev pub breaking : List ℕ → ℕ → ℕ → Address → Ruling Effect
+unfoldable pub breaking : List ℕ → ℕ → ℕ → Address → Ruling Effect
 breaking t room c neighbour = do
   refuse 1 when not (sized t)
   refuse 2 when room below 1560

@@ -15,6 +15,7 @@ use Rattle.table.specs.Layout.{sized, headAt, putHead}
 use Rattle.table.specs.Table.{own, number, clock, isTable, rowFor}
 use Rattle.element.specs.declared.Item.{Item}
 use Rattle.element.specs.declared.PathInfo.{PathInfo}
+use Rattle.element.specs.declared.RreqFields.{RreqFields}
 use Rattle.element.specs.declared.Target.{Target}
 use Rattle.element.specs.declared.list.ListKind.the-variants.{Items}
 use Rattle.element.specs.Element.{rann, rreq}
@@ -53,11 +54,14 @@ announced t flags lifetime =
     let h : Head = rannNumbered (headAt t) in
     record { table = putHead t h; frames = toAll (rann (ownPath h flags lifetime)) }
 
+abbrev pub ownRequest : Head → ℕ → ℕ → RreqFields
+ownRequest h flags lifetime = record { request = h .request; path = ownPath h flags lifetime }
+
 -- a request for these destinations
 unfoldable pub requested : List ℕ → ℕ → ℕ → List Target → Effect
 requested t flags lifetime targets =
     let h : Head = rreqNumbered (headAt t) in
-    record { table = putHead t h; frames = toAll (rreq (record { request = h .request; path = ownPath h flags lifetime }) targets) }
+    record { table = putHead t h; frames = toAll (rreq (ownRequest h flags lifetime) targets) }
 
 -- ---- ask
 
@@ -76,7 +80,7 @@ knownNumber (some r) = cond (eqb (r .known) 1) (r .number) (record { 0 = 0 })
 unfoldable pub askedFor : List ℕ → Item → Target
 askedFor t i = record { flags = i .flags; address = i .address; number = knownNumber (rowFor t (i .address)) }
 
-abbrev pub asking : List ℕ → ℕ → ℕ → List ℕ → Ruling Effect
+unfoldable pub asking : List ℕ → ℕ → ℕ → List ℕ → Ruling Effect
 asking t room lifetime s = do
   refuse 1 when not (sized t)
   refuse 2 when room below 1560

@@ -1,0 +1,21 @@
+-- `point::announce::announce` meets its contract: by its check, and by what an accepted one sends. Assumes nothing.
+use borrow.Author.Needs.{needs}
+use Rattle.point.proofs.Checks.{table-long, output-long}
+use Rattle.point.proofs.Originated.{announce-refused, announce-accepted}
+use Rattle.point.proofs.announce.announce.Statement.{statement}
+use Rattle.point.proofs.announce.announce.Tie as tie
+
+pub announce-spec : {M : Type 1} → statement M
+announce-spec =
+    tie.close
+    (tie.spec
+    (λ c κs. search needs)
+    (λ c. search needs)
+    (λ c κs. search (table-long, output-long))
+    (λ c. search needs)
+    (λ c. search needs)
+    (λ c. search needs)
+    (λ c. search announce-accepted)
+    (λ c. search needs)
+    (λ c. search needs)
+    (λ c. search announce-refused))

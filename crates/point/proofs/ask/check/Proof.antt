@@ -1,0 +1,28 @@
+-- `point::ask::check` meets its contract: one check of the list after another. Assumes nothing.
+use borrow.Author.Needs.{needs}
+use Rattle.point.proofs.Cases.{head-there}
+use Rattle.point.proofs.Checks.{checking}
+use Rattle.rules.specs.Originate.{asking}
+use Rattle.point.proofs.Asked.{items-refused, items-passed, own-named}
+use Rattle.point.proofs.ask.check.Statement.{statement}
+use Rattle.point.proofs.ask.check.Tie as tie
+
+pub check-spec : {M : Type 1} → statement M
+unfolding asking
+check-spec =
+    tie.close
+    (tie.spec
+    (λ c κs. search needs)
+    (λ c. search checking depth 40)
+    (λ c. search checking depth 40)
+    (λ c κs. search needs)
+    (λ c. search needs)
+    (λ c. search (checking, items-refused, items-passed) depth 40)
+    (λ c. search needs)
+    (λ c. search (checking, items-refused, items-passed) depth 40)
+    (λ c κs. search head-there)
+    (λ c. search (checking, items-refused, items-passed) depth 40)
+    (λ c κs. search head-there)
+    (λ c κs. search needs)
+    (λ c. search (checking, items-refused, items-passed, own-named) depth 40)
+    (λ c. search (checking, items-refused, items-passed, own-named) depth 40))

@@ -1,0 +1,41 @@
+// Announce: a RANN of one's own.
+use crate::Answer;
+use crate::Emitted;
+use crate::Outcome;
+use crate::originate;
+use element::write;
+use table::address::Address;
+use table::row;
+ghost use mathlib.Core.Path.{_≡_};
+ghost use Prim.Native.Nat.{_≤_};
+ghost use lib.ListN.{length};
+ghost use Rattle.rules.specs.Decision.{accepted};
+ghost use Rattle.rules.specs.Outcome.{atExit};
+ghost use Rattle.rules.specs.Originate.{announce, announced};
+ghost use Rattle.point.specs.Answers.{exits};
+
+// The table and the frame of an announcement that is not refused.
+fn send(table: &mut [u8], output: &mut [u8], flags: u8, lifetime: u32) -> Outcome
+    requires { ⌜ 32 ≤ length (now table) ⌝ }
+    requires { ⌜ 1560 ≤ length (now output) ⌝ }
+    ensures { λ r. ⌜ exits r (now (table .exit)) (now (output .exit)) ≡ atExit (now (table .entry)) (now (output .entry)) (accepted (announced (now (table .entry)) flags lifetime)) ⌝ }
+{
+    let head = originate::number_rann(row::read_head(table));
+    row::write_head(table, head);
+    let path = originate::own_path(head, flags, lifetime);
+    write::write_rann(output, 0, Address(originate::ALL_ONES), path);
+    let emitted = Emitted {
+        frames: 1,
+        octets: 29,
+    };
+    Outcome::Accepted(emitted)
+}
+
+pub fn announce(table: &mut [u8], output: &mut [u8], flags: u8, lifetime: u32) -> Outcome
+    ensures { λ r. ⌜ exits r (now (table .exit)) (now (output .exit)) ≡ atExit (now (table .entry)) (now (output .entry)) (announce (now (table .entry)) (length (now (output .entry))) flags lifetime) ⌝ }
+{
+    match originate::check(table, output, 1 < flags, lifetime) {
+        Answer::Accepted => send(table, output, flags, lifetime),
+        Answer::Refused(n) => Outcome::Refused(n),
+    }
+}

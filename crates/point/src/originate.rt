@@ -1,0 +1,94 @@
+// What ask, announce and root request have in common: refusals, the numbering of a new element, and what a point says of
+// itself.
+use crate::Answer;
+use counters::HopCount;
+use counters::Metric;
+use element::PathInfo;
+use element::RreqFields;
+use element::write;
+use table::address::Address;
+use table::legal;
+use table::row::Head;
+ghost use mathlib.Core.Path.{_≡_};
+ghost use Prim.Native.Nat.{_≤_};
+ghost use lib.ListN.{length};
+ghost use Rattle.octets.specs.LittleEndian.{over};
+ghost use Rattle.element.specs.declared.Kind.{Kind};
+ghost use Rattle.element.specs.Element.{rreqNumbers};
+ghost use Rattle.element.specs.Lists.{allOnes};
+ghost use Rattle.element.specs.Octets.{frameStart};
+ghost use Rattle.rules.specs.Originate.{originating, ownPath, ownRequest, rannNumbered, rreqNumbered};
+ghost use Rattle.point.specs.Answers.{answerTo};
+
+// The address of all ones, to which every point listens.
+pub const ALL_ONES: u64 = 281474976710655;
+
+// The refusals of announce and root request. They differ in the flags that are barred.
+pub fn check(table: &[u8], output: &[u8], barred: bool, lifetime: u32) -> Answer
+    ensures { λ r. ⌜ r ≡ answerTo (originating {A = Unit {0}} (now (table .entry)) (length (now (output .entry))) barred lifetime tt .checks) ⌝ }
+{
+    if !legal::is_sized(table) {
+        return Answer::Refused(1);
+    }
+    if output.len() < 1560 {
+        return Answer::Refused(2);
+    }
+    if barred {
+        return Answer::Refused(10);
+    }
+    if lifetime == 0 {
+        return Answer::Refused(11);
+    }
+    if !legal::is_table(table) {
+        return Answer::Refused(21);
+    }
+    Answer::Accepted
+}
+
+// A new RANN takes the next own number.
+pub fn number_rann(head: Head) -> Head
+    ensures { λ r. ⌜ r ≡ rannNumbered head ⌝ }
+{
+    let number = head.number;
+    head.with(number.next(), head.request, head.clock)
+}
+
+// A new RREQ takes the next own number and the next request ID.
+pub fn number_rreq(head: Head) -> Head
+    ensures { λ r. ⌜ r ≡ rreqNumbered head ⌝ }
+{
+    let number = head.number;
+    let request = head.request;
+    head.with(number.next(), request.next(), head.clock)
+}
+
+// What the point with this head says of itself.
+pub fn own_path(head: Head, flags: u8, lifetime: u32) -> PathInfo
+    ensures { λ r. ⌜ r ≡ ownPath head flags lifetime ⌝ }
+{
+    let subject = head.own;
+    let number = head.number;
+    PathInfo {
+        flags,
+        hops: HopCount(0),
+        ttl: 31,
+        subject,
+        number,
+        lifetime,
+        metric: Metric(0),
+    }
+}
+
+// A RREQ of the point with this head, up to its list of n destinations; answers the place of that list.
+pub fn start_request(output: &mut [u8], head: Head, flags: u8, lifetime: u32, n: usize) -> usize
+    requires { ⌜ 1 ≤ n ⌝ }
+    requires { ⌜ n ≤ 20 ⌝ }
+    requires { ⌜ 34 ≤ length (now output) ⌝ }
+    ensures { λ r. ⌜ r ≡ 34 ⌝ }
+    ensures { λ _. ⌜ now (output .exit) ≡ over (now (output .entry)) 0 (frameStart allOnes Kind.Rreq n (rreqNumbers (ownRequest head flags lifetime))) ⌝ }
+{
+    let request = head.request;
+    let path = own_path(head, flags, lifetime);
+    let fields = RreqFields { request, path };
+    write::start_rreq(output, 0, Address(ALL_ONES), fields, n)
+}
