@@ -4,7 +4,7 @@ use Prim.Native.Nat.{ℕ, zero, suc, _+_, _*_, _/_, _%_, _^_, _<_, _≤_}
 use mathlib.Core.Path.{_≡_, refl, sym, ap, ap₂, _∙_}
 use mathlib.Core.List.{List, [], _∷_, _++_, append-assoc}
 use lib.ListN.{length, getD, set, take, drop, length-append, drop-of-length-le}
-use lib.Seq.{drop-cons, take-add, drop-drop, getD-append-add, getD-drop}
+use lib.Seq.{set-set, set-comm, drop-cons, take-add, drop-drop, getD-append-add, getD-drop}
 use native.Mathlib.Omega.{arith}
 use native.Mathlib.Numerals.{add-one}
 use native.Mathlib.Nat.{add-zero, pow-suc}
@@ -28,6 +28,25 @@ over-append s at [] q = rw (over-nil, add-zero at)
 over-append s at (x ∷ p) q =
     let place : suc at + length p ≡ at + suc (length p) = omega arith in
     rw (over-cons s at x (p ++ q), over-cons s at x p, over-append (set s at x) (suc at) p q, place)
+
+-- an octet before a place, and octets from there on
+set-before : (s : List ℕ) (i at x : ℕ) (p : List ℕ) → i < at → set (over s at p) i x ≡ over (set s i x) at p
+set-before s i at x [] l = rw (over-nil, over-nil)
+set-before s i at x (y ∷ p) l =
+    rw (over-cons s at y p, over-cons (set s i x) at y p, set-before (set s at y) i (suc at) x p (omega arith), set-comm s at i y x (λ q. omega arith))
+
+-- of what was written, the first part once more
+pub over-again : (s : List ℕ) (at : ℕ) (p q r : List ℕ) → length p ≡ length q → over (over s at (p ++ r)) at q ≡ over s at (q ++ r)
+over-again s at [] [] r e = over-nil (over s at r) at
+over-again s at [] (y ∷ q) r e = absurd (omega arith)
+over-again s at (x ∷ p) [] r e = absurd (omega arith)
+over-again s at (x ∷ p) (y ∷ q) r e =
+    over-cons (over s at (x ∷ p ++ r)) at y q
+    ∙ ap (λ (l : List ℕ). over (set l at y) (suc at) q) (over-cons s at x (p ++ r))
+    ∙ ap (λ (l : List ℕ). over l (suc at) q) (set-before (set s at x) at (suc at) y (p ++ r) (omega arith))
+    ∙ ap (λ (l : List ℕ). over (over l (suc at) (p ++ r)) (suc at) q) (set-set s at x y)
+    ∙ over-again (set s at y) (suc at) p q r (omega arith)
+    ∙ sym (over-cons s at y (q ++ r))
 
 pub length-number-octets : (n x : ℕ) → length (numberOctets n x) ≡ n
 unfolding numberOctets

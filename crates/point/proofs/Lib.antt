@@ -1,4 +1,6 @@
 mod Asked
+mod Broken
 mod Cases
 mod Checks
 mod Originated
+mod Reported

@@ -1,6 +1,8 @@
 // The calls of a mesh point.
 pub mod announce;
 pub mod ask;
+pub mod break_neighbour;
+mod errors;
 pub mod forget;
 pub mod fresh;
 pub mod next_hop;

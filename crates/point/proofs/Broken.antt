@@ -1,0 +1,259 @@
+-- Break: its check, the rows that are lost, and what it leaves, as the code asks it. Assumes nothing.
+use Prim.Native.Nat.{ℕ, _+_, _-_, _<_, _≤_}
+use mathlib.Core.Path.{_≡_, refl, sym, ap, ap₂, _∙_}
+use mathlib.Core.Bool.{Bool, true, false, not}
+use mathlib.Core.List.{List, [], _∷_, _++_, flatMap}
+use lib.Dec.{ltb}
+use lib.ListN.{length, length-append}
+use native.Mathlib.Nat.{zero-add, add-zero, sub-zero, le-refl}
+use native.Mathlib.Numerals.{add-one}
+use native.Mathlib.Omega.{arith}
+use borrow.Author.Tests.{eq-eqb, ne-eqb, lt-ltb, le-ltb, not-true, not-false}
+use Rattle.octets.specs.LittleEndian.{over}
+use Rattle.octets.proofs.OctetLists.{over-append}
+use Rattle.table.specs.declared.address.Address.{Address}
+use Rattle.table.specs.declared.row.Head.{Head}
+use Rattle.table.specs.declared.row.Row.{Row}
+use Rattle.table.specs.Address.{same}
+use Rattle.table.specs.Row.{headWith, invalidated, raised}
+use Rattle.table.specs.Layout.{headAt, putHead, rows, place, rowAt, putRow}
+use Rattle.table.specs.Table.{own, number, clock, changeAt, changeBelow, changeWhere}
+use Rattle.table.proofs.Changes.{below-other}
+use Rattle.counters.specs.declared.SequenceNumber.{SequenceNumber}
+use Rattle.counters.specs.Numbers.{nextNumber}
+use Rattle.element.specs.declared.NumberedAddress.{NumberedAddress}
+use Rattle.element.specs.Entries.{each}
+use Rattle.element.proofs.Scans.{each-length, each-next, each-end}
+use Rattle.rules.specs.Errors.{isThrough, broken, brokenEntry, brokenEntries, errorsFor}
+use Rattle.rules.specs.Outcome.{Exit, frameOctets, underHead, atExit}
+use Rattle.rules.specs.Break.{brokenOff, breaking, breakNeighbour}
+use Rattle.rules.specs.Decision.{accepted}
+use Rattle.rules.proofs.Room.{entry-one, entries-few}
+use Rattle.point.specs.declared.Answer.{Answer}
+use Rattle.point.specs.declared.Answer.the-variants.{Accepted, Refused}
+use Rattle.point.specs.declared.Emitted.{Emitted}
+use Rattle.point.specs.declared.Outcome.the-variants.{Accepted as Done, Refused as NotDone}
+use Rattle.point.specs.Answers.{answerTo, exits}
+use Rattle.point.specs.Reports.{framesFor, octetsFor, begunAfter, closed}
+use Rattle.point.proofs.Reported.{begun-append, begun-length, closes, errors-many, errors-long}
+use Rattle.point.proofs.Checks.{table-long, table-short, output-long, refusal, acceptance}
+
+-- ---- its check, by the head that was read
+
+module _ (t : List ℕ) (h : Head) (he : h ≡ headAt t) where
+  pub clock-early : (c : ℕ) → c < h .clock → ltb c (clock t) ≡ true
+  clock-early c l = ap (λ (k : Head). ltb c (k .clock)) (sym he) ∙ lt-ltb c (h .clock) l
+
+  pub clock-late : (c : ℕ) → h .clock ≤ c → ltb c (clock t) ≡ false
+  clock-late c l = ap (λ (k : Head). ltb c (k .clock)) (sym he) ∙ le-ltb c (h .clock) l
+
+  pub own-neighbour : (n : Address) → n .0 ≡ h .own .0 → same n (own t) ≡ true
+  own-neighbour n e = ap (λ (k : Head). same n (k .own)) (sym he) ∙ eq-eqb (n .0) (h .own .0) e
+
+  pub other-neighbour : (n : Address) → (n .0 ≡ h .own .0 → ⊥) → same n (own t) ≡ false
+  other-neighbour n e = ap (λ (k : Head). same n (k .own)) (sym he) ∙ ne-eqb (n .0) (h .own .0) e
+
+pub ruleset heading = (clock-early, clock-late, own-neighbour, other-neighbour)
+
+-- ---- a row that is lost
+
+module _ (r down : Row) (de : down ≡ invalidated r) where
+  pub broken-unknown : (r .known ≡ 1 → ⊥) → down ≡ broken r
+  unfolding broken
+  broken-unknown k = rw (ne-eqb (r .known) 1 k) de
+
+  pub broken-known : r .known ≡ 1 → (n : SequenceNumber) → n ≡ nextNumber (r .number) → (s : Row) → s ≡ raised n down → s ≡ broken r
+  unfolding broken
+  broken-known k n ne s se = rw (eq-eqb (r .known) 1 k, ← de, ← ne) se
+
+-- ---- a row of the table, and its entry after k others
+
+module _ (t : List ℕ) (i c : ℕ) (neighbour : Address) (r : Row) (re : r ≡ rowAt t i) (b : Bool) (be : b ≡ isThrough c neighbour r) where
+  through : isThrough c neighbour (rowAt t i) ≡ b
+  through = ap (isThrough c neighbour) (sym re) ∙ sym be
+
+  module _ (stays : not b ≡ true) where
+    not-through : isThrough c neighbour (rowAt t i) ≡ false
+    not-through = through ∙ not-true b stays
+
+    pub no-row : t ≡ changeAt (isThrough c neighbour) broken i t
+    no-row = rw not-through
+
+    none-lost : brokenEntry c neighbour (rowAt t i) ≡ []
+    unfolding brokenEntry
+    none-lost = rw not-through
+
+    pub none-counted : (k : ℕ) → k ≡ k + length (brokenEntry c neighbour (rowAt t i))
+    none-counted k = rw none-lost (sym (add-zero k))
+
+    pub none-added : (k : ℕ) (s : List ℕ) → s ≡ over s (octetsFor k) (begunAfter k (brokenEntry c neighbour (rowAt t i)))
+    unfolding begunAfter over
+    none-added k s = rw none-lost
+
+  module _ (falls : not b ≡ false) (fallen : Row) (fe : fallen ≡ broken r) where
+    is-through : isThrough c neighbour (rowAt t i) ≡ true
+    is-through = through ∙ not-false b falls
+
+    pub one-row : (u : List ℕ) → u ≡ putRow t i fallen → u ≡ changeAt (isThrough c neighbour) broken i t
+    one-row u ue = rw (is-through, ← re, ← fe) ue
+
+    one-lost : brokenEntry c neighbour (rowAt t i) ≡ record { address = r .destination; number = fallen .number } ∷ []
+    unfolding brokenEntry
+    one-lost = rw (is-through, ← re, ← fe)
+
+    pub one-counted : (k : ℕ) → k + 1 ≡ k + length (brokenEntry c neighbour (rowAt t i))
+    one-counted k = rw one-lost
+
+    pub one-added : (k : ℕ) (s v : List ℕ) → v ≡ over s (octetsFor k) (begunAfter k (record { address = r .destination; number = fallen .number } ∷ []))
+        → v ≡ over s (octetsFor k) (begunAfter k (brokenEntry c neighbour (rowAt t i)))
+    one-added k s v ve = ve ∙ ap (λ (l : List NumberedAddress). over s (octetsFor k) (begunAfter k l)) (sym one-lost)
+
+-- ---- one row after another
+
+-- What stands before row i of the n first rows of t₀: the rows below it are lost or not, and with what is left to lose the
+-- count and the output come to the whole.
+module _ (t₀ out₀ : List ℕ) (c : ℕ) (neighbour : Address) (n : ℕ) where
+  abbrev lostFrom : ℕ → List NumberedAddress
+  lostFrom i = flatMap (brokenEntry c neighbour) (each (rowAt t₀) i (n - i))
+
+  abbrev allLost : List NumberedAddress
+  allLost = flatMap (brokenEntry c neighbour) (each (rowAt t₀) 0 n)
+
+  pub record Breaking (i lost : ℕ) (t out : List ℕ) : Type 0 where
+    pub below : i ≤ n
+    pub few : lost ≤ i
+    pub rows : t ≡ changeBelow (isThrough c neighbour) broken i t₀
+    pub counted : lost + length (lostFrom i) ≡ length allLost
+    pub written : over out (octetsFor lost) (begunAfter lost (lostFrom i)) ≡ over out₀ 0 (begunAfter 0 allLost)
+
+  pub breaking-start : Breaking 0 0 t₀ out₀
+  unfolding changeBelow
+  breaking-start =
+      record {
+        below = omega arith;
+        few = omega arith;
+        rows = refl;
+        counted = rw (sub-zero n, zero-add (length allLost));
+        written = rw (sub-zero n);
+      }
+
+  module _ (i lost : ℕ) (t out : List ℕ) (so-far : Breaking i lost t out) where
+    module _ (l : i < n) where
+      -- there is room for row i and its entry
+      pub breaking-row : place n ≤ length t₀ → length t ≡ length t₀ → place i + 32 ≤ length t
+      breaking-row fits same-length = omega arith
+
+      pub breaking-few : n ≤ 128 → lost ≤ 128
+      breaking-few many = omega (arith, so-far .few)
+
+      pub breaking-room : n ≤ 128 → 1560 ≤ length out₀ → length out ≡ length out₀ → octetsFor lost + 20 ≤ length out
+      breaking-room many room same-length = omega (arith, so-far .few)
+
+      row-as-it-was : rowAt t i ≡ rowAt t₀ i
+      row-as-it-was = ap (λ (u : List ℕ). rowAt u i) (so-far .rows) ∙ below-other (isThrough c neighbour) broken i i t₀ (le-refl i)
+
+      pub breaking-more : (t′ : List ℕ) → t′ ≡ changeAt (isThrough c neighbour) broken i t → (lost′ : ℕ) → lost′ ≡ lost + length (brokenEntry c neighbour (rowAt t i))
+          → (out′ : List ℕ) → out′ ≡ over out (octetsFor lost) (begunAfter lost (brokenEntry c neighbour (rowAt t i))) → Breaking (i + 1) lost′ t′ out′
+      unfolding changeBelow flatMap
+      breaking-more t′ te lost′ le out′ oe =
+          let entry : List NumberedAddress = brokenEntry c neighbour (rowAt t i) in
+          let rest : List NumberedAddress = lostFrom (i + 1) in
+          let left : lostFrom i ≡ entry ++ rest =
+          ap (flatMap (brokenEntry c neighbour)) (each-next (rowAt t₀) i n l) ∙ ap (λ (r : Row). brokenEntry c neighbour r ++ rest) (sym row-as-it-was) in
+          let place-after : octetsFor lost′ ≡ octetsFor lost + length (begunAfter lost entry) = ap octetsFor le ∙ sym (begun-length lost entry) in
+          record {
+            below = omega arith;
+            few = omega (arith, so-far .few, le, entry-one c neighbour (rowAt t i));
+            rows = te ∙ ap (changeAt (isThrough c neighbour) broken i) (so-far .rows) ∙ ap (λ (k : ℕ). changeBelow (isThrough c neighbour) broken k t₀) (sym (add-one i));
+            counted = omega (arith, so-far .counted, le, ap length left, length-append entry rest);
+            written =
+                ap₂ (λ (u : List ℕ) (p : ℕ). over u p (begunAfter lost′ rest)) oe place-after
+                ∙ sym (over-append out (octetsFor lost) (begunAfter lost entry) (begunAfter lost′ rest))
+                ∙ ap (λ (k : ℕ). over out (octetsFor lost) (begunAfter lost entry ++ begunAfter k rest)) le
+                ∙ ap (over out (octetsFor lost)) (sym (begun-append lost entry rest))
+                ∙ ap (λ (m : List NumberedAddress). over out (octetsFor lost) (begunAfter lost m)) (sym left)
+                ∙ so-far .written;
+          }
+
+    module _ (l : n ≤ i) where
+      ended : i ≡ n
+      ended = omega (arith, so-far .below)
+
+      none-left : lostFrom i ≡ []
+      unfolding flatMap
+      none-left = ap (flatMap (brokenEntry c neighbour)) (each-end (rowAt t₀) i n l)
+
+      pub all-counted : lost ≡ length allLost
+      all-counted = omega (arith, so-far .counted, ap length none-left)
+
+      pub all-broken : t ≡ changeBelow (isThrough c neighbour) broken n t₀
+      all-broken = so-far .rows ∙ ap (λ (k : ℕ). changeBelow (isThrough c neighbour) broken k t₀) ended
+
+      pub all-written : out ≡ over out₀ 0 (begunAfter 0 allLost)
+      unfolding over begunAfter
+      all-written = sym (ap (λ (m : List NumberedAddress). over out (octetsFor lost) (begunAfter lost m)) none-left) ∙ so-far .written
+
+-- ---- all rows, and the errors closed
+
+module _ (t output : List ℕ) (c : ℕ) (neighbour : Address) (n : ℕ) (ne : n ≡ rows t) (lost : ℕ) (le : lost ≡ length (allLost t output c neighbour n)) where
+  pub lost-few : length t ≤ 4128 → lost ≤ 128
+  lost-few l = omega (arith, le, ne, entries-few c neighbour (each (rowAt t) 0 n), each-length (rowAt t) 0 n)
+
+  lost-are : allLost t output c neighbour n ≡ brokenEntries t c neighbour
+  unfolding brokenEntries
+  lost-are = ap (allLost t output c neighbour) ne
+
+  pub lost-counted : lost ≡ length (brokenEntries t c neighbour)
+  lost-counted = le ∙ ap length lost-are
+
+  pub rows-lost : (u : List ℕ) → u ≡ changeBelow (isThrough c neighbour) broken n t → u ≡ changeWhere (isThrough c neighbour) broken t
+  unfolding changeWhere
+  rows-lost u ue = ue ∙ ap (λ (k : ℕ). changeBelow (isThrough c neighbour) broken k t) ne
+
+  pub errors-closed : length t ≤ 4128 → (w v : List ℕ) → w ≡ over output 0 (begunAfter 0 (allLost t output c neighbour n)) → v ≡ closed w 0 lost
+      → v ≡ over output 0 (frameOctets (errorsFor (brokenEntries t c neighbour)))
+  errors-closed l w v we ve =
+      let all : List NumberedAddress = allLost t output c neighbour n in
+      ve ∙ ap₂ (λ (x : List ℕ) (k : ℕ). closed x 0 k) we le
+      ∙ closes 6 all (omega (arith, le, lost-few l)) output 0
+      ∙ ap (λ (m : List NumberedAddress). over output 0 (frameOctets (errorsFor m))) lost-are
+
+-- ---- what it leaves
+
+pub broken-exit : (t output w u v : List ℕ) (c : ℕ) (neighbour : Address) (h : Head) → h ≡ headAt t → (lost : ℕ) → lost ≡ length (brokenEntries t c neighbour) → lost ≤ 128
+    → w ≡ changeWhere (isThrough c neighbour) broken t → v ≡ over output 0 (frameOctets (errorsFor (brokenEntries t c neighbour)))
+    → u ≡ putHead w (headWith (h .number) (h .request) c h) → (e : Emitted) → e ≡ record { frames = framesFor lost; octets = octetsFor lost }
+    → exits (Done e) u v ≡ atExit t output (accepted (brokenOff t c neighbour))
+unfolding atExit brokenOff
+broken-exit t output w u v c neighbour h he lost le few we ve ue e ee =
+    let entries : List NumberedAddress = brokenEntries t c neighbour in
+    let table : u ≡ underHead t (number t) c (changeWhere (isThrough c neighbour) broken t) =
+    ue ∙ ap₂ (λ (x : List ℕ) (k : Head). putHead x (headWith (k .number) (k .request) c k)) we he in
+    let frames : framesFor lost ≡ length (errorsFor entries) = ap framesFor le ∙ sym (errors-many entries) in
+    let octets : octetsFor lost ≡ length (frameOctets (errorsFor entries)) = ap octetsFor le ∙ sym (errors-long 6 entries (omega (arith, le, few))) in
+    rw (ee, table, ve, octets, frames)
+
+-- ---- decided by the check
+
+module _ (t output : List ℕ) (c : ℕ) (neighbour : Address) (a : Answer) (ae : a ≡ answerTo (breaking t (length output) c neighbour .checks)) where
+  module _ (ok : a ≡ Accepted) where
+    pub break-table-long : 32 ≤ length t
+    unfolding breaking
+    break-table-long = table-long t output _ a ae ok
+
+    pub break-table-short : length t ≤ 4128
+    unfolding breaking
+    break-table-short = table-short t output _ a ae ok
+
+    pub break-output-long : 1560 ≤ length output
+    unfolding breaking
+    break-output-long = output-long t output _ a ae ok
+
+  pub break-refused : (n : ℕ) → a ≡ Refused n → exits (NotDone n) t output ≡ atExit t output (breakNeighbour t (length output) c neighbour)
+  unfolding breakNeighbour
+  break-refused = refusal t output (breaking t (length output) c neighbour) a ae
+
+  pub break-accepted : a ≡ Accepted → (x : Exit) → x ≡ atExit t output (accepted (brokenOff t c neighbour))
+      → x ≡ atExit t output (breakNeighbour t (length output) c neighbour)
+  unfolding breaking breakNeighbour
+  break-accepted = acceptance t output (breaking t (length output) c neighbour) a ae

@@ -1,0 +1,17 @@
+-- `point::break_neighbour::break_off` meets its contract: the rows, the head and the frames. Assumes nothing.
+use borrow.Author.Needs.{needs}
+use Rattle.point.proofs.Broken.{broken-exit}
+use Rattle.point.proofs.break_neighbour.break_off.Statement.{statement}
+use Rattle.point.proofs.break_neighbour.break_off.Tie as tie
+
+pub break-off-spec : {M : Type 1} → statement M
+break-off-spec =
+    tie.close
+    (tie.spec
+    (λ c κs. search needs)
+    (λ c κs. search needs)
+    (λ c κs. search needs)
+    (λ c κs. search needs)
+    (λ c. search needs)
+    (λ c. search needs)
+    (λ c. search broken-exit))

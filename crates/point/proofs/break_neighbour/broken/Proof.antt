@@ -1,0 +1,16 @@
+-- `point::break_neighbour::broken` meets its contract: each return is a case of `broken`. Assumes nothing.
+use borrow.Author.Needs.{needs}
+use Rattle.point.proofs.Broken.{broken-unknown, broken-known}
+use Rattle.point.proofs.break_neighbour.broken.Statement.{statement}
+use Rattle.point.proofs.break_neighbour.broken.Tie as tie
+
+pub broken-spec : {M : Type 1} → statement M
+broken-spec =
+    tie.close
+    (tie.spec
+    (λ c κs. search needs)
+    (λ c. search broken-unknown)
+    (λ c κs. search needs)
+    (λ c κs. search needs)
+    (λ c κs. search needs)
+    (λ c. search broken-known))

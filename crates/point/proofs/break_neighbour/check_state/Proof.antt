@@ -1,0 +1,17 @@
+-- `point::break_neighbour::check_state` meets its contract: one check of the list after another. Assumes nothing.
+use borrow.Author.Needs.{needs}
+use Rattle.point.proofs.Checks.{checking}
+use Rattle.point.proofs.Broken.{heading}
+use Rattle.point.proofs.break_neighbour.check_state.Statement.{statement}
+use Rattle.point.proofs.break_neighbour.check_state.Tie as tie
+
+pub check-state-spec : {M : Type 1} → statement M
+check-state-spec =
+    tie.close
+    (tie.spec
+    (λ c κs. search needs)
+    (λ c. search checking depth 40)
+    (λ c κs. search needs)
+    (λ c. search (checking, heading) depth 40)
+    (λ c. search (checking, heading) depth 40)
+    (λ c. search (checking, heading) depth 40))
