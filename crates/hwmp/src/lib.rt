@@ -1,23 +1,39 @@
 // The calls for C, on numbers and octet buffers: include/hwmp.h declares them.
 use counters::SequenceNumber;
+use point::Outcome;
+use point::announce;
+use point::ask;
+use point::break_neighbour;
 use point::forget;
 use point::fresh;
 use point::next_hop;
 use point::next_hop::Hop;
+use point::root_request;
 use table::address;
 ghost use mathlib.Core.Path.{_≡_};
+ghost use lib.ListN.{length};
 ghost use Rattle.table.specs.Address.{addressOf};
 ghost use Rattle.rules.specs.Decision.{left};
+ghost use Rattle.rules.specs.Outcome.{atExit};
 ghost use Rattle.rules.specs.Fresh.{makeFresh};
 ghost use Rattle.rules.specs.Forget.{forget};
 ghost use Rattle.rules.specs.NextHop.{nextHop};
+ghost use Rattle.rules.specs.Originate.{announce, ask, rootRequest};
+ghost use Rattle.rules.specs.Break.{breakNeighbour};
 ghost use Rattle.point.specs.Answers.{decisionOf};
-ghost use Rattle.hwmp.specs.ForC.{hopFor};
+ghost use Rattle.hwmp.specs.ForC.{hopFor, leaving, outcomeFor};
 
 #[repr(C)]
 pub struct HwmpHop {
     pub answer: u32,
     pub address: [u8; 6],
+}
+
+#[repr(C)]
+pub struct HwmpOutcome {
+    pub answer: u32,
+    pub frames: u32,
+    pub octets: u32,
 }
 
 // A next hop as C gets it: answer 0 and the address, or the refusal's number and zeros.
@@ -33,6 +49,24 @@ fn hop_for(hop: Hop) -> HwmpHop
             let address = [0u8; 6];
             HwmpHop { answer, address }
         }
+    }
+}
+
+// What a call that may emit frames gives to C: answer 0 and what was written, or the refusal's number and zeros.
+fn outcome_for(outcome: Outcome) -> HwmpOutcome
+    ensures { λ r. ⌜ r ≡ outcomeFor outcome ⌝ }
+{
+    match outcome {
+        Outcome::Accepted(emitted) => HwmpOutcome {
+            answer: 0,
+            frames: emitted.frames,
+            octets: emitted.octets,
+        },
+        Outcome::Refused(answer) => HwmpOutcome {
+            answer,
+            frames: 0,
+            octets: 0,
+        },
     }
 }
 
@@ -55,4 +89,52 @@ pub extern "C" fn hwmp_next_hop(table: &[u8], clock: u64, destination: &[u8; 6])
     ensures { λ r. ⌜ r ≡ hopFor (nextHop (now (table .entry)) clock (addressOf (now (destination .entry)))) ⌝ }
 {
     hop_for(next_hop::next_hop(table, clock, address::read(destination)))
+}
+
+#[no_mangle]
+pub extern "C" fn hwmp_ask(
+    table: &mut [u8],
+    output: &mut [u8],
+    lifetime: u32,
+    items: &[u8],
+) -> HwmpOutcome
+    ensures { λ r. ⌜ leaving r (now (table .exit)) (now (output .exit)) ≡ atExit (now (table .entry)) (now (output .entry)) (ask (now (table .entry)) (length (now (output .entry))) lifetime (now (items .entry))) ⌝ }
+{
+    outcome_for(ask::ask(table, output, lifetime, items))
+}
+
+#[no_mangle]
+pub extern "C" fn hwmp_announce(
+    table: &mut [u8],
+    output: &mut [u8],
+    flags: u8,
+    lifetime: u32,
+) -> HwmpOutcome
+    ensures { λ r. ⌜ leaving r (now (table .exit)) (now (output .exit)) ≡ atExit (now (table .entry)) (now (output .entry)) (announce (now (table .entry)) (length (now (output .entry))) flags lifetime) ⌝ }
+{
+    outcome_for(announce::announce(table, output, flags, lifetime))
+}
+
+#[no_mangle]
+pub extern "C" fn hwmp_root_request(
+    table: &mut [u8],
+    output: &mut [u8],
+    flags: u8,
+    lifetime: u32,
+) -> HwmpOutcome
+    ensures { λ r. ⌜ leaving r (now (table .exit)) (now (output .exit)) ≡ atExit (now (table .entry)) (now (output .entry)) (rootRequest (now (table .entry)) (length (now (output .entry))) flags lifetime) ⌝ }
+{
+    outcome_for(root_request::root_request(table, output, flags, lifetime))
+}
+
+#[no_mangle]
+pub extern "C" fn hwmp_break(
+    table: &mut [u8],
+    output: &mut [u8],
+    clock: u64,
+    neighbour: &[u8; 6],
+) -> HwmpOutcome
+    ensures { λ r. ⌜ leaving r (now (table .exit)) (now (output .exit)) ≡ atExit (now (table .entry)) (now (output .entry)) (breakNeighbour (now (table .entry)) (length (now (output .entry))) clock (addressOf (now (neighbour .entry)))) ⌝ }
+{
+    outcome_for(break_neighbour::break_neighbour(table, output, clock, address::read(neighbour)))
 }

@@ -1,0 +1,15 @@
+-- `hwmp::hwmp_root_request` meets its contract: by what it calls. Assumes nothing.
+use borrow.Author.Needs.{needs}
+use Rattle.hwmp.proofs.Outcomes.{handed-on}
+use Rattle.hwmp.proofs.hwmp_root_request.Statement.{statement}
+use Rattle.hwmp.proofs.hwmp_root_request.Tie as tie
+
+pub hwmp-root-request-spec : {M : Type 1} → statement M
+hwmp-root-request-spec =
+    tie.close
+    (tie.spec
+    (λ c κs. search needs)
+    (λ c κs. search needs)
+    (λ c. search needs)
+    (λ c. search needs)
+    (λ c. search handed-on))
