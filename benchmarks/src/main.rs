@@ -44,7 +44,7 @@ fn machine() -> String {
 
 fn measure(case: &Case, rows: usize, bys: &[&Implementation], random: &mut Random) -> Vec<f64> {
     let mut inputs = cases::inputs(case, rows, random);
-    cases::confirm(case, &mut inputs, bys);
+    cases::confirm(case, rows, &inputs, bys);
     timing::nanoseconds(case.call, &mut inputs, bys)
 }
 

@@ -9,6 +9,8 @@ use hwmp_tests::random::Random;
 use hwmp_tests::reference::element::MOST_NUMBERS;
 use hwmp_tests::tables;
 
+use crate::cases::{self, CLOCK, LIFETIME};
+
 const OCTETS: usize = 16 * 1024;
 const PAINT: u8 = 0xa5;
 
@@ -55,28 +57,59 @@ unsafe fn depth<const N: usize>(function: *const (), arguments: [usize; N]) -> u
     OCTETS - CALLER_OCTETS - painted.count()
 }
 
-/// Each entry with its depth, on a full table, so that every check and search runs.
-pub fn depths(random: &mut Random) -> [(&'static str, usize); 3] {
-    let mut table = tables::full(128, random);
-    let address = tables::individual(random).0;
-    let (at, length) = (table.as_mut_ptr() as usize, table.len());
-    let address = address.as_ptr() as usize;
-    let clock = (1 << 48) - 1;
-    // SAFETY: table and address outlive the calls, and each entry gets the arguments that
-    // include/hwmp.h declares. The table is overwritten last.
+/// Each entry with its depth, on a table and with operands that make it do the most.
+pub fn depths(random: &mut Random) -> [(&'static str, usize); 7] {
+    let mut input = cases::largest(random);
+    let (table, table_len) = (input.table.as_mut_ptr() as usize, input.table.len());
+    let (output, output_len) = (input.output.as_mut_ptr() as usize, input.output.len());
+    let (items, items_len) = (input.items.as_ptr() as usize, input.items.len());
+    let address = input.address.as_ptr() as usize;
+    let (clock, lifetime, flags) = (CLOCK as usize, LIFETIME as usize, 1);
+    // SAFETY: all that is lent outlives the calls, and each entry gets the arguments that
+    // include/hwmp.h declares. The rows are lost last but one, the table is overwritten last.
     unsafe {
         [
             (
                 "hwmp_next_hop",
-                depth(raw::hwmp_next_hop as _, [at, length, clock, address]),
+                depth(raw::hwmp_next_hop as _, [table, table_len, clock, address]),
             ),
             (
                 "hwmp_forget",
-                depth(raw::hwmp_forget as _, [at, length, address]),
+                depth(raw::hwmp_forget as _, [table, table_len, address]),
+            ),
+            (
+                "hwmp_ask",
+                depth(
+                    raw::hwmp_ask as _,
+                    [
+                        table, table_len, output, output_len, lifetime, items, items_len,
+                    ],
+                ),
+            ),
+            (
+                "hwmp_announce",
+                depth(
+                    raw::hwmp_announce as _,
+                    [table, table_len, output, output_len, flags, lifetime],
+                ),
+            ),
+            (
+                "hwmp_root_request",
+                depth(
+                    raw::hwmp_root_request as _,
+                    [table, table_len, output, output_len, flags, lifetime],
+                ),
+            ),
+            (
+                "hwmp_break",
+                depth(
+                    raw::hwmp_break as _,
+                    [table, table_len, output, output_len, clock, address],
+                ),
             ),
             (
                 "hwmp_fresh",
-                depth(raw::hwmp_fresh as _, [at, length, address, 7]),
+                depth(raw::hwmp_fresh as _, [table, table_len, address, 7]),
             ),
         ]
     }

@@ -1,21 +1,40 @@
-//! The three calls as values, so that tests and benchmarks run one text on each of the
+//! The calls as values, so that tests and benchmarks run one text on each of the
 //! implementations.
 
-use crate::library::{self, Hop};
-use crate::reference::{Address, Refusal, SequenceNumber, answer, calls};
+use crate::library::{self, Hop, Outcome};
+use crate::reference::{
+    Address, Emitted, Refusal, SequenceNumber, answer, breaks, calls, originate,
+};
 
 pub struct Implementation {
     pub name: &'static str,
     pub fresh: fn(&mut [u8], &[u8; 6], u32) -> u32,
     pub next_hop: fn(&[u8], u64, &[u8; 6]) -> Hop,
     pub forget: fn(&mut [u8], &[u8; 6]) -> u32,
+    pub ask: Ask,
+    pub announce: Originate,
+    pub root_request: Originate,
+    pub report_break: Break,
 }
+
+/// On a table and an output, with lifetime and items.
+pub type Ask = fn(&mut [u8], &mut [u8], u32, &[u8]) -> Outcome;
+
+/// With flags and lifetime.
+pub type Originate = fn(&mut [u8], &mut [u8], u8, u32) -> Outcome;
+
+/// With clock and neighbour.
+pub type Break = fn(&mut [u8], &mut [u8], u64, &[u8; 6]) -> Outcome;
 
 pub const LIBRARY: Implementation = Implementation {
     name: "library",
     fresh: library::fresh,
     next_hop: library::next_hop,
     forget: library::forget,
+    ask: library::ask,
+    announce: library::announce,
+    root_request: library::root_request,
+    report_break: library::report_break,
 };
 
 pub const REFERENCE: Implementation = Implementation {
@@ -23,6 +42,21 @@ pub const REFERENCE: Implementation = Implementation {
     fresh: |table, own, number| answer(calls::fresh(table, Address(*own), SequenceNumber(number))),
     next_hop: |table, clock, destination| hop(calls::next_hop(table, clock, Address(*destination))),
     forget: |table, destination| answer(calls::forget(table, Address(*destination))),
+    ask: |table, output, lifetime, items| outcome(originate::ask(table, output, lifetime, items)),
+    announce: |table, output, flags, lifetime| {
+        outcome(originate::announce(table, output, flags, lifetime))
+    },
+    root_request: |table, output, flags, lifetime| {
+        outcome(originate::root_request(table, output, flags, lifetime))
+    },
+    report_break: |table, output, clock, neighbour| {
+        outcome(breaks::report_break(
+            table,
+            output,
+            clock,
+            Address(*neighbour),
+        ))
+    },
 };
 
 /// A refusal carries zeros beside its number.
@@ -30,5 +64,15 @@ fn hop(found: Result<Address, Refusal>) -> Hop {
     Hop {
         answer: answer(found),
         address: found.map_or([0; 6], |next_hop| next_hop.0),
+    }
+}
+
+/// Zeros beside a refusal here too.
+fn outcome(emitted: Result<Emitted, Refusal>) -> Outcome {
+    let Emitted { frames, octets } = emitted.unwrap_or_default();
+    Outcome {
+        answer: answer(emitted),
+        frames: frames as u32,
+        octets: octets as u32,
     }
 }

@@ -4,7 +4,8 @@
 
 use std::collections::BTreeMap;
 
-use hwmp_tests::implementation::{LIBRARY, REFERENCE};
+use hwmp_tests::implementation::{Implementation, LIBRARY, REFERENCE};
+use hwmp_tests::library::Outcome;
 use hwmp_tests::reference::table::{Flaw, Table};
 
 const OWN: [u8; 6] = [2, 0, 0, 0, 0, 1];
@@ -316,6 +317,38 @@ fn judge(octets: &[u8], breaks: Option<Flaw>, what: &str) {
         assert_eq!(hop.answer, next_hop, "{what}: next hop by the {}", by.name);
         assert_eq!(hop.address, ZERO, "{what}: next hop by the {}", by.name);
         assert_eq!(lent, octets, "{what}: octets changed by the {}", by.name);
+        judge_emitting(by, octets, breaks, what);
+    }
+}
+
+/// The calls that emit accept any table, and change what is none as little.
+fn judge_emitting(by: &Implementation, octets: &[u8], breaks: Option<Flaw>, what: &str) {
+    type Call = fn(&Implementation, &mut [u8], &mut [u8]) -> Outcome;
+    let calls: [(&str, Call); 4] = [
+        ("ask", |by, table, output| {
+            (by.ask)(table, output, 1, &[[0].as_slice(), &ABSENT].concat())
+        }),
+        ("announce", |by, table, output| {
+            (by.announce)(table, output, 1, 1)
+        }),
+        ("root request", |by, table, output| {
+            (by.root_request)(table, output, 1, 1)
+        }),
+        ("break", |by, table, output| {
+            (by.report_break)(table, output, LAST_CLOCK, &ABSENT)
+        }),
+    ];
+    for (name, call) in calls {
+        let (mut lent, mut output) = (octets.to_vec(), [0xA5; 1560]);
+        let outcome = call(by, &mut lent, &mut output);
+        let what = format!("{what}: {name} by the {}", by.name);
+        if breaks.is_none() {
+            assert_eq!(outcome.answer, 0, "{what}");
+        } else {
+            assert_eq!(outcome.answer, 21, "{what}");
+            assert_eq!(lent, octets, "{what}: table changed");
+            assert_eq!(output, [0xA5; 1560], "{what}: output changed");
+        }
     }
 }
 

@@ -5,7 +5,7 @@ mod kind;
 mod operands;
 
 use crate::random::Random;
-use crate::tables::{boundary32, individual, not_individual};
+use crate::tables::{boundary32, individual, not_individual, one_bit_off};
 
 pub use kind::{KINDS, Kind};
 pub use operands::{Room, some_address, some_room};
@@ -78,11 +78,6 @@ fn any_address(random: &mut Random) -> [u8; 6] {
     } else {
         individual(random).0
     }
-}
-
-fn one_bit_off(mut address: [u8; 6], random: &mut Random) -> [u8; 6] {
-    address[random.below(6)] ^= 1 << random.below(8);
-    address
 }
 
 /// The addresses of a list: unrelated ones, ones that differ in an octet or in a bit only,

@@ -1,6 +1,6 @@
-use super::{Kind, one_bit_off};
+use super::Kind;
 use crate::random::Random;
-use crate::tables::{individual, not_individual};
+use crate::tables::{individual, not_individual, one_bit_off};
 
 /// An address to look for: one of the list, nearly one of it, any octets of the element, or
 /// one from elsewhere.

@@ -1,16 +1,12 @@
-//! The calls. Each runs its checks in the order of document 01, lowest number first, and
-//! writes only after the last of them.
+//! The calls that emit nothing. Each runs its checks in the order of document 01, lowest
+//! number first, and writes only after the last of them.
 
 use super::refusal::ensure;
-use super::table::{CLOCK_MAX, HEAD_OCTETS, Head, Row, Table, write_row};
-use super::{Address, Refusal, SequenceNumber};
-
-fn cut(octets: &[u8]) -> Result<Table<'_>, Refusal> {
-    Table::cut(octets).ok_or(Refusal::TableLength)
-}
+use super::table::{Head, Row, write_head, write_row};
+use super::{Address, Refusal, SequenceNumber, checks};
 
 pub fn fresh(octets: &mut [u8], own: Address, number: SequenceNumber) -> Result<(), Refusal> {
-    cut(octets)?;
+    checks::table_length(octets)?;
     ensure(own.is_individual(), Refusal::NotIndividual)?;
     let head = Head {
         own,
@@ -18,16 +14,16 @@ pub fn fresh(octets: &mut [u8], own: Address, number: SequenceNumber) -> Result<
         ..Head::default()
     };
     octets.fill(0);
-    octets[..HEAD_OCTETS].copy_from_slice(&head.encode());
+    write_head(octets, &head);
     Ok(())
 }
 
 pub fn next_hop(octets: &[u8], clock: u64, destination: Address) -> Result<Address, Refusal> {
-    let table = cut(octets)?;
-    ensure(clock <= CLOCK_MAX, Refusal::Clock)?;
+    let table = checks::table_length(octets)?;
+    checks::clock(clock)?;
     ensure(destination.is_individual(), Refusal::NotIndividual)?;
-    table.check().map_err(|_| Refusal::NotATable)?;
-    ensure(clock >= table.head().latest_clock, Refusal::ClockBehind)?;
+    checks::is_table(&table)?;
+    checks::clock_not_behind(clock, &table)?;
     let (_, row) = table
         .row_for(destination)
         .filter(|(_, row)| row.is_active(clock))
@@ -36,9 +32,9 @@ pub fn next_hop(octets: &[u8], clock: u64, destination: Address) -> Result<Addre
 }
 
 pub fn forget(octets: &mut [u8], destination: Address) -> Result<(), Refusal> {
-    let table = cut(octets)?;
+    let table = checks::table_length(octets)?;
     ensure(destination.is_individual(), Refusal::NotIndividual)?;
-    table.check().map_err(|_| Refusal::NotATable)?;
+    checks::is_table(&table)?;
     let (place, _) = table.row_for(destination).ok_or(Refusal::NoHeldRow)?;
     write_row(octets, place, &Row::default());
     Ok(())

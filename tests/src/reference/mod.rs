@@ -2,13 +2,19 @@
 //! against it, and the benchmarks take it as the plain Rust version.
 
 mod address;
+pub mod breaks;
 pub mod calls;
+mod checks;
 mod counters;
 pub mod element;
+mod frames;
+mod items;
 mod octets;
+pub mod originate;
 mod refusal;
 pub mod table;
 
 pub use address::Address;
 pub use counters::{HopCount, Metric, RequestId, SequenceNumber};
+pub use frames::Emitted;
 pub use refusal::{Refusal, answer};

@@ -94,6 +94,22 @@ impl Head {
         octets
     }
 
+    /// The head of a point that numbers another element.
+    pub fn numbered(self) -> Head {
+        Head {
+            number: self.number.next(),
+            ..self
+        }
+    }
+
+    /// The head of a point that numbers another request, and the element it goes in.
+    pub fn requested(self) -> Head {
+        Head {
+            request_id: self.request_id.next(),
+            ..self.numbered()
+        }
+    }
+
     fn check(&self) -> Result<(), Flaw> {
         ensure(self.own.is_individual(), Flaw::OwnAddressNotIndividual)?;
         let zeros = self.zero_after_own == [0; 2] && self.zero_at_end == [0; 8];
@@ -150,6 +166,22 @@ impl Row {
 
     pub fn is_active(&self, clock: u64) -> bool {
         self.status == VALID && clock < self.expiry
+    }
+
+    /// The row after its next hop was lost.
+    pub fn broken(self) -> Row {
+        let invalidated = Row {
+            status: INVALIDATED,
+            ..self
+        };
+        if self.number_known == 0 {
+            return invalidated;
+        }
+        Row {
+            number: self.number.next(),
+            metric: Metric::MAX,
+            ..invalidated
+        }
     }
 
     fn check(&self, own: Address) -> Result<(), Flaw> {
@@ -233,10 +265,26 @@ impl<'a> Table<'a> {
             .enumerate()
             .find(|(_, row)| row.is_held() && row.destination == destination)
     }
+
+    /// The number known of a destination, whatever the status of its row.
+    pub fn known_number(&self, destination: Address) -> Option<SequenceNumber> {
+        self.row_for(destination)
+            .filter(|(_, row)| row.number_known == 1)
+            .map(|(_, row)| row.number)
+    }
+}
+
+/// Lays a head into its place.
+pub fn write_head(octets: &mut [u8], head: &Head) {
+    octets[..HEAD_OCTETS].copy_from_slice(&head.encode());
+}
+
+/// The places of the rows.
+pub fn rows_mut(octets: &mut [u8]) -> &mut [[u8; ROW_OCTETS]] {
+    octets[HEAD_OCTETS..].as_chunks_mut().0
 }
 
 /// Lays a row into its place.
 pub fn write_row(octets: &mut [u8], place: usize, row: &Row) {
-    let at = HEAD_OCTETS + place * ROW_OCTETS;
-    octets[at..at + ROW_OCTETS].copy_from_slice(&row.encode());
+    rows_mut(octets)[place] = row.encode();
 }

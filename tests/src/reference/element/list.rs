@@ -60,6 +60,39 @@ impl NumberedAddress {
     }
 }
 
+/// A list that is made entry by entry, of at most so many.
+pub struct Entries<const OCTETS: usize, const MOST: usize> {
+    entries: [[u8; OCTETS]; MOST],
+    count: usize,
+}
+
+impl<const OCTETS: usize, const MOST: usize> Entries<OCTETS, MOST> {
+    pub fn new() -> Self {
+        Entries {
+            entries: [[0; OCTETS]; MOST],
+            count: 0,
+        }
+    }
+
+    /// There must be a place left.
+    pub fn push(&mut self, entry: [u8; OCTETS]) {
+        self.entries[self.count] = entry;
+        self.count += 1;
+    }
+
+    pub fn clear(&mut self) {
+        self.count = 0;
+    }
+
+    pub fn is_full(&self) -> bool {
+        self.count == MOST
+    }
+
+    pub fn as_slice(&self) -> &[[u8; OCTETS]] {
+        &self.entries[..self.count]
+    }
+}
+
 /// The list part cut into N entries; None if it has not just their octets.
 pub(super) fn cut<const OCTETS: usize>(list: &[u8], count: u8) -> Option<&[[u8; OCTETS]]> {
     let (entries, remainder) = list.as_chunks();
@@ -89,13 +122,23 @@ pub(super) fn faults(
     given: Address,
 ) -> u32 {
     let all = || addresses.clone();
-    let stands_before = |(place, address)| all().take(place).any(|earlier| earlier == address);
     let not_allowed = all().any(|address| !allowed(address));
-    let twice = all().enumerate().any(stands_before);
+    let twice = has_twice(all());
     let all_ones = all().any(|address| address == Address::ALL_ONES);
     let given_among_them = all().any(|address| address == given);
     u32::from(not_allowed) * NOT_ALLOWED
         + u32::from(twice) * TWICE
         + u32::from(all_ones && all().len() > 1) * ALL_ONES_BESIDE_OTHERS
         + u32::from(given_among_them) * GIVEN_AMONG_THEM
+}
+
+/// Whether an address stands in two places.
+pub(in crate::reference) fn has_twice(addresses: impl Iterator<Item = Address> + Clone) -> bool {
+    let mut rest = addresses;
+    while let Some(address) = rest.next() {
+        if rest.clone().any(|later| later == address) {
+            return true;
+        }
+    }
+    false
 }

@@ -1,7 +1,7 @@
 //! 'Element octets' of document 01: an element is read from octets and borrows their list
 //! part, tells its numbers, and is written as a frame.
 
-mod list;
+pub(super) mod list;
 mod rann;
 mod rerr;
 mod rrep;
@@ -75,18 +75,20 @@ impl<'a> Element<'a> {
         }
     }
 
-    /// Writes receiver and element into the output, from place `at` on. Refused as an output
-    /// too short if they do not fit there; a call judges its output once, and before this.
+    /// Writes receiver and element into the output, from place `at` on, and tells how many
+    /// octets these are. Refused as an output too short if they do not fit there; a call
+    /// judges its output once, and before this.
     pub fn write(
         &self,
         to: Address,
         out: &mut [u8],
         at: usize,
         destinations: Destinations,
-    ) -> Result<(), Refusal> {
+    ) -> Result<usize, Refusal> {
+        let octets = RECEIVER + ID_AND_LENGTH + self.length();
         let frame = out
             .get_mut(at..)
-            .and_then(|rest| rest.get_mut(..RECEIVER + ID_AND_LENGTH + self.length()))
+            .and_then(|rest| rest.get_mut(..octets))
             .ok_or(Refusal::Output)?;
         let (receiver, element) = frame.split_at_mut(RECEIVER);
         receiver.copy_from_slice(&to.0);
@@ -96,7 +98,7 @@ impl<'a> Element<'a> {
             Element::Rrep(rrep) => rrep.write(element),
             Element::Rerr(rerr) => rerr.write(element),
         }
-        Ok(())
+        Ok(octets)
     }
 
     /// What is wrong with the addresses of the list, as a sum of the numbers in `list`.

@@ -6,7 +6,7 @@ use crate::reference::Address;
 #[derive(Clone, Copy, Debug, PartialEq, Eq)]
 pub struct Rerr<'a> {
     pub flags: u8,
-    destinations: &'a [[u8; NumberedAddress::OCTETS]],
+    pub(in crate::reference) destinations: &'a [[u8; NumberedAddress::OCTETS]],
 }
 
 /// The octets between Length and list: flags and count.
@@ -14,12 +14,13 @@ const FIXED: usize = 2;
 
 impl<'a> Rerr<'a> {
     pub const ID: u8 = 132;
+    pub const MOST: usize = 25;
 
     pub(super) fn read(fields: &'a [u8]) -> Option<Rerr<'a>> {
         let [flags, count, list @ ..] = fields else {
             return None;
         };
-        if !(1..=25).contains(count) {
+        if !(1..=Self::MOST).contains(&usize::from(*count)) {
             return None;
         }
         Some(Rerr {

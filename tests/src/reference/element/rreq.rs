@@ -14,7 +14,7 @@ pub struct Rreq<'a> {
     pub number: SequenceNumber,
     pub lifetime: u32,
     pub metric: Metric,
-    destinations: &'a [[u8; Destination::OCTETS]],
+    pub(in crate::reference) destinations: &'a [[u8; Destination::OCTETS]],
 }
 
 /// The octets between Length and list, the count octet the last of them.
@@ -22,11 +22,12 @@ const FIXED: usize = 26;
 
 impl<'a> Rreq<'a> {
     pub const ID: u8 = 130;
+    pub const MOST: usize = 20;
 
     pub(super) fn read(fields: &'a [u8]) -> Option<Rreq<'a>> {
         let (fields, list) = fields.split_first_chunk::<FIXED>()?;
         let count = fields[25];
-        if !(1..=20).contains(&count) {
+        if !(1..=Self::MOST).contains(&count.into()) {
             return None;
         }
         Some(Rreq {

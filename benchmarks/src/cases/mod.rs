@@ -1,0 +1,146 @@
+//! What is timed: calls that check the whole table and then search it, one refused early, the
+//! making of a fresh table, and the calls that emit.
+
+mod calls;
+
+use hwmp_tests::implementation::Implementation;
+use hwmp_tests::random::Random;
+use hwmp_tests::tables;
+
+use crate::timing::Call;
+
+pub use calls::{CLOCK, LIFETIME};
+
+/// Several tables in turn, so that the processor cannot predict every branch.
+const TABLES: usize = 8;
+
+/// What every point's output has at least.
+const OUTPUT_OCTETS: usize = 1560;
+
+#[derive(Clone, PartialEq)]
+pub struct Input {
+    pub table: Vec<u8>,
+    /// The destination or neighbour that is asked about.
+    pub address: [u8; 6],
+    pub items: Vec<u8>,
+    pub output: Vec<u8>,
+    /// The frames that the last call emitted.
+    frames: u32,
+}
+
+pub struct Case {
+    pub name: &'static str,
+    pub answer: u32,
+    pub call: Call<Implementation, Input>,
+    /// Makes of any full table one that the case is about.
+    prepare: fn(&mut Input, &mut Random),
+    /// The frames to be emitted, by the number of rows.
+    frames: fn(usize) -> usize,
+}
+
+const fn silent(
+    name: &'static str,
+    answer: u32,
+    call: Call<Implementation, Input>,
+    prepare: fn(&mut Input, &mut Random),
+) -> Case {
+    Case {
+        name,
+        answer,
+        call,
+        prepare,
+        frames: |_| 0,
+    }
+}
+
+const fn emitting(
+    name: &'static str,
+    frames: fn(usize) -> usize,
+    call: Call<Implementation, Input>,
+    prepare: fn(&mut Input, &mut Random),
+) -> Case {
+    Case {
+        name,
+        answer: 0,
+        call,
+        prepare,
+        frames,
+    }
+}
+
+fn nothing(_: &mut Input, _: &mut Random) {}
+
+pub const CASES: [Case; 10] = [
+    silent("next hop, no such row", 28, calls::next_hop, nothing),
+    silent(
+        "next hop, the last row",
+        0,
+        calls::next_hop,
+        calls::want_last_row,
+    ),
+    silent("forget, no such row", 29, calls::forget, nothing),
+    silent(
+        "next hop, refused early",
+        21,
+        calls::next_hop,
+        calls::spoil_head,
+    ),
+    silent("fresh", 0, calls::fresh, nothing),
+    emitting("ask for 20", |_| 1, calls::ask, calls::name_20),
+    emitting("announce", |_| 1, calls::announce, nothing),
+    emitting("root request", |_| 1, calls::root_request, nothing),
+    emitting("break, no row lost", |_| 0, calls::report_break, nothing),
+    emitting(
+        "break, all rows lost",
+        |rows| rows.div_ceil(25),
+        calls::break_and_mend,
+        calls::lead_through_neighbour,
+    ),
+];
+
+/// A full table, and an address that it has no row for.
+fn full(rows: usize, random: &mut Random) -> Input {
+    Input {
+        table: tables::full(rows, random),
+        address: tables::individual(random).0,
+        items: Vec::new(),
+        output: vec![0; OUTPUT_OCTETS],
+        frames: 0,
+    }
+}
+
+pub fn inputs(case: &Case, rows: usize, random: &mut Random) -> Vec<Input> {
+    let mut input = || {
+        let mut input = full(rows, random);
+        (case.prepare)(&mut input, random);
+        input
+    };
+    (0..TABLES).map(|_| input()).collect()
+}
+
+/// What makes each call do the most: many rows that one break loses, and many items.
+pub fn largest(random: &mut Random) -> Input {
+    let mut input = full(128, random);
+    calls::name_20(&mut input, random);
+    calls::lead_through_neighbour(&mut input, random);
+    input
+}
+
+/// Times mean little unless all do the same work: the answer that the case is named for, as
+/// many frames, and the same octets. Twice, since a timed call follows others.
+pub fn confirm(case: &Case, rows: usize, inputs: &[Input], bys: &[&Implementation]) {
+    for input in inputs {
+        let mut outcomes = bys.iter().map(|by| {
+            let mut input = input.clone();
+            for _ in 0..2 {
+                let answer = (case.call)(by, &mut input);
+                assert_eq!(answer, case.answer, "{} by {}", case.name, by.name);
+                let frames = input.frames as usize;
+                assert_eq!(frames, (case.frames)(rows), "{} by {}", case.name, by.name);
+            }
+            input
+        });
+        let first = outcomes.next().expect("some implementation");
+        assert!(outcomes.all(|outcome| outcome == first), "{}", case.name);
+    }
+}

@@ -1,0 +1,70 @@
+//! 'Errors and breaks' of document 01, as far as a point finds out itself.
+
+use super::element::list::Entries;
+use super::element::{Element, NumberedAddress, Rerr};
+use super::frames::{Emitted, Frames};
+use super::refusal::ensure;
+use super::table::{Head, ROW_OCTETS, Row, rows_mut, write_head};
+use super::{Address, Refusal, checks};
+
+type Lost = Entries<{ NumberedAddress::OCTETS }, { Rerr::MOST }>;
+
+pub fn report_break(
+    octets: &mut [u8],
+    output: &mut [u8],
+    clock: u64,
+    neighbour: Address,
+) -> Result<Emitted, Refusal> {
+    let table = checks::table_length(octets)?;
+    let mut frames = Frames::start(output)?;
+    checks::clock(clock)?;
+    ensure(neighbour.is_individual(), Refusal::NeighbourNotIndividual)?;
+    checks::is_table(&table)?;
+    checks::clock_not_behind(clock, &table)?;
+    let head = table.head();
+    ensure(neighbour != head.own, Refusal::NeighbourIsOwn)?;
+    let head = Head {
+        latest_clock: clock,
+        ..head
+    };
+    write_head(octets, &head);
+    lose_rows(rows_mut(octets), clock, neighbour, &mut frames);
+    Ok(frames.emitted())
+}
+
+fn lose_rows(rows: &mut [[u8; ROW_OCTETS]], clock: u64, neighbour: Address, frames: &mut Frames) {
+    let mut lost = Lost::new();
+    for place in rows {
+        let row = Row::decode(place);
+        if row.is_active(clock) && row.next_hop == neighbour {
+            let row = row.broken();
+            *place = row.encode();
+            if lost.is_full() {
+                announce(&mut lost, frames);
+            }
+            lost.push(entry(&row));
+        }
+    }
+    announce(&mut lost, frames);
+}
+
+fn entry(row: &Row) -> [u8; NumberedAddress::OCTETS] {
+    let lost = NumberedAddress {
+        address: row.destination,
+        number: row.number,
+    };
+    lost.encode()
+}
+
+/// Emits the rows lost so far, if any, and begins anew.
+fn announce(lost: &mut Lost, frames: &mut Frames) {
+    let destinations = lost.as_slice();
+    if !destinations.is_empty() {
+        let error = Rerr {
+            flags: 0,
+            destinations,
+        };
+        frames.emit(Address::ALL_ONES, Element::Rerr(error));
+        lost.clear();
+    }
+}

@@ -1,0 +1,44 @@
+//! What a call emits: frames in the output, one after another from its start.
+
+use super::element::{Destinations, Element};
+use super::refusal::ensure;
+use super::{Address, Refusal};
+
+/// Room for all that one call can emit.
+const LEAST_OUTPUT: usize = 1560;
+
+/// What an acceptance reports.
+#[derive(Clone, Copy, Debug, Default, PartialEq, Eq)]
+pub struct Emitted {
+    pub frames: usize,
+    pub octets: usize,
+}
+
+/// A lent output and what of it is written.
+pub struct Frames<'a> {
+    output: &'a mut [u8],
+    emitted: Emitted,
+}
+
+impl<'a> Frames<'a> {
+    /// Refused if the output is too short for some call; nothing is written yet.
+    pub fn start(output: &'a mut [u8]) -> Result<Frames<'a>, Refusal> {
+        ensure(output.len() >= LEAST_OUTPUT, Refusal::Output)?;
+        Ok(Frames {
+            output,
+            emitted: Emitted::default(),
+        })
+    }
+
+    pub fn emit(&mut self, to: Address, element: Element) {
+        let Emitted { frames, octets } = &mut self.emitted;
+        *octets += element
+            .write(to, self.output, *octets, Destinations::AsOnePart)
+            .expect("the least output has room for every call");
+        *frames += 1;
+    }
+
+    pub fn emitted(&self) -> Emitted {
+        self.emitted
+    }
+}

@@ -1,0 +1,71 @@
+//! What an ask names: up to 20 destinations, flags and address each.
+
+use super::element::list::{Entries, has_twice};
+use super::element::{Destination, Rreq};
+use super::refusal::ensure;
+use super::table::Table;
+use super::{Address, Refusal};
+
+/// Destination flags: destination only, reply and forward.
+pub const DO: u8 = 1;
+pub const RF: u8 = 2;
+
+const ITEM_OCTETS: usize = 7;
+
+struct Item {
+    flags: u8,
+    address: Address,
+}
+
+impl Item {
+    fn decode(&[flags, a, b, c, d, e, f]: &[u8; ITEM_OCTETS]) -> Item {
+        Item {
+            flags,
+            address: Address([a, b, c, d, e, f]),
+        }
+    }
+}
+
+pub struct Items<'a> {
+    items: &'a [[u8; ITEM_OCTETS]],
+}
+
+impl<'a> Items<'a> {
+    pub fn cut(octets: &'a [u8]) -> Result<Items<'a>, Refusal> {
+        let (items, remainder) = octets.as_chunks();
+        let fits = remainder.is_empty() && (1..=Rreq::MOST).contains(&items.len());
+        ensure(fits, Refusal::ElementLength)?;
+        Ok(Items { items })
+    }
+
+    fn iter(&self) -> impl Iterator<Item = Item> + Clone {
+        self.items.iter().map(Item::decode)
+    }
+
+    pub fn addresses(&self) -> impl Iterator<Item = Address> + Clone {
+        self.iter().map(|item| item.address)
+    }
+
+    /// What can be said of them without the table. All ones is no individual address.
+    pub fn check(&self) -> Result<(), Refusal> {
+        let individual = self.addresses().all(Address::is_individual);
+        ensure(individual, Refusal::NotIndividual)?;
+        let flags_fit = self.iter().all(|item| item.flags <= DO | RF);
+        let fits = flags_fit && !has_twice(self.addresses());
+        ensure(fits, Refusal::ListOrFlags)
+    }
+
+    /// The destinations of the request, each with the number that the table knows of it.
+    pub fn destinations(&self, table: &Table) -> Entries<{ Destination::OCTETS }, { Rreq::MOST }> {
+        let mut destinations = Entries::new();
+        for Item { flags, address } in self.iter() {
+            let destination = Destination {
+                flags,
+                address,
+                number: table.known_number(address).unwrap_or_default(),
+            };
+            destinations.push(destination.encode());
+        }
+        destinations
+    }
+}

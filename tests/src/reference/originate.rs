@@ -1,0 +1,103 @@
+//! 'Originating' of document 01: the elements that a point sends of its own accord. Each
+//! takes the next own number and goes to all ones.
+
+use super::element::{Destination, Element, Rann, Rreq};
+use super::frames::{Emitted, Frames};
+use super::items::{DO, Items, RF};
+use super::refusal::ensure;
+use super::table::{Head, write_head};
+use super::{Address, HopCount, Metric, Refusal, SequenceNumber, checks};
+
+/// The hops that a new element may take.
+const TTL: u8 = 31;
+
+pub fn ask(
+    octets: &mut [u8],
+    output: &mut [u8],
+    lifetime: u32,
+    items: &[u8],
+) -> Result<Emitted, Refusal> {
+    let table = checks::table_length(octets)?;
+    let mut frames = Frames::start(output)?;
+    let items = Items::cut(items)?;
+    items.check()?;
+    checks::lifetime(lifetime)?;
+    checks::is_table(&table)?;
+    let head = table.head().requested();
+    let names_own = items.addresses().any(|address| address == head.own);
+    ensure(!names_own, Refusal::NamesOwn)?;
+    let destinations = items.destinations(&table);
+    request(&mut frames, &head, 0, lifetime, destinations.as_slice());
+    write_head(octets, &head);
+    Ok(frames.emitted())
+}
+
+pub fn announce(
+    octets: &mut [u8],
+    output: &mut [u8],
+    flags: u8,
+    lifetime: u32,
+) -> Result<Emitted, Refusal> {
+    let table = checks::table_length(octets)?;
+    let mut frames = Frames::start(output)?;
+    ensure(matches!(flags, 0 | 1), Refusal::ListOrFlags)?;
+    checks::lifetime(lifetime)?;
+    checks::is_table(&table)?;
+    let head = table.head().numbered();
+    let announcement = Rann {
+        flags,
+        hop_count: HopCount(0),
+        ttl: TTL,
+        originator: head.own,
+        number: head.number,
+        lifetime,
+        metric: Metric(0),
+    };
+    frames.emit(Address::ALL_ONES, Element::Rann(announcement));
+    write_head(octets, &head);
+    Ok(frames.emitted())
+}
+
+pub fn root_request(
+    octets: &mut [u8],
+    output: &mut [u8],
+    flags: u8,
+    lifetime: u32,
+) -> Result<Emitted, Refusal> {
+    let table = checks::table_length(octets)?;
+    let mut frames = Frames::start(output)?;
+    ensure(matches!(flags, 0 | 1 | 4 | 5), Refusal::ListOrFlags)?;
+    checks::lifetime(lifetime)?;
+    checks::is_table(&table)?;
+    let everyone = Destination {
+        flags: DO | RF,
+        address: Address::ALL_ONES,
+        number: SequenceNumber(0),
+    };
+    let head = table.head().requested();
+    request(&mut frames, &head, flags, lifetime, &[everyone.encode()]);
+    write_head(octets, &head);
+    Ok(frames.emitted())
+}
+
+/// Emits a request with the counters of a head that has been stepped.
+fn request(
+    frames: &mut Frames,
+    head: &Head,
+    flags: u8,
+    lifetime: u32,
+    destinations: &[[u8; Destination::OCTETS]],
+) {
+    let request = Rreq {
+        flags,
+        hop_count: HopCount(0),
+        ttl: TTL,
+        request_id: head.request_id,
+        originator: head.own,
+        number: head.number,
+        lifetime,
+        metric: Metric(0),
+        destinations,
+    };
+    frames.emit(Address::ALL_ONES, Element::Rreq(request));
+}

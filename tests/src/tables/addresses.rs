@@ -1,0 +1,84 @@
+//! Random addresses.
+
+use crate::random::Random;
+use crate::reference::Address;
+
+/// How the addresses of one table resemble each other. A search that confuses addresses
+/// shows it only if some of them are alike.
+#[derive(Clone, Copy)]
+pub(super) enum Family {
+    Unrelated,
+    /// All octets alike but one.
+    OneOctet {
+        base: [u8; 6],
+        at: usize,
+    },
+    /// As little-endian numbers all have one remainder by 1021, so that a search by
+    /// remainders finds them in one place.
+    OneRemainder {
+        base: u64,
+    },
+}
+
+impl Family {
+    pub(super) fn random(random: &mut Random) -> Family {
+        match random.below(4) {
+            0 => Family::OneOctet {
+                base: individual(random).0,
+                at: 1 + random.below(5),
+            },
+            1 => Family::OneRemainder {
+                base: 2 + 2 * (random.number() >> 18),
+            },
+            _ => Family::Unrelated,
+        }
+    }
+
+    pub(super) fn draw(self, random: &mut Random) -> Address {
+        match self {
+            Family::Unrelated => individual(random),
+            Family::OneOctet { mut base, at } => {
+                base[at] = random.octet();
+                individual_from(base)
+            }
+            Family::OneRemainder { base } => {
+                let value = base + 2 * 1021 * random.below(1000) as u64;
+                individual_from(value.to_le_bytes()[..6].try_into().unwrap())
+            }
+        }
+    }
+
+    pub(super) fn draw_other_than(self, taken: &[Address], random: &mut Random) -> Address {
+        loop {
+            let address = self.draw(random);
+            if !taken.contains(&address) {
+                return address;
+            }
+        }
+    }
+}
+
+fn individual_from(mut octets: [u8; 6]) -> Address {
+    octets[0] &= !1;
+    if octets == [0; 6] {
+        octets[5] = 1;
+    }
+    Address(octets)
+}
+
+pub fn individual(random: &mut Random) -> Address {
+    individual_from(random.octets())
+}
+
+/// A group address, all ones, or all zero.
+pub fn not_individual(random: &mut Random) -> Address {
+    let mut group: [u8; 6] = random.octets();
+    group[0] |= 1;
+    Address(random.pick(&[group, [1, 0, 0, 0, 0, 0], [0xFF; 6], [0; 6]]))
+}
+
+/// Nearly the same address; it may be a group's or all zero.
+pub fn one_bit_off(mut address: [u8; 6], random: &mut Random) -> [u8; 6] {
+    address[random.below(6)] ^= 1 << random.below(8);
+    address
+}

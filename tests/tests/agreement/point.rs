@@ -1,0 +1,167 @@
+use hwmp_tests::fence::{Fence, Side};
+use hwmp_tests::implementation::{Implementation, LIBRARY, REFERENCE};
+use hwmp_tests::library::Outcome;
+use hwmp_tests::random::Random;
+use hwmp_tests::tables;
+
+use crate::pair::Pair;
+use crate::tally::Tally;
+
+/// What the comparisons of one test share. Operands are lent beside the fence.
+pub struct Run {
+    pub random: Random,
+    pub answers: Tally,
+    fence: Fence,
+}
+
+impl Run {
+    pub fn announced(purpose: &str, seed: u64) -> Run {
+        Run {
+            random: Random::announced(purpose, seed),
+            answers: Tally::default(),
+            fence: Fence::build(),
+        }
+    }
+}
+
+fn lend<'a>(octets: &[u8], fence: &'a mut Fence, random: &mut Random) -> &'a [u8] {
+    fence.lend(octets, random.pick(&Side::BOTH))
+}
+
+fn lend_address<'a>(address: [u8; 6], fence: &'a mut Fence, random: &mut Random) -> &'a [u8; 6] {
+    let lent = lend(&address, fence, random);
+    lent.try_into().expect("as many octets as were lent")
+}
+
+/// A table that both implementations have, and the calls compared on it.
+pub struct Point {
+    table: Pair,
+}
+
+impl Point {
+    pub fn new(table: &[u8], random: &mut Random) -> Point {
+        Point {
+            table: Pair::new(table, random),
+        }
+    }
+
+    pub fn table(&self) -> &[u8] {
+        self.table.octets()
+    }
+
+    /// Changes the table of both, as a call that is not compared would.
+    pub fn change(&mut self, change: impl Fn(&mut [u8])) {
+        change(self.table.of_library());
+        change(self.table.of_reference());
+    }
+
+    /// Runs one call on both and holds answers and all octets, guards too, together.
+    fn compare<A: PartialEq + std::fmt::Debug>(
+        &mut self,
+        what: &str,
+        call: impl Fn(&Implementation, &mut [u8]) -> A,
+    ) -> A {
+        let before = self.table().to_vec();
+        let found = call(&LIBRARY, self.table.of_library());
+        let expected = call(&REFERENCE, self.table.of_reference());
+        assert_eq!(found, expected, "{what} on {before:?}: answers differ");
+        if let Some(octet) = self.table.difference() {
+            panic!("{what} on {before:?}: octet {octet} of the table differs");
+        }
+        found
+    }
+
+    /// The same for a call that emits, with some output. What a refusal leaves alone, and
+    /// what an acceptance does, is known without the reference.
+    fn compare_emitting(
+        &mut self,
+        what: &str,
+        call: impl Fn(&Implementation, &mut [u8], &mut [u8]) -> Outcome,
+        random: &mut Random,
+    ) -> Outcome {
+        let before = self.table().to_vec();
+        let blank = vec![random.octet(); tables::some_output_length(random)];
+        let mut output = Pair::new(&blank, random);
+        let on = || format!("{what} with an output of {} on {before:?}", blank.len());
+        let found = call(&LIBRARY, self.table.of_library(), output.of_library());
+        let expected = call(&REFERENCE, self.table.of_reference(), output.of_reference());
+        assert_eq!(found, expected, "{}: outcomes differ", on());
+        for (name, pair) in [("table", &self.table), ("output", &output)] {
+            if let Some(octet) = pair.difference() {
+                panic!("{}: octet {octet} of the {name} differs", on());
+            }
+        }
+        let beyond = found.octets as usize;
+        let left_alone = output.octets()[beyond..] == blank[beyond..];
+        assert!(left_alone, "{}: output beyond {beyond} changed", on());
+        if found.answer != 0 {
+            assert_eq!((found.frames, found.octets), (0, 0), "{}: no zeros", on());
+            assert!(before == self.table(), "{}: refused but changed", on());
+        }
+        found
+    }
+
+    pub fn fresh(&mut self, own: [u8; 6], number: u32, run: &mut Run) {
+        let what = format!("fresh({own:?}, {number})");
+        let own = lend_address(own, &mut run.fence, &mut run.random);
+        let answer = self.compare(&what, |by, table| (by.fresh)(table, own, number));
+        run.answers.count("fresh", answer);
+    }
+
+    pub fn forget(&mut self, destination: [u8; 6], run: &mut Run) {
+        let what = format!("forget({destination:?})");
+        let destination = lend_address(destination, &mut run.fence, &mut run.random);
+        let answer = self.compare(&what, |by, table| (by.forget)(table, destination));
+        run.answers.count("forget", answer);
+    }
+
+    pub fn next_hop(&mut self, clock: u64, destination: [u8; 6], run: &mut Run) {
+        let what = format!("next hop({clock}, {destination:?})");
+        let destination = lend_address(destination, &mut run.fence, &mut run.random);
+        let hop = self.compare(&what, |by, table| (by.next_hop)(table, clock, destination));
+        run.answers.count("next hop", hop.answer);
+    }
+
+    pub fn ask(&mut self, lifetime: u32, items: &[u8], run: &mut Run) -> Outcome {
+        let what = format!("ask({lifetime}, {items:?})");
+        let lent = lend(items, &mut run.fence, &mut run.random);
+        let outcome = self.compare_emitting(
+            &what,
+            |by, table, output| (by.ask)(table, output, lifetime, lent),
+            &mut run.random,
+        );
+        assert_eq!(lent, items, "the items were changed");
+        run.answers.count("ask", outcome.answer);
+        outcome
+    }
+
+    pub fn announce(&mut self, flags: u8, lifetime: u32, run: &mut Run) {
+        let outcome = self.compare_emitting(
+            &format!("announce({flags}, {lifetime})"),
+            |by, table, output| (by.announce)(table, output, flags, lifetime),
+            &mut run.random,
+        );
+        run.answers.count("announce", outcome.answer);
+    }
+
+    pub fn root_request(&mut self, flags: u8, lifetime: u32, run: &mut Run) {
+        let outcome = self.compare_emitting(
+            &format!("root request({flags}, {lifetime})"),
+            |by, table, output| (by.root_request)(table, output, flags, lifetime),
+            &mut run.random,
+        );
+        run.answers.count("root request", outcome.answer);
+    }
+
+    pub fn report_break(&mut self, clock: u64, neighbour: [u8; 6], run: &mut Run) -> Outcome {
+        let what = format!("break({clock}, {neighbour:?})");
+        let neighbour = lend_address(neighbour, &mut run.fence, &mut run.random);
+        let outcome = self.compare_emitting(
+            &what,
+            |by, table, output| (by.report_break)(table, output, clock, neighbour),
+            &mut run.random,
+        );
+        run.answers.count("break", outcome.answer);
+        outcome
+    }
+}

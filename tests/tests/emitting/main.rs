@@ -1,0 +1,9 @@
+//! Ask, announce, root request and break, held against document 01 worked out by hand: the
+//! octets that they leave in table and output, and the order of their refusals.
+
+mod asking;
+mod breaking;
+mod originating;
+mod reading_back;
+mod refusals;
+mod worked;

@@ -1,0 +1,209 @@
+//! What the cases share: tables laid octet by octet, and calls that must leave just the
+//! table and the frames that were worked out.
+
+use hwmp_tests::fence::{Fence, Side};
+use hwmp_tests::implementation::{Implementation, LIBRARY, REFERENCE};
+use hwmp_tests::library::Outcome;
+
+pub type Address = [u8; 6];
+
+pub const BOTH: [&Implementation; 2] = [&LIBRARY, &REFERENCE];
+pub const OWN: Address = [2, 0, 0, 0, 0, 1];
+pub const ALL_ONES: Address = [0xFF; 6];
+pub const ZERO: Address = [0; 6];
+pub const GROUP: Address = [3, 0, 0, 0, 0, 9];
+pub const LAST_CLOCK: u64 = (1 << 48) - 1;
+pub const LEAST_OUTPUT: usize = 1560;
+
+/// Each case is tried on both of these outputs, so that an octet which is not written shows
+/// in one of them.
+const OUTPUTS: [(usize, u8); 2] = [(LEAST_OUTPUT, 0xA5), (LEAST_OUTPUT + 217, 0x5A)];
+
+/// A row's fields in the order of its octets; the zero octet is left out.
+#[derive(Clone, Copy)]
+pub struct Row {
+    pub status: u8,
+    pub known: u8,
+    pub hop_count: u8,
+    pub destination: Address,
+    pub next_hop: Address,
+    pub number: u32,
+    pub metric: u32,
+    pub expiry: u64,
+}
+
+pub const FREE: Row = Row {
+    status: 0,
+    known: 0,
+    hop_count: 0,
+    destination: ZERO,
+    next_hop: ZERO,
+    number: 0,
+    metric: 0,
+    expiry: 0,
+};
+
+impl Row {
+    /// A neighbour's row, as it is made while nothing but its link is known.
+    pub fn unknown(self, metric: u32) -> Row {
+        Row {
+            known: 0,
+            hop_count: 1,
+            next_hop: self.destination,
+            number: 0,
+            metric,
+            ..self
+        }
+    }
+
+    fn octets(&self) -> Vec<u8> {
+        [
+            &[self.status, self.known, self.hop_count, 0][..],
+            &self.destination,
+            &self.next_hop,
+            &self.number.to_le_bytes(),
+            &self.metric.to_le_bytes(),
+            &self.expiry.to_le_bytes(),
+        ]
+        .concat()
+    }
+}
+
+/// A table of OWN with the given counters, latest clock and rows.
+pub fn table(number: u32, request_id: u32, latest_clock: u64, rows: &[Row]) -> Vec<u8> {
+    let mut octets = [
+        &OWN[..],
+        &[0; 2],
+        &number.to_le_bytes(),
+        &request_id.to_le_bytes(),
+        &latest_clock.to_le_bytes(),
+        &[0; 8],
+    ]
+    .concat();
+    for row in rows {
+        octets.extend(row.octets());
+    }
+    octets
+}
+
+/// Some call with its operands, on a table and an output.
+pub type Call<'a> = &'a dyn Fn(&Implementation, &mut [u8], &mut [u8]) -> Outcome;
+
+/// Both implementations, on either side of a fence, must accept, leave the table so and
+/// write these frames and nothing beyond.
+pub fn accepted(what: &str, before: &[u8], call: Call, after: &[u8], frames: &[Vec<u8>]) {
+    let written = frames.concat();
+    let expected = Outcome {
+        answer: 0,
+        frames: frames.len() as u32,
+        octets: written.len() as u32,
+    };
+    for (length, blank) in OUTPUTS {
+        let mut output = vec![blank; length];
+        output[..written.len()].copy_from_slice(&written);
+        leaves(
+            what,
+            before,
+            &vec![blank; length],
+            call,
+            (expected, after, &output),
+        );
+    }
+}
+
+/// Both must refuse with that number and change nothing.
+pub fn refused(what: &str, before: &[u8], output: &[u8], call: Call, answer: u32) {
+    let expected = Outcome {
+        answer,
+        frames: 0,
+        octets: 0,
+    };
+    leaves(what, before, output, call, (expected, before, output));
+}
+
+/// The same with an output that is long enough.
+pub fn refused_with_room(what: &str, before: &[u8], call: Call, answer: u32) {
+    refused(what, before, &[0xA5; LEAST_OUTPUT], call, answer);
+}
+
+fn leaves(
+    what: &str,
+    table: &[u8],
+    output: &[u8],
+    call: Call,
+    (outcome, table_after, output_after): (Outcome, &[u8], &[u8]),
+) {
+    let (tables, outputs) = (&mut Fence::build(), &mut Fence::build());
+    for by in BOTH {
+        for side in Side::BOTH {
+            let table = tables.lend(table, side);
+            let output = outputs.lend(output, side);
+            let found = call(by, table, output);
+            let name = by.name;
+            assert_eq!(found, outcome, "{what}: {name}, {side:?}");
+            assert_eq!(table, table_after, "{what}: table by {name}, {side:?}");
+            assert_eq!(output, output_after, "{what}: output by {name}, {side:?}");
+        }
+    }
+}
+
+/// A RREQ of OWN's to all ones; its destinations are flags, address and number.
+pub fn rreq(
+    flags: u8,
+    request_id: u32,
+    number: u32,
+    lifetime: u32,
+    destinations: &[(u8, Address, u32)],
+) -> Vec<u8> {
+    let count = destinations.len() as u8;
+    let mut frame = [
+        &ALL_ONES[..],
+        &[130, 26 + 11 * count, flags, 0, 31],
+        &request_id.to_le_bytes(),
+        &OWN,
+        &number.to_le_bytes(),
+        &lifetime.to_le_bytes(),
+        &[0; 4],
+        &[count],
+    ]
+    .concat();
+    for (flags, address, number) in destinations {
+        frame.extend([&[*flags][..], address, &number.to_le_bytes()].concat());
+    }
+    frame
+}
+
+/// A RANN of OWN's to all ones.
+pub fn rann(flags: u8, number: u32, lifetime: u32) -> Vec<u8> {
+    [
+        &ALL_ONES[..],
+        &[126, 21, flags, 0, 31],
+        &OWN,
+        &number.to_le_bytes(),
+        &lifetime.to_le_bytes(),
+        &[0; 4],
+    ]
+    .concat()
+}
+
+/// A RERR to all ones with flags 0.
+pub fn rerr(destinations: &[(Address, u32)]) -> Vec<u8> {
+    let count = destinations.len() as u8;
+    let mut frame = [&ALL_ONES[..], &[132, 2 + 10 * count, 0, count]].concat();
+    for (address, number) in destinations {
+        frame.extend([&address[..], &number.to_le_bytes()].concat());
+    }
+    frame
+}
+
+/// A counter before and after its step.
+pub const STEPS: [(u32, u32); 8] = [
+    (0, 1),
+    (7, 8),
+    (0xFF, 0x100),
+    (0xFFFF, 0x1_0000),
+    (0xFF_FFFF, 0x100_0000),
+    (0x7FFF_FFFF, 0x8000_0000),
+    (0xFFFF_FFFE, 0xFFFF_FFFF),
+    (0xFFFF_FFFF, 0),
+];
