@@ -1,5 +1,6 @@
 /*
- * The forwarding table of one HWMP mesh point, held in octets that the caller lends.
+ * One HWMP mesh point: its forwarding table, held in octets that the caller lends, and the
+ * frames that it sends.
  *
  * A lent buffer is a pointer and its length in octets. It must be real memory of that
  * length (not NULL), at any alignment, and the buffers of one call must not overlap. An
@@ -11,12 +12,23 @@
  * it returns beside the number is zero.
  *
  *    1  the table's length is not 32 + 32R with R from 1 to 128
+ *    2  the output is shorter than HWMP_OUTPUT_OCTETS
  *    3  the clock is above HWMP_MAX_CLOCK
- *    9  the address is not individual: lowest bit of its first octet set, or all zero
+ *    4  the neighbour is not an individual address
+ *    8  the items are not 1 to HWMP_MAX_ITEMS of 7 octets
+ *    9  an address is not individual: lowest bit of its first octet set, or all zero
+ *   10  an address stands twice, or flags are not allowed
+ *   11  the lifetime is 0
  *   21  the octets are not a table
  *   22  the clock is below the latest clock stored in the table
+ *   23  the neighbour is the point's own address
+ *   24  an item names the point's own address
  *   28  there is no active row for the destination
  *   29  there is no row for the destination
+ *
+ * Calls that may send write their frames into the output, from its start and without
+ * gaps: each is a receiver address (6 octets, all ones for every neighbour) and an
+ * element, whose second octet says how many octets follow it. Output beyond is unchanged.
  */
 #ifndef HWMP_H
 #define HWMP_H
@@ -36,13 +48,39 @@ extern "C" {
 
 #define HWMP_ADDRESS_OCTETS 6
 
-/* Clocks count milliseconds, up to 2^48 - 1. */
+/* All frames of one call have room in so many octets, and no call takes fewer. */
+#define HWMP_OUTPUT_OCTETS 1560
+
+/* An item of an ask: flags and the address of a destination. */
+#define HWMP_ITEM_OCTETS 7
+#define HWMP_MAX_ITEMS 20
+
+/*
+ * Flags of an item. DO: only the destination itself is to reply. RF: a point on the way that
+ * replies is to pass the request on all the same.
+ */
+#define HWMP_ITEM_DO 1
+#define HWMP_ITEM_RF 2
+
+/* Flags of an announcement and of a root request: the point is a portal. */
+#define HWMP_PORTAL 1
+/* Flag of a root request: every point is to reply. */
+#define HWMP_REPLY_WANTED 4
+
+/* Clocks and lifetimes count milliseconds; clocks go up to 2^48 - 1. */
 #define HWMP_MAX_CLOCK UINT64_C(281474976710655)
 
 /* What hwmp_next_hop found: the next hop if answer is 0, else six zero octets. */
 struct hwmp_hop {
     uint32_t answer;
     uint8_t address[6];
+};
+
+/* What a call that may send has written, if answer is 0: frames, and octets in all. */
+struct hwmp_outcome {
+    uint32_t answer;
+    uint32_t frames;
+    uint32_t octets;
 };
 
 /*
@@ -65,6 +103,42 @@ struct hwmp_hop hwmp_next_hop(const uint8_t *table, size_t table_len, uint64_t c
  * Refusals: 1, 9 (destination), 21, 29 (also for the point's own address).
  */
 uint32_t hwmp_forget(uint8_t *table, size_t table_len, const uint8_t destination[6]);
+
+/*
+ * Asks for 1 to 20 destinations: one RREQ to all, with the point's next sequence number
+ * and next request ID, which the table keeps. Beside each destination goes the sequence
+ * number of its row, if that is known, else 0. No row changes.
+ * Refusals: 1, 2, 8, 9, 10 (flags above 3, or an address twice), 11, 21, 24.
+ */
+struct hwmp_outcome hwmp_ask(uint8_t *table, size_t table_len, uint8_t *output,
+                             size_t output_len, uint32_t lifetime, const uint8_t *items,
+                             size_t items_len);
+
+/*
+ * Announces the point: one RANN to all, with its next sequence number.
+ * Flags are 0 or HWMP_PORTAL.
+ * Refusals: 1, 2, 10 (flags), 11, 21.
+ */
+struct hwmp_outcome hwmp_announce(uint8_t *table, size_t table_len, uint8_t *output,
+                                  size_t output_len, uint8_t flags, uint32_t lifetime);
+
+/*
+ * Sends a root request: one RREQ to all for every point, with the next sequence number and
+ * the next request ID. Flags are any of HWMP_PORTAL and HWMP_REPLY_WANTED.
+ * Refusals: 1, 2, 10 (flags), 11, 21.
+ */
+struct hwmp_outcome hwmp_root_request(uint8_t *table, size_t table_len, uint8_t *output,
+                                      size_t output_len, uint8_t flags, uint32_t lifetime);
+
+/*
+ * Reports that a neighbour can no longer be reached. Every active row through it is
+ * invalidated but stays held; a known sequence number is stepped, so that what is older is
+ * refused from now on. Those destinations go to all neighbours, 25 to a RERR; if there are
+ * none, there is no frame. The clock is stored either way.
+ * Refusals: 1, 2, 3, 4, 21, 22, 23.
+ */
+struct hwmp_outcome hwmp_break(uint8_t *table, size_t table_len, uint8_t *output,
+                               size_t output_len, uint64_t clock, const uint8_t neighbour[6]);
 
 #ifdef __cplusplus
 }
