@@ -11,7 +11,8 @@ ghost use lib.ListN.{length};
 ghost use Rattle.element.specs.Entries.{itemAt, numberedAt, targetAt};
 ghost use Rattle.element.specs.Lists.{addressIn, addressesFrom, addressesIn, allowed, among, anyForbidden, entriesIn, onesBesideOthers, twice};
 
-const ALL_ONES: u64 = 281474976710655;
+// Every point: as a receiver, and as the destination of a root request.
+pub const ALL_ONES: u64 = 281474976710655;
 
 // What the entries are: destinations of a RREQ; dependents of a RREP and destinations of a RERR; or items of an ask.
 pub enum ListKind {
@@ -48,10 +49,9 @@ pub fn item_at(part: &[u8], i: usize) -> Item
     ensures { λ r. ⌜ r ≡ itemAt (now (part .entry)) i ⌝ }
 {
     let at = 7 * i;
-    Item {
-        flags: octets::read_u8(part, at),
-        address: Address(octets::read_u48(part, at + 1)),
-    }
+    let flags = octets::read_u8(part, at);
+    let address = Address(octets::read_u48(part, at + 1));
+    Item { flags, address }
 }
 
 // How many entries a list part has.

@@ -3,6 +3,7 @@ use crate::Answer;
 use crate::Emitted;
 use crate::Outcome;
 use crate::originate;
+use element::list;
 use element::write;
 use table::address::Address;
 use table::row;
@@ -23,7 +24,7 @@ fn send(table: &mut [u8], output: &mut [u8], flags: u8, lifetime: u32) -> Outcom
     let head = originate::number_rann(row::read_head(table));
     row::write_head(table, head);
     let path = originate::own_path(head, flags, lifetime);
-    write::write_rann(output, 0, Address(originate::ALL_ONES), path);
+    write::write_rann(output, 0, Address(list::ALL_ONES), path);
     let emitted = Emitted {
         frames: 1,
         octets: 29,

@@ -1,8 +1,8 @@
 // The errors of a break, 25 destinations to a RERR, written one destination after another. How many there will be is not
 // known before the last, so each RERR is begun as one of 25, and the last gets its count when all are written.
 use crate::Emitted;
-use crate::originate::ALL_ONES;
 use element::NumberedAddress;
+use element::list;
 use element::write;
 use table::address::Address;
 ghost use mathlib.Core.Path.{_≡_};
@@ -46,7 +46,7 @@ fn begin(out: &mut [u8], at: usize, n: usize) -> usize
     ensures { λ r. ⌜ r ≡ at + 10 ⌝ }
     ensures { λ _. ⌜ now (out .exit) ≡ over (now (out .entry)) at (errorStart n) ⌝ }
 {
-    write::start_rerr(out, at, Address(ALL_ONES), 0, n)
+    write::start_rerr(out, at, Address(list::ALL_ONES), 0, n)
 }
 
 // Where the next destination goes: after the others, or in a RERR that is begun for it.

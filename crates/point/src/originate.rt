@@ -5,6 +5,7 @@ use counters::HopCount;
 use counters::Metric;
 use element::PathInfo;
 use element::RreqFields;
+use element::list;
 use element::write;
 use table::address::Address;
 use table::legal;
@@ -19,9 +20,6 @@ ghost use Rattle.element.specs.Lists.{allOnes};
 ghost use Rattle.element.specs.Octets.{frameStart};
 ghost use Rattle.rules.specs.Originate.{originating, ownPath, ownRequest, rannNumbered, rreqNumbered};
 ghost use Rattle.point.specs.Answers.{answerTo};
-
-// The address of all ones, to which every point listens.
-pub const ALL_ONES: u64 = 281474976710655;
 
 // The refusals of announce and root request. They differ in the flags that are barred.
 pub fn check(table: &[u8], output: &[u8], barred: bool, lifetime: u32) -> Answer
@@ -90,5 +88,5 @@ pub fn start_request(output: &mut [u8], head: Head, flags: u8, lifetime: u32, n:
     let request = head.request;
     let path = own_path(head, flags, lifetime);
     let fields = RreqFields { request, path };
-    write::start_rreq(output, 0, Address(ALL_ONES), fields, n)
+    write::start_rreq(output, 0, Address(list::ALL_ONES), fields, n)
 }

@@ -5,6 +5,7 @@ use crate::Outcome;
 use crate::originate;
 use counters::SequenceNumber;
 use element::Target;
+use element::list;
 use element::write;
 use table::address::Address;
 use table::row;
@@ -35,7 +36,7 @@ fn send(table: &mut [u8], output: &mut [u8], flags: u8, lifetime: u32) -> Outcom
     let list = originate::start_request(output, head, flags, lifetime, 1);
     let target = Target {
         flags: 3,
-        address: Address(originate::ALL_ONES),
+        address: Address(list::ALL_ONES),
         number: SequenceNumber(0),
     };
     write::write_target(output, list, target);
