@@ -1,6 +1,6 @@
 -- 'Errors and breaks': which rows are lost, what becomes of them, and the errors that name them. Assumes nothing.
 use Prim.Native.Nat.{ℕ, _+_, _*_, _/_}
-use mathlib.Core.Bool.{Bool, _&&_, cond}
+use mathlib.Core.Bool.{Bool, true, _&&_, cond}
 use mathlib.Core.List.{List, [], _∷_, flatMap}
 use mathlib.Core.Option.{Option, none, some}
 use lib.Dec.{eqb}
@@ -39,12 +39,16 @@ unfoldable pub numberBeside : Address → List NumberedAddress → Option Sequen
 numberBeside d [] = none
 numberBeside d (m ∷ named) = cond (same (m .address) d) (some (m .number)) (numberBeside d named)
 
+-- the rows that a RERR hits: those of its matches
+unfoldable pub isHit : ℕ → Address → List NumberedAddress → Row → Bool
+isHit c transmitter named r = isLostBy c transmitter r && has (λ _. true) (numberBeside (r .destination) named)
+
 -- a match is invalidated; if the received number is newer, the row takes it and metric 4,294,967,295
 unfoldable pub erredWith : Option SequenceNumber → Row → Row
 erredWith none r = r
 erredWith (some n) r = cond (newer n (r .number)) (raised n (invalidated r)) (invalidated r)
 
--- a row after a RERR that names these destinations
+-- what a RERR with these destinations makes of a row that it hits
 unfoldable pub erred : List NumberedAddress → Row → Row
 erred named r = erredWith (numberBeside (r .destination) named) r
 

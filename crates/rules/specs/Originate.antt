@@ -12,7 +12,7 @@ use Rattle.table.specs.declared.row.Head.{Head}
 use Rattle.table.specs.declared.row.Row.{Row}
 use Rattle.table.specs.Row.{headWith}
 use Rattle.table.specs.Layout.{sized, headAt, putHead}
-use Rattle.table.specs.Table.{own, number, clock, isTable, rowFor}
+use Rattle.table.specs.Table.{own, isTable, rowFor}
 use Rattle.element.specs.declared.Item.{Item}
 use Rattle.element.specs.declared.PathInfo.{PathInfo}
 use Rattle.element.specs.declared.RreqFields.{RreqFields}
@@ -49,6 +49,7 @@ ownPath h flags lifetime =
       metric = record { 0 = 0 };
     }
 
+-- an announcement
 unfoldable pub announced : List ℕ → ℕ → ℕ → Effect
 announced t flags lifetime =
     let h : Head = rannNumbered (headAt t) in
@@ -69,6 +70,7 @@ requested t flags lifetime targets =
 unfoldable pub itemsFit : List ℕ → Bool
 itemsFit s = eqb (length s % 7) 0 && leb 7 (length s) && leb (length s) 140
 
+-- in an ask, flags above 3
 abbrev pub hasHighFlags : Item → Bool
 hasHighFlags i = i .flags above 3
 
@@ -98,11 +100,11 @@ ask t room lifetime s = decide (asking t room lifetime s)
 -- ---- announce and root request
 
 -- what both are refused for
-abbrev pub originating : {A : Type 0} → List ℕ → ℕ → (badFlags : Bool) → (lifetime : ℕ) → A → Ruling A
-originating t room badFlags lifetime a = do
+abbrev pub originating : {A : Type 0} → List ℕ → ℕ → (barred : Bool) → (lifetime : ℕ) → A → Ruling A
+originating t room barred lifetime a = do
   refuse 1 when not (sized t)
   refuse 2 when room below 1560
-  refuse 10 when badFlags
+  refuse 10 when barred
   refuse 11 when eqb lifetime 0
   refuse 21 when not (isTable t)
   accept a
@@ -114,7 +116,7 @@ announcing t room flags lifetime = originating t room (flags above 1) lifetime (
 unfoldable pub announce : List ℕ → ℕ → ℕ → ℕ → Decision Effect
 announce t room flags lifetime = decide (announcing t room flags lifetime)
 
--- for a root request, flags other than 0, 1, 4 or 5
+-- the flags of a root request are 0, 1, 4 or 5
 unfoldable pub isRootFlags : ℕ → Bool
 isRootFlags flags = eqb flags 0 || eqb flags 1 || eqb flags 4 || eqb flags 5
 
@@ -122,6 +124,7 @@ isRootFlags flags = eqb flags 0 || eqb flags 1 || eqb flags 4 || eqb flags 5
 abbrev pub allWithDOAndRF : Target
 allWithDOAndRF = record { flags = 3; address = allOnes; number = record { 0 = 0 } }
 
+-- for a root request, flags other than these
 abbrev pub requestingAsRoot : List ℕ → ℕ → ℕ → ℕ → Ruling Effect
 requestingAsRoot t room flags lifetime =
     originating t room (not (isRootFlags flags)) lifetime (requested t flags lifetime (allWithDOAndRF ∷ []))
