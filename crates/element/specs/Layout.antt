@@ -55,7 +55,7 @@ fieldWidths Rerr = 1 ∷ []
 abbrev pub targetWidths : List ℕ
 targetWidths = 1 ∷ 6 ∷ 4 ∷ []
 
--- flags, address
+-- an item of an ask: flags, address
 abbrev pub itemWidths : List ℕ
 itemWidths = 1 ∷ 6 ∷ []
 

@@ -1,5 +1,5 @@
--- The addresses in a list part, and what can be wrong with them: what refusals 9 and 10 ask of destinations. Dependents of
--- a RREP have entries like those of a RERR, but are passed on unread. Assumes nothing.
+-- The addresses in a list part or in the items of an ask, and what can be wrong with them: what refusals 9 and 10 ask of
+-- destinations. Dependents of a RREP have entries like those of a RERR, but are passed on unread. Assumes nothing.
 use Prim.Native.Nat.{ℕ, _-_, _/_, _^_}
 use mathlib.Core.Bool.{Bool, false, _&&_, _||_, not}
 use mathlib.Core.List.{List, [], _∷_}

@@ -24,13 +24,14 @@ both : (a b : Bool) → (a && b) ≡ true → (a ≡ true) × (b ≡ true)
 both a b = and-eq-true-iff a b .0
 
 module _ (t : List ℕ) where
-  -- a table of a right size has a head
+  -- a table of a right size has at most 128 rows
   pub sized-short : (b : Bool) → b ≡ sized t → b ≡ true → length t ≤ 4128
   unfolding sized
   sized-short b e yes-b =
       let n = length t in
       leb-true n 4128 (both (eqb (n % 32) 0 && leb 64 n) (leb n 4128) (sym e ∙ yes-b) .1)
 
+  -- and a head
   pub sized-long : (b : Bool) → b ≡ sized t → b ≡ true → 32 ≤ length t
   unfolding sized
   sized-long b e yes-b =

@@ -1,6 +1,5 @@
 -- A table after the rows that pass a test are changed: every row is what the change makes of it, and each destination keeps
--- its row.
--- Assumes nothing.
+-- its row. Assumes nothing.
 use Prim.Native.Nat.{ℕ, zero, suc, _+_, _<_, _≤_}
 use mathlib.Core.Path.{_≡_, refl, sym, ap, _∙_}
 use mathlib.Core.Bool.{Bool, true, false, cond, or-true}
@@ -36,9 +35,9 @@ pub record KeepsRows (p : Row → Bool) (f : Row → Row) : Type 0 where
 abbrev pub changed : (Row → Bool) → (Row → Row) → Row → Row
 changed p f r = cond (p r) (f r) r
 
-either : (P : List ℕ → Type 0) (b : Bool) {t u : List ℕ} → P u → P t → P (cond b t u)
-either P true p q = q
-either P false p q = p
+either : (P : List ℕ → Type 0) (b : Bool) {t u : List ℕ} → P t → P u → P (cond b t u)
+either P true p q = p
+either P false p q = q
 
 -- what holds of a row that stays and of one that is changed
 pub by-test : (p : Row → Bool) (f : Row → Row) (P : Row → Type 0) (r : Row) → P r → (p r ≡ true → P (f r)) → P (changed p f r)
@@ -54,21 +53,21 @@ module _ (p : Row → Bool) (f : Row → Row) where
   below-length zero t = refl
   below-length (suc n) t =
       let u : List ℕ = changeBelow p f n t in
-      either (λ v. length v ≡ length t) (p (rowAt u n)) (below-length n t) (length-row u n _ ∙ below-length n t)
+      either (λ v. length v ≡ length t) (p (rowAt u n)) (length-row u n _ ∙ below-length n t) (below-length n t)
 
   below-head : (n : ℕ) (t : List ℕ) → headAt (changeBelow p f n t) ≡ headAt t
   unfolding changeBelow
   below-head zero t = refl
   below-head (suc n) t =
       let u : List ℕ = changeBelow p f n t in
-      either (λ v. headAt v ≡ headAt t) (p (rowAt u n)) (below-head n t) (head-stays u n _ ∙ below-head n t)
+      either (λ v. headAt v ≡ headAt t) (p (rowAt u n)) (head-stays u n _ ∙ below-head n t) (below-head n t)
 
   below-octets : (n : ℕ) (t : List ℕ) → Octets t → Octets (changeBelow p f n t)
   unfolding changeBelow
   below-octets zero t o = o
   below-octets (suc n) t o =
       let u : List ℕ = changeBelow p f n t in
-      either Octets (p (rowAt u n)) (below-octets n t o) (row-octets u n _ (below-octets n t o))
+      either Octets (p (rowAt u n)) (row-octets u n _ (below-octets n t o)) (below-octets n t o)
 
   -- the rows from n on are what they were
   pub below-other : (n k : ℕ) (t : List ℕ) → n ≤ k → rowAt (changeBelow p f n t) k ≡ rowAt t k
@@ -77,8 +76,8 @@ module _ (p : Row → Bool) (f : Row → Row) where
   below-other (suc n) k t l =
       let u : List ℕ = changeBelow p f n t in
       either (λ v. rowAt v k ≡ rowAt t k) (p (rowAt u n))
-      (below-other n k t (omega arith))
       (row-other u n k _ (λ q. omega arith) ∙ below-other n k t (omega arith))
+      (below-other n k t (omega arith))
 
   pub change-length : (t : List ℕ) → length (changeWhere p f t) ≡ length t
   unfolding changeWhere
@@ -110,8 +109,8 @@ module _ (p : Row → Bool) (f : Row → Row) where
         (λ q. rw q
         (change-here u n (below-octets n t o) (rw below-length (omega arith)) ∙ ap (changed p f) (below-other n n t (omega arith))))
         (λ g. either (λ v. rowAt v k ≡ changed p f (rowAt t k)) (p (rowAt u n))
-        (below-same n k t o (omega arith) g)
-        (row-other u n k _ (λ q. omega arith) ∙ below-same n k t o (omega arith) g))
+        (row-other u n k _ (λ q. omega arith) ∙ below-same n k t o (omega arith) g)
+        (below-same n k t o (omega arith) g))
         (eq-or-lt-of-le (le-of-suc-le-suc h))
 
     changed-status : (r : Row) → eqb (changed p f r .status) 0 ≡ eqb (r .status) 0

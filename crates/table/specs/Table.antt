@@ -99,13 +99,15 @@ store t r = putAt t r (placeFor t (r .destination))
 unfoldable pub freed : List ℕ → Address → List ℕ
 freed t d = putAt t freeRow (findRow t d)
 
--- row i is changed by f if it passes the test p; and so each row below n, and each row: the others stay, octet by octet
+-- row i is changed by f if it passes the test p
 abbrev pub changeAt : (Row → Bool) → (Row → Row) → ℕ → List ℕ → List ℕ
 changeAt p f i t = cond (p (rowAt t i)) (putRow t i (f (rowAt t i))) t
 
+-- so is each row below n
 unfoldable pub changeBelow : (Row → Bool) → (Row → Row) → ℕ → List ℕ → List ℕ
 changeBelow p f zero t = t
 changeBelow p f (suc n) t = changeAt p f n (changeBelow p f n t)
 
+-- and each row; those that fail the test stay as they are, octet by octet
 unfoldable pub changeWhere : (Row → Bool) → (Row → Row) → List ℕ → List ℕ
 changeWhere p f t = changeBelow p f (rows t) t

@@ -14,6 +14,9 @@ ghost use Rattle.table.specs.Layout.{place, rowAt, sized};
 ghost use Rattle.table.specs.Places.{every};
 ghost use Rattle.table.specs.Table.{alone, isTable, passes};
 
+// Clocks have 48 bits.
+pub const MAX_CLOCK: u64 = 281474976710655;
+
 pub fn is_sized(table: &[u8]) -> bool
     ensures { λ r. ⌜ r ≡ sized (now (table .entry)) ⌝ }
 {
@@ -36,7 +39,7 @@ impl Head {
         if !own.is_individual() {
             return false;
         }
-        (self.zero2 == 0) & (self.clock <= 281474976710655) & (self.zero8 == 0)
+        (self.zero2 == 0) & (self.clock <= MAX_CLOCK) & (self.zero8 == 0)
     }
 }
 

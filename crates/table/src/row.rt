@@ -47,7 +47,7 @@ impl Head {
         }
     }
 
-    // With what a call may change of it.
+    // The same head with these counters and this clock, which is all that a call changes of it.
     pub fn with(mut self, number: SequenceNumber, request: RequestId, clock: u64) -> Self
         ensures { λ r. ⌜ r ≡ headWith number request clock self ⌝ }
     {
