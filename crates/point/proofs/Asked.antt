@@ -8,8 +8,6 @@ use lib.ListN.{length, length-map}
 use native.Mathlib.Omega.{arith}
 use native.Mathlib.Nat.{sub-zero}
 use borrow.Author.Tests.{lt-ltb, le-ltb, leb-true, eq-eqb, ne-eqb, not-false}
-use mir.Syntax.{w32}
-use mir.Val.{Fits}
 use Rattle.octets.specs.LittleEndian.{over}
 use Rattle.table.specs.declared.address.Address.{Address}
 use Rattle.table.specs.declared.row.Head.{Head}
@@ -111,9 +109,6 @@ pub asked-written : (t s w output v : List ℕ) (h : Head) (lifetime : ℕ)
 asked-written t s w output v h lifetime = request-finished w output v h 0 lifetime (map (askedFor t) (itemsIn s)) (length s / 7) (asked-many t s)
 
 module _ (t s output u v : List ℕ) (octets : ℕ) (size : octets ≡ 34 + 11 * (length s / 7)) where
-  pub asked-small : length s ≤ 140 → Fits w32 octets
-  asked-small l = record { fits = omega arith }
-
   pub asked-exit : (lifetime : ℕ) (h₀ h : Head) → h₀ ≡ headAt t → h ≡ rreqNumbered h₀
       → v ≡ over output 0 (writeFrame allOnes (rreq (ownRequest h 0 lifetime) (map (askedFor t) (itemsIn s)))) → u ≡ putHead t h
       → exits (Done (record { frames = 1; octets = octets })) u v ≡ atExit t output (accepted (requested t 0 lifetime (map (askedFor t) (itemsIn s))))

@@ -53,7 +53,7 @@ module _ (t : List ℕ) (h : Head) (he : h ≡ headAt t) where
   pub other-neighbour : (n : Address) → (n .0 ≡ h .own .0 → ⊥) → same n (own t) ≡ false
   other-neighbour n e = ap (λ (k : Head). same n (k .own)) (sym he) ∙ ne-eqb (n .0) (h .own .0) e
 
-pub ruleset heading = (clock-early, clock-late, own-neighbour, other-neighbour)
+pub ruleset by-head = (clock-early, clock-late, own-neighbour, other-neighbour)
 
 -- ---- a row that is lost
 
@@ -110,21 +110,22 @@ module _ (t : List ℕ) (i c : ℕ) (neighbour : Address) (r : Row) (re : r ≡ 
 
 -- ---- one row after another
 
+-- the entries of rows from i on, of the n first rows of t; and of all these
+abbrev lostFrom : List ℕ → ℕ → Address → ℕ → ℕ → List NumberedAddress
+lostFrom t c neighbour n i = flatMap (brokenEntry c neighbour) (each (rowAt t) i (n - i))
+
+abbrev allLost : List ℕ → ℕ → Address → ℕ → List NumberedAddress
+allLost t c neighbour n = flatMap (brokenEntry c neighbour) (each (rowAt t) 0 n)
+
 -- What stands before row i of the n first rows of t₀: the rows below it are lost or not, and with what is left to lose the
 -- count and the output come to the whole.
 module _ (t₀ out₀ : List ℕ) (c : ℕ) (neighbour : Address) (n : ℕ) where
-  abbrev lostFrom : ℕ → List NumberedAddress
-  lostFrom i = flatMap (brokenEntry c neighbour) (each (rowAt t₀) i (n - i))
-
-  abbrev allLost : List NumberedAddress
-  allLost = flatMap (brokenEntry c neighbour) (each (rowAt t₀) 0 n)
-
   pub record Breaking (i lost : ℕ) (t out : List ℕ) : Type 0 where
     pub below : i ≤ n
     pub few : lost ≤ i
     pub rows : t ≡ changeBelow (isThrough c neighbour) broken i t₀
-    pub counted : lost + length (lostFrom i) ≡ length allLost
-    pub written : over out (octetsFor lost) (begunAfter lost (lostFrom i)) ≡ over out₀ 0 (begunAfter 0 allLost)
+    pub counted : lost + length (lostFrom t₀ c neighbour n i) ≡ length (allLost t₀ c neighbour n)
+    pub written : over out (octetsFor lost) (begunAfter lost (lostFrom t₀ c neighbour n i)) ≡ over out₀ 0 (begunAfter 0 (allLost t₀ c neighbour n))
 
   pub breaking-start : Breaking 0 0 t₀ out₀
   unfolding changeBelow
@@ -133,7 +134,7 @@ module _ (t₀ out₀ : List ℕ) (c : ℕ) (neighbour : Address) (n : ℕ) wher
         below = omega arith;
         few = omega arith;
         rows = refl;
-        counted = rw (sub-zero n, zero-add (length allLost));
+        counted = rw (sub-zero n, zero-add (length (allLost t₀ c neighbour n)));
         written = rw (sub-zero n);
       }
 
@@ -157,8 +158,8 @@ module _ (t₀ out₀ : List ℕ) (c : ℕ) (neighbour : Address) (n : ℕ) wher
       unfolding changeBelow flatMap
       breaking-more t′ te lost′ le out′ oe =
           let entry : List NumberedAddress = brokenEntry c neighbour (rowAt t i) in
-          let rest : List NumberedAddress = lostFrom (i + 1) in
-          let left : lostFrom i ≡ entry ++ rest =
+          let rest : List NumberedAddress = lostFrom t₀ c neighbour n (i + 1) in
+          let left : lostFrom t₀ c neighbour n i ≡ entry ++ rest =
           ap (flatMap (brokenEntry c neighbour)) (each-next (rowAt t₀) i n l) ∙ ap (λ (r : Row). brokenEntry c neighbour r ++ rest) (sym row-as-it-was) in
           let place-after : octetsFor lost′ ≡ octetsFor lost + length (begunAfter lost entry) = ap octetsFor le ∙ sym (begun-length lost entry) in
           record {
@@ -179,29 +180,29 @@ module _ (t₀ out₀ : List ℕ) (c : ℕ) (neighbour : Address) (n : ℕ) wher
       ended : i ≡ n
       ended = omega (arith, so-far .below)
 
-      none-left : lostFrom i ≡ []
+      none-left : lostFrom t₀ c neighbour n i ≡ []
       unfolding flatMap
       none-left = ap (flatMap (brokenEntry c neighbour)) (each-end (rowAt t₀) i n l)
 
-      pub all-counted : lost ≡ length allLost
+      pub all-counted : lost ≡ length (allLost t₀ c neighbour n)
       all-counted = omega (arith, so-far .counted, ap length none-left)
 
       pub all-broken : t ≡ changeBelow (isThrough c neighbour) broken n t₀
       all-broken = so-far .rows ∙ ap (λ (k : ℕ). changeBelow (isThrough c neighbour) broken k t₀) ended
 
-      pub all-written : out ≡ over out₀ 0 (begunAfter 0 allLost)
+      pub all-written : out ≡ over out₀ 0 (begunAfter 0 (allLost t₀ c neighbour n))
       unfolding over begunAfter
       all-written = sym (ap (λ (m : List NumberedAddress). over out (octetsFor lost) (begunAfter lost m)) none-left) ∙ so-far .written
 
 -- ---- all rows, and the errors closed
 
-module _ (t output : List ℕ) (c : ℕ) (neighbour : Address) (n : ℕ) (ne : n ≡ rows t) (lost : ℕ) (le : lost ≡ length (allLost t output c neighbour n)) where
+module _ (t output : List ℕ) (c : ℕ) (neighbour : Address) (n : ℕ) (ne : n ≡ rows t) (lost : ℕ) (le : lost ≡ length (allLost t c neighbour n)) where
   pub lost-few : length t ≤ 4128 → lost ≤ 128
   lost-few l = omega (arith, le, ne, entries-few c neighbour (each (rowAt t) 0 n), each-length (rowAt t) 0 n)
 
-  lost-are : allLost t output c neighbour n ≡ brokenEntries t c neighbour
+  lost-are : allLost t c neighbour n ≡ brokenEntries t c neighbour
   unfolding brokenEntries
-  lost-are = ap (allLost t output c neighbour) ne
+  lost-are = ap (allLost t c neighbour) ne
 
   pub lost-counted : lost ≡ length (brokenEntries t c neighbour)
   lost-counted = le ∙ ap length lost-are
@@ -210,10 +211,10 @@ module _ (t output : List ℕ) (c : ℕ) (neighbour : Address) (n : ℕ) (ne : n
   unfolding changeWhere
   rows-lost u ue = ue ∙ ap (λ (k : ℕ). changeBelow (isThrough c neighbour) broken k t) ne
 
-  pub errors-closed : length t ≤ 4128 → (w v : List ℕ) → w ≡ over output 0 (begunAfter 0 (allLost t output c neighbour n)) → v ≡ closed w 0 lost
+  pub errors-closed : length t ≤ 4128 → (w v : List ℕ) → w ≡ over output 0 (begunAfter 0 (allLost t c neighbour n)) → v ≡ closed w 0 lost
       → v ≡ over output 0 (frameOctets (errorsFor (brokenEntries t c neighbour)))
   errors-closed l w v we ve =
-      let all : List NumberedAddress = allLost t output c neighbour n in
+      let all : List NumberedAddress = allLost t c neighbour n in
       ve ∙ ap₂ (λ (x : List ℕ) (k : ℕ). closed x 0 k) we le
       ∙ closes 6 all (omega (arith, le, lost-few l)) output 0
       ∙ ap (λ (m : List NumberedAddress). over output 0 (frameOctets (errorsFor m))) lost-are

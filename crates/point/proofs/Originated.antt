@@ -33,7 +33,7 @@ one-frame : (e : Element) → frameOctets (toAll e) ≡ writeFrame allOnes e
 unfolding frameOctets flatMap
 one-frame e = append-nil (writeFrame allOnes e)
 
-pub one-frame-exit : (t output u v : List ℕ) (n : ℕ) (e : Element) → v ≡ over output 0 (writeFrame allOnes e) → n ≡ length (writeFrame allOnes e)
+one-frame-exit : (t output u v : List ℕ) (n : ℕ) (e : Element) → v ≡ over output 0 (writeFrame allOnes e) → n ≡ length (writeFrame allOnes e)
     → exits (Done (record { frames = 1; octets = n })) u v ≡ atExit t output (accepted (record { table = u; frames = toAll e }))
 unfolding atExit
 one-frame-exit t output u v n e ve ne = rw (one-frame e, ve, ne)
@@ -41,11 +41,11 @@ one-frame-exit t output u v n e ve ne = rw (one-frame e, ve, ne)
 -- ---- announce
 
 pub announced-exit : (t output u v : List ℕ) (flags lifetime : ℕ) (h₀ h : Head) → h₀ ≡ headAt t → h ≡ rannNumbered h₀ → u ≡ putHead t h
-    → (p : PathInfo) → p ≡ ownPath h flags lifetime → v ≡ over output 0 (writeFrame allOnes (rann p))
-    → exits (Done (record { frames = 1; octets = 29 })) u v ≡ atExit t output (accepted (announced t flags lifetime))
+    → (p : PathInfo) → p ≡ ownPath h flags lifetime → v ≡ over output 0 (writeFrame allOnes (rann p)) → (octets : ℕ) → octets ≡ 0 + 29
+    → exits (Done (record { frames = 1; octets = octets })) u v ≡ atExit t output (accepted (announced t flags lifetime))
 unfolding announced
-announced-exit t output u v flags lifetime h₀ h e₀ he ue p pe ve =
-    one-frame-exit t output u v 29 (rann p) ve (sym (frame-length allOnes (rann p)))
+announced-exit t output u v flags lifetime h₀ h e₀ he ue p pe ve octets size =
+    one-frame-exit t output u v octets (rann p) ve (size ∙ sym (frame-length allOnes (rann p)))
     ∙ ap₂ (λ (w : List ℕ) (q : PathInfo). atExit t output (accepted (record { table = w; frames = toAll (rann q) })))
     (ue ∙ ap (putHead t) stepped) (pe ∙ ap (λ (k : Head). ownPath k flags lifetime) stepped)
   where
@@ -84,14 +84,14 @@ module _ (t output u v : List ℕ) (flags lifetime : ℕ) (h₀ h : Head) (e₀ 
 
   -- with one destination
   pub root-exit : (w : List ℕ) → w ≡ over output 0 (frameStart allOnes Rreq 1 (rreqNumbers (ownRequest h flags lifetime)))
-      → (at : ℕ) → at ≡ 34 → v ≡ over w at (targetOctets allWithDOAndRF)
-      → exits (Done (record { frames = 1; octets = 45 })) u v ≡ atExit t output (accepted (requested t flags lifetime (allWithDOAndRF ∷ [])))
+      → (at : ℕ) → at ≡ 34 → v ≡ over w at (targetOctets allWithDOAndRF) → (octets : ℕ) → octets ≡ at + 11
+      → exits (Done (record { frames = 1; octets = octets })) u v ≡ atExit t output (accepted (requested t flags lifetime (allWithDOAndRF ∷ [])))
   unfolding flatMap
-  root-exit w we at ate ve =
+  root-exit w we at ate ve octets size =
       requested-exit (allWithDOAndRF ∷ []) 1 refl
       (request-finished w output v h flags lifetime (allWithDOAndRF ∷ []) 1 refl we at ate
       (ve ∙ ap (over w at) (sym (append-nil (targetOctets allWithDOAndRF)))))
-      45 refl
+      octets (omega (arith, size, ate))
 
 -- ---- decided by the check
 

@@ -24,10 +24,10 @@ fn send(table: &mut [u8], output: &mut [u8], flags: u8, lifetime: u32) -> Outcom
     let head = originate::number_rann(row::read_head(table));
     row::write_head(table, head);
     let path = originate::own_path(head, flags, lifetime);
-    write::write_rann(output, 0, Address(list::ALL_ONES), path);
+    let octets = write::write_rann(output, 0, Address(list::ALL_ONES), path);
     let emitted = Emitted {
         frames: 1,
-        octets: 29,
+        octets: octets as u32,
     };
     Outcome::Accepted(emitted)
 }

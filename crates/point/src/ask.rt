@@ -75,7 +75,7 @@ fn check(table: &[u8], output: &[u8], lifetime: u32, items: &[u8]) -> Answer
     if !legal::is_sized(table) {
         return Answer::Refused(1);
     }
-    if output.len() < 1560 {
+    if output.len() < crate::LEAST_OUTPUT {
         return Answer::Refused(2);
     }
     if let Answer::Refused(n) = check_items(items) {

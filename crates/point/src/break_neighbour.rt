@@ -50,10 +50,10 @@ fn check(table: &[u8], output: &[u8], clock: u64, neighbour: Address) -> Answer
     if !legal::is_sized(table) {
         return Answer::Refused(1);
     }
-    if output.len() < 1560 {
+    if output.len() < crate::LEAST_OUTPUT {
         return Answer::Refused(2);
     }
-    if 281474976710655 < clock {
+    if legal::MAX_CLOCK < clock {
         return Answer::Refused(3);
     }
     if !neighbour.is_individual() {

@@ -49,8 +49,8 @@ fn begin(out: &mut [u8], at: usize, n: usize) -> usize
     write::start_rerr(out, at, Address(list::ALL_ONES), 0, n)
 }
 
-// Where the next destination goes: after the others, or in a RERR that is begun for it.
-fn place_for_next(out: &mut [u8], lost: usize) -> usize
+// Begins a RERR if those before are full. Answers where the next destination goes.
+fn begin_if_full(out: &mut [u8], lost: usize) -> usize
     requires { ⌜ lost ≤ 128 ⌝ }
     requires { ⌜ octetsFor lost + 10 ≤ length (now out) ⌝ }
     ensures { λ r. ⌜ r ≡ octetsFor lost + length (begunBefore lost) ⌝ }
@@ -69,7 +69,7 @@ pub fn add(out: &mut [u8], lost: usize, entry: NumberedAddress)
     requires { ⌜ octetsFor lost + 20 ≤ length (now out) ⌝ }
     ensures { λ _. ⌜ now (out .exit) ≡ over (now (out .entry)) (octetsFor lost) (begunAfter lost (entry ∷ [])) ⌝ }
 {
-    let place = place_for_next(out, lost);
+    let place = begin_if_full(out, lost);
     write::write_numbered(out, place, entry);
 }
 

@@ -12,7 +12,10 @@ pub mod root_request;
 ghost use mathlib.Core.Path.{_≡_};
 ghost use Rattle.point.specs.Answers.{answerOf};
 
-// The answer of a call that writes no frame.
+// Octets of an output that holds the frames of any call.
+pub const LEAST_OUTPUT: usize = 1560;
+
+// The answer of a call that writes no frame, and of the check of one that may.
 pub enum Answer {
     Accepted,
     Refused(u32),

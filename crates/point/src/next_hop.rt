@@ -40,7 +40,7 @@ pub fn next_hop(table: &[u8], clock: u64, destination: Address) -> Hop
     if !legal::is_sized(table) {
         return Hop::Refused(1);
     }
-    if 281474976710655 < clock {
+    if legal::MAX_CLOCK < clock {
         return Hop::Refused(3);
     }
     if !destination.is_individual() {

@@ -28,7 +28,7 @@ pub fn check(table: &[u8], output: &[u8], barred: bool, lifetime: u32) -> Answer
     if !legal::is_sized(table) {
         return Answer::Refused(1);
     }
-    if output.len() < 1560 {
+    if output.len() < crate::LEAST_OUTPUT {
         return Answer::Refused(2);
     }
     if barred {

@@ -33,16 +33,16 @@ fn send(table: &mut [u8], output: &mut [u8], flags: u8, lifetime: u32) -> Outcom
 {
     let head = originate::number_rreq(row::read_head(table));
     row::write_head(table, head);
-    let list = originate::start_request(output, head, flags, lifetime, 1);
+    let place = originate::start_request(output, head, flags, lifetime, 1);
     let target = Target {
         flags: 3,
         address: Address(list::ALL_ONES),
         number: SequenceNumber(0),
     };
-    write::write_target(output, list, target);
+    let octets = write::write_target(output, place, target);
     let emitted = Emitted {
         frames: 1,
-        octets: 45,
+        octets: octets as u32,
     };
     Outcome::Accepted(emitted)
 }

@@ -1,6 +1,6 @@
 -- `point::ask::send` meets its contract: the head after the step, and one frame with the destinations. Assumes nothing.
 use borrow.Author.Needs.{needs}
-use Rattle.point.proofs.Asked.{asked-small, asked-exit}
+use Rattle.point.proofs.Asked.{asked-exit}
 use Rattle.point.proofs.ask.send.Statement.{statement}
 use Rattle.point.proofs.ask.send.Tie as tie
 

@@ -1,7 +1,7 @@
 -- `point::break_neighbour::check_state` meets its contract: one check of the list after another. Assumes nothing.
 use borrow.Author.Needs.{needs}
 use Rattle.point.proofs.Checks.{checking}
-use Rattle.point.proofs.Broken.{heading}
+use Rattle.point.proofs.Broken.{by-head}
 use Rattle.point.proofs.break_neighbour.check_state.Statement.{statement}
 use Rattle.point.proofs.break_neighbour.check_state.Tie as tie
 
@@ -12,6 +12,6 @@ check-state-spec =
     (λ c κs. search needs)
     (λ c. search checking depth 40)
     (λ c κs. search needs)
-    (λ c. search (checking, heading) depth 40)
-    (λ c. search (checking, heading) depth 40)
-    (λ c. search (checking, heading) depth 40))
+    (λ c. search (checking, by-head) depth 40)
+    (λ c. search (checking, by-head) depth 40)
+    (λ c. search (checking, by-head) depth 40))

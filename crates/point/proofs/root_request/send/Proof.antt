@@ -16,4 +16,5 @@ send-spec =
     (λ c κs. search needs)
     (λ c. search needs)
     (λ c. search needs)
+    (λ c. search needs)
     (λ c. search root-exit))

@@ -1,11 +1,11 @@
--- `point::errors::place_for_next` meets its contract: a RERR is begun or not. Assumes nothing.
+-- `point::errors::begin_if_full` meets its contract: a RERR is begun or not. Assumes nothing.
 use borrow.Author.Needs.{needs}
 use Rattle.point.proofs.Reported.{next-there, next-same, next-begun, next-starts}
-use Rattle.point.proofs.errors.place_for_next.Statement.{statement}
-use Rattle.point.proofs.errors.place_for_next.Tie as tie
+use Rattle.point.proofs.errors.begin_if_full.Statement.{statement}
+use Rattle.point.proofs.errors.begin_if_full.Tie as tie
 
-pub place-for-next-spec : {M : Type 1} → statement M
-place-for-next-spec =
+pub begin-if-full-spec : {M : Type 1} → statement M
+begin-if-full-spec =
     tie.close
     (tie.spec
     (λ c κs. search needs)
