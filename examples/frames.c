@@ -25,7 +25,7 @@ static void print_octets(const uint8_t *octets, size_t count)
         printf(" %02x", octets[i]);
 }
 
-/* The second octet of an element is its length, less the two first octets. */
+/* The second octet of an element counts the octets after it. */
 static void print_frames(struct hwmp_outcome outcome)
 {
     const uint8_t *frame = output;
@@ -50,16 +50,17 @@ static void print_outcome(const char *what, struct hwmp_outcome outcome)
 }
 
 /*
- * Lays a valid row into a place of the table, as receiving an element would: next hop via,
- * known sequence number 7 (low octet first), metric 30, 2 hops, active below clock 6000.
+ * Lays a valid row into a free place of the table, whose other octets are zero. Firmware
+ * does not do this: receiving elements teaches a table its rows. Numbers have their low
+ * octet first: sequence number 7, known; metric 30; active below clock 6000.
  */
-static void write_row(size_t place, const uint8_t to[6], const uint8_t via[6])
+static void write_row(size_t place, const uint8_t to[6], const uint8_t via[6], uint8_t hops)
 {
     uint8_t *row = table + HWMP_TABLE_OCTETS(place);
 
-    row[0] = 1;
-    row[1] = 1;
-    row[2] = 2;
+    row[0] = 1; /* valid */
+    row[1] = 1; /* number known */
+    row[2] = hops;
     memcpy(row + 4, to, 6);
     memcpy(row + 10, via, 6);
     row[16] = 7;
@@ -74,10 +75,10 @@ static void put_item(uint8_t *items, size_t place, uint8_t flags, const uint8_t 
     memcpy(items + HWMP_ITEM_OCTETS * place + 1, address, 6);
 }
 
-static void try_ask(const char *what, uint32_t lifetime, const uint8_t *items, size_t octets)
+static void try_ask(const char *what, uint32_t lifetime, const uint8_t *items, size_t items_len)
 {
     print_outcome(what, hwmp_ask(table, sizeof table, output, sizeof output, lifetime, items,
-                                 octets));
+                                 items_len));
 }
 
 static void try_break(const char *what, uint64_t clock, const uint8_t address[6])
@@ -112,9 +113,9 @@ int main(void)
 {
     if (hwmp_fresh(table, sizeof table, own, 100) != 0)
         return 1;
-    write_row(0, far, neighbour);
-    write_row(2, neighbour, neighbour);
-    write_row(3, other, other);
+    write_row(0, far, neighbour, 2);
+    write_row(2, neighbour, neighbour, 1);
+    write_row(3, other, other, 1);
 
     ask();
     print_outcome("announce", hwmp_announce(table, sizeof table, output, sizeof output,

@@ -48,10 +48,10 @@ extern "C" {
 
 #define HWMP_ADDRESS_OCTETS 6
 
-/* All frames of one call have room in so many octets, and no call takes fewer. */
+/* All frames of one call have room in so many octets; a shorter output is refused (2). */
 #define HWMP_OUTPUT_OCTETS 1560
 
-/* An item of an ask: flags and the address of a destination. */
+/* An item of an ask: flags (1 octet) and the address of a destination (6). */
 #define HWMP_ITEM_OCTETS 7
 #define HWMP_MAX_ITEMS 20
 
@@ -62,7 +62,7 @@ extern "C" {
 #define HWMP_ITEM_DO 1
 #define HWMP_ITEM_RF 2
 
-/* Flags of an announcement and of a root request: the point is a portal. */
+/* Flag of an announcement and of a root request: the point is a portal. */
 #define HWMP_PORTAL 1
 /* Flag of a root request: every point is to reply. */
 #define HWMP_REPLY_WANTED 4
@@ -115,8 +115,8 @@ struct hwmp_outcome hwmp_ask(uint8_t *table, size_t table_len, uint8_t *output,
                              size_t items_len);
 
 /*
- * Announces the point: one RANN to all, with its next sequence number.
- * Flags are 0 or HWMP_PORTAL.
+ * Announces the point: one RANN to all, with its next sequence number, which the table
+ * keeps. Flags are 0 or HWMP_PORTAL.
  * Refusals: 1, 2, 10 (flags), 11, 21.
  */
 struct hwmp_outcome hwmp_announce(uint8_t *table, size_t table_len, uint8_t *output,
@@ -124,7 +124,8 @@ struct hwmp_outcome hwmp_announce(uint8_t *table, size_t table_len, uint8_t *out
 
 /*
  * Sends a root request: one RREQ to all for every point, with the next sequence number and
- * the next request ID. Flags are any of HWMP_PORTAL and HWMP_REPLY_WANTED.
+ * the next request ID, which the table keeps. Flags are 0, HWMP_PORTAL, HWMP_REPLY_WANTED
+ * or both.
  * Refusals: 1, 2, 10 (flags), 11, 21.
  */
 struct hwmp_outcome hwmp_root_request(uint8_t *table, size_t table_len, uint8_t *output,
@@ -133,8 +134,9 @@ struct hwmp_outcome hwmp_root_request(uint8_t *table, size_t table_len, uint8_t 
 /*
  * Reports that a neighbour can no longer be reached. Every active row through it is
  * invalidated but stays held; a known sequence number is stepped, so that what is older is
- * refused from now on. Those destinations go to all neighbours, 25 to a RERR; if there are
- * none, there is no frame. The clock is stored either way.
+ * refused from now on. Those destinations go to all neighbours, 25 to a RERR, each with its
+ * stepped number, or 0 if none was known; if there are none, there is no frame. The clock
+ * is stored either way.
  * Refusals: 1, 2, 3, 4, 21, 22, 23.
  */
 struct hwmp_outcome hwmp_break(uint8_t *table, size_t table_len, uint8_t *output,
