@@ -4,6 +4,7 @@
 use hwmp_tests::elements::{self, KINDS, Kind};
 use hwmp_tests::probe::{Probe, REFERENCE};
 use hwmp_tests::random::Random;
+use hwmp_tests::reference::LEAST_OUTPUT;
 use hwmp_tests::reference::element::{MOST_NUMBERS, Numbers};
 use hwmp_tests::tables;
 
@@ -11,9 +12,6 @@ use crate::timing::Call;
 
 /// Several elements in turn, so that the processor cannot predict every branch.
 const ELEMENTS: usize = 8;
-
-/// What every point's output has at least.
-const OUT_OCTETS: usize = 1560;
 
 pub struct Input {
     element: Vec<u8>,
@@ -47,7 +45,7 @@ pub const ELEMENT_CASES: [ElementCase; 12] = [
     case("write a RREQ", 130, 20, write),
     case("write a RREQ one by one", 130, 20, write_singly),
     case("write a RREP", 131, 22, write),
-    case("write a RERR one by one", 132, 25, write),
+    case("write a RERR one by one", 132, 25, write_singly),
     case("faults of a RREQ", 130, 20, faults),
     case("faults of a RREP", 131, 22, faults),
     case("faults of a RERR", 132, 25, faults),
@@ -76,13 +74,13 @@ pub fn inputs(case: &ElementCase, random: &mut Random) -> Vec<Input> {
         element: faultless(kind, case.count, random),
         address: tables::individual(random).0,
         numbers: [0; MOST_NUMBERS],
-        out: vec![0; OUT_OCTETS],
+        out: vec![0; LEAST_OUTPUT],
     };
     (0..ELEMENTS).map(input).collect()
 }
 
 /// An element without a fault in its list, so that no search in it ends early.
-fn faultless(kind: &Kind, count: usize, random: &mut Random) -> Vec<u8> {
+pub fn faultless(kind: &Kind, count: usize, random: &mut Random) -> Vec<u8> {
     loop {
         let element = elements::well_formed(kind, count, random);
         if REFERENCE.faults(&element, &[0; 6]) == 0 {

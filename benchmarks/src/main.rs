@@ -10,7 +10,7 @@ use hwmp_tests::implementation::{Implementation, LIBRARY, REFERENCE};
 use hwmp_tests::probe;
 use hwmp_tests::random::Random;
 
-use cases::{CASES, Case};
+use cases::{Case, EMITTING, SILENT};
 use element_cases::ELEMENT_CASES;
 use same_method::SAME_METHOD;
 
@@ -18,7 +18,8 @@ fn main() {
     println!("machine: {}", machine());
     println!("nanoseconds per call, median of interleaved rounds; all are release builds");
     let random = &mut Random::announced("tables and elements", 2026);
-    println!("plain: the separately written reference; same: Rust by the library's method");
+    println!("plain: the separately written reference");
+    println!("same: Rust by the library's method, for calls that emit nothing");
     println!();
     compare(random);
     println!();
@@ -53,24 +54,36 @@ fn compare(random: &mut Random) {
         "{:<30} {:>4} {:>9} {:>9} {:>9} {:>14} {:>13}",
         "full tables", "R", "library", "plain", "same", "library/plain", "library/same"
     );
-    for case in &CASES {
+    for case in &SILENT {
         for rows in [16, 128] {
-            let times = measure(case, rows, &[&LIBRARY, &REFERENCE, &SAME_METHOD], random);
-            let [library, plain, same] = times[..] else {
-                unreachable!("one time for each implementation")
-            };
-            println!(
-                "{:<30} {rows:>4} {library:>9.1} {plain:>9.1} {same:>9.1} {:>14.2} {:>13.2}",
-                format!("{} ({})", case.name, case.answer),
-                library / plain,
-                library / same
-            );
+            compare_case(case, rows, &[&LIBRARY, &REFERENCE, &SAME_METHOD], random);
+        }
+    }
+    for case in &EMITTING {
+        // With one row the check of the table takes little, and the time is that of emitting.
+        for rows in [1, 16, 128] {
+            compare_case(case, rows, &[&LIBRARY, &REFERENCE], random);
         }
     }
 }
 
+/// Leaves the columns of the same method blank if it is not among the implementations.
+fn compare_case(case: &Case, rows: usize, bys: &[&Implementation], random: &mut Random) {
+    let times = measure(case, rows, bys, random);
+    let (library, plain) = (times[0], times[1]);
+    let (same, to_same) = match times.get(2) {
+        Some(same) => (format!("{same:.1}"), format!("{:.2}", library / same)),
+        None => ("-".into(), "-".into()),
+    };
+    println!(
+        "{:<30} {rows:>4} {library:>9.1} {plain:>9.1} {same:>9} {:>14.2} {to_same:>13}",
+        format!("{} ({})", case.name, case.answer),
+        library / plain,
+    );
+}
+
 fn growth(random: &mut Random) {
-    let case = &CASES[0];
+    let case = &SILENT[0];
     println!(
         "{:<30} {:>4} {:>9} {:>9} {:>13} {:>16}",
         format!("{} ({})", case.name, case.answer),

@@ -5,6 +5,7 @@ mod calls;
 
 use hwmp_tests::implementation::Implementation;
 use hwmp_tests::random::Random;
+use hwmp_tests::reference::LEAST_OUTPUT;
 use hwmp_tests::tables;
 
 use crate::timing::Call;
@@ -13,9 +14,6 @@ pub use calls::{CLOCK, LIFETIME};
 
 /// Several tables in turn, so that the processor cannot predict every branch.
 const TABLES: usize = 8;
-
-/// What every point's output has at least.
-const OUTPUT_OCTETS: usize = 1560;
 
 #[derive(Clone, PartialEq)]
 pub struct Input {
@@ -32,7 +30,7 @@ pub struct Case {
     pub name: &'static str,
     pub answer: u32,
     pub call: Call<Implementation, Input>,
-    /// Makes of any full table one that the case is about.
+    /// Turns a full table into one that suits the case.
     prepare: fn(&mut Input, &mut Random),
     /// The frames to be emitted, by the number of rows.
     frames: fn(usize) -> usize,
@@ -70,7 +68,8 @@ const fn emitting(
 
 fn nothing(_: &mut Input, _: &mut Random) {}
 
-pub const CASES: [Case; 10] = [
+/// The calls that emit nothing.
+pub const SILENT: [Case; 5] = [
     silent("next hop, no such row", 28, calls::next_hop, nothing),
     silent(
         "next hop, the last row",
@@ -86,12 +85,22 @@ pub const CASES: [Case; 10] = [
         calls::spoil_head,
     ),
     silent("fresh", 0, calls::fresh, nothing),
+];
+
+/// The calls that emit. The last case also makes the lost rows valid again for the next call,
+/// and its time includes that.
+pub const EMITTING: [Case; 5] = [
     emitting("ask for 20", |_| 1, calls::ask, calls::name_20),
     emitting("announce", |_| 1, calls::announce, nothing),
     emitting("root request", |_| 1, calls::root_request, nothing),
-    emitting("break, no row lost", |_| 0, calls::report_break, nothing),
     emitting(
-        "break, all rows lost",
+        "break, no row lost",
+        |_| 0,
+        calls::report_break,
+        calls::lead_elsewhere,
+    ),
+    emitting(
+        "break, all lost and mended",
         |rows| rows.div_ceil(25),
         calls::break_and_mend,
         calls::lead_through_neighbour,
@@ -104,7 +113,7 @@ fn full(rows: usize, random: &mut Random) -> Input {
         table: tables::full(rows, random),
         address: tables::individual(random).0,
         items: Vec::new(),
-        output: vec![0; OUTPUT_OCTETS],
+        output: vec![0; LEAST_OUTPUT],
         frames: 0,
     }
 }

@@ -4,10 +4,10 @@ use super::element::list::Entries;
 use super::element::{Element, NumberedAddress, Rerr};
 use super::frames::{Emitted, Frames};
 use super::refusal::ensure;
-use super::table::{Head, ROW_OCTETS, Row, rows_mut, write_head};
+use super::table::{Head, MAX_ROWS, ROW_OCTETS, Row, rows_mut, write_head};
 use super::{Address, Refusal, checks};
 
-type Lost = Entries<{ NumberedAddress::OCTETS }, { Rerr::MOST }>;
+type Lost = Entries<{ NumberedAddress::OCTETS }, MAX_ROWS>;
 
 pub fn report_break(
     octets: &mut [u8],
@@ -28,24 +28,29 @@ pub fn report_break(
         ..head
     };
     write_head(octets, &head);
-    lose_rows(rows_mut(octets), clock, neighbour, &mut frames);
+    let mut lost = Lost::new();
+    lose_rows(rows_mut(octets), clock, neighbour, &mut lost);
+    for destinations in lost.as_slice().chunks(Rerr::MOST) {
+        let error = Rerr {
+            flags: 0,
+            destinations,
+        };
+        frames.emit(Address::ALL_ONES, Element::Rerr(error));
+    }
     Ok(frames.emitted())
 }
 
-fn lose_rows(rows: &mut [[u8; ROW_OCTETS]], clock: u64, neighbour: Address, frames: &mut Frames) {
-    let mut lost = Lost::new();
+/// Invalidates the active rows through the neighbour and lists them in table order. The list is
+/// filled where it lies, since returning one with room for all rows would copy it.
+fn lose_rows(rows: &mut [[u8; ROW_OCTETS]], clock: u64, neighbour: Address, lost: &mut Lost) {
     for place in rows {
         let row = Row::decode(place);
         if row.is_active(clock) && row.next_hop == neighbour {
             let row = row.broken();
             *place = row.encode();
-            if lost.is_full() {
-                announce(&mut lost, frames);
-            }
             lost.push(entry(&row));
         }
     }
-    announce(&mut lost, frames);
 }
 
 fn entry(row: &Row) -> [u8; NumberedAddress::OCTETS] {
@@ -54,17 +59,4 @@ fn entry(row: &Row) -> [u8; NumberedAddress::OCTETS] {
         number: row.number,
     };
     lost.encode()
-}
-
-/// Emits the rows lost so far, if any, and begins anew.
-fn announce(lost: &mut Lost, frames: &mut Frames) {
-    let destinations = lost.as_slice();
-    if !destinations.is_empty() {
-        let error = Rerr {
-            flags: 0,
-            destinations,
-        };
-        frames.emit(Address::ALL_ONES, Element::Rerr(error));
-        lost.clear();
-    }
 }

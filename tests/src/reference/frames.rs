@@ -5,7 +5,7 @@ use super::refusal::ensure;
 use super::{Address, Refusal};
 
 /// Room for all that one call can emit.
-const LEAST_OUTPUT: usize = 1560;
+pub const LEAST_OUTPUT: usize = 1560;
 
 /// What an acceptance reports.
 #[derive(Clone, Copy, Debug, Default, PartialEq, Eq)]
@@ -21,7 +21,7 @@ pub struct Frames<'a> {
 }
 
 impl<'a> Frames<'a> {
-    /// Refused if the output is too short for some call; nothing is written yet.
+    /// Refused with 2 unless the output holds what any call can emit.
     pub fn start(output: &'a mut [u8]) -> Result<Frames<'a>, Refusal> {
         ensure(output.len() >= LEAST_OUTPUT, Refusal::Output)?;
         Ok(Frames {
@@ -31,11 +31,12 @@ impl<'a> Frames<'a> {
     }
 
     pub fn emit(&mut self, to: Address, element: Element) {
-        let Emitted { frames, octets } = &mut self.emitted;
-        *octets += element
-            .write(to, self.output, *octets, Destinations::AsOnePart)
+        let at = self.emitted.octets;
+        let octets = element
+            .write(to, self.output, at, Destinations::AsOnePart)
             .expect("the least output has room for every call");
-        *frames += 1;
+        self.emitted.octets += octets;
+        self.emitted.frames += 1;
     }
 
     pub fn emitted(&self) -> Emitted {

@@ -6,10 +6,6 @@ use super::refusal::ensure;
 use super::table::Table;
 use super::{Address, Refusal};
 
-/// Destination flags: destination only, reply and forward.
-pub const DO: u8 = 1;
-pub const RF: u8 = 2;
-
 const ITEM_OCTETS: usize = 7;
 
 struct Item {
@@ -50,7 +46,8 @@ impl<'a> Items<'a> {
     pub fn check(&self) -> Result<(), Refusal> {
         let individual = self.addresses().all(Address::is_individual);
         ensure(individual, Refusal::NotIndividual)?;
-        let flags_fit = self.iter().all(|item| item.flags <= DO | RF);
+        let most = Destination::DO | Destination::RF;
+        let flags_fit = self.iter().all(|item| item.flags <= most);
         let fits = flags_fit && !has_twice(self.addresses());
         ensure(fits, Refusal::ListOrFlags)
     }

@@ -16,5 +16,5 @@ pub mod table;
 
 pub use address::Address;
 pub use counters::{HopCount, Metric, RequestId, SequenceNumber};
-pub use frames::Emitted;
+pub use frames::{Emitted, LEAST_OUTPUT};
 pub use refusal::{Refusal, answer};

@@ -3,7 +3,7 @@
 
 use super::element::{Destination, Element, Rann, Rreq};
 use super::frames::{Emitted, Frames};
-use super::items::{DO, Items, RF};
+use super::items::Items;
 use super::refusal::ensure;
 use super::table::{Head, write_head};
 use super::{Address, HopCount, Metric, Refusal, SequenceNumber, checks};
@@ -23,9 +23,10 @@ pub fn ask(
     items.check()?;
     checks::lifetime(lifetime)?;
     checks::is_table(&table)?;
-    let head = table.head().requested();
+    let head = table.head();
     let names_own = items.addresses().any(|address| address == head.own);
     ensure(!names_own, Refusal::NamesOwn)?;
+    let head = head.requested();
     let destinations = items.destinations(&table);
     request(&mut frames, &head, 0, lifetime, destinations.as_slice());
     write_head(octets, &head);
@@ -38,12 +39,9 @@ pub fn announce(
     flags: u8,
     lifetime: u32,
 ) -> Result<Emitted, Refusal> {
-    let table = checks::table_length(octets)?;
-    let mut frames = Frames::start(output)?;
-    ensure(matches!(flags, 0 | 1), Refusal::ListOrFlags)?;
-    checks::lifetime(lifetime)?;
-    checks::is_table(&table)?;
-    let head = table.head().numbered();
+    let flags_fit = matches!(flags, 0 | 1);
+    let (head, mut frames) = start_as_root(octets, output, flags_fit, lifetime)?;
+    let head = head.numbered();
     let announcement = Rann {
         flags,
         hop_count: HopCount(0),
@@ -64,20 +62,33 @@ pub fn root_request(
     flags: u8,
     lifetime: u32,
 ) -> Result<Emitted, Refusal> {
-    let table = checks::table_length(octets)?;
-    let mut frames = Frames::start(output)?;
-    ensure(matches!(flags, 0 | 1 | 4 | 5), Refusal::ListOrFlags)?;
-    checks::lifetime(lifetime)?;
-    checks::is_table(&table)?;
+    let flags_fit = matches!(flags, 0 | 1 | 4 | 5);
+    let (head, mut frames) = start_as_root(octets, output, flags_fit, lifetime)?;
+    let head = head.requested();
     let everyone = Destination {
-        flags: DO | RF,
+        flags: Destination::DO | Destination::RF,
         address: Address::ALL_ONES,
         number: SequenceNumber(0),
     };
-    let head = table.head().requested();
     request(&mut frames, &head, flags, lifetime, &[everyone.encode()]);
     write_head(octets, &head);
     Ok(frames.emitted())
+}
+
+/// The checks of an announcement and of a root request, which differ only in the flags that
+/// fit.
+fn start_as_root<'a>(
+    octets: &[u8],
+    output: &'a mut [u8],
+    flags_fit: bool,
+    lifetime: u32,
+) -> Result<(Head, Frames<'a>), Refusal> {
+    let table = checks::table_length(octets)?;
+    let frames = Frames::start(output)?;
+    ensure(flags_fit, Refusal::ListOrFlags)?;
+    checks::lifetime(lifetime)?;
+    checks::is_table(&table)?;
+    Ok((table.head(), frames))
 }
 
 /// Emits a request with the counters of a head that has been stepped.

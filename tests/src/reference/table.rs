@@ -94,7 +94,7 @@ impl Head {
         octets
     }
 
-    /// The head of a point that numbers another element.
+    /// The head with the next own number, which a new element takes.
     pub fn numbered(self) -> Head {
         Head {
             number: self.number.next(),
@@ -102,7 +102,7 @@ impl Head {
         }
     }
 
-    /// The head of a point that numbers another request, and the element it goes in.
+    /// The head with the next request ID as well.
     pub fn requested(self) -> Head {
         Head {
             request_id: self.request_id.next(),

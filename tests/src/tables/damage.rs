@@ -1,4 +1,4 @@
-//! Tables that are damaged, resized, or none.
+//! Tables that are damaged or resized, and octets that are no table.
 
 use super::{
     address_at, boundary32, individual, legal, length, not_individual, some_held_row, some_row,

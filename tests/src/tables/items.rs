@@ -2,14 +2,14 @@
 
 use super::{address_at, individual, length, not_individual, one_bit_off, some_held_row};
 use crate::random::Random;
+use crate::reference::element::Rreq;
 
-const MOST: usize = 20;
 const OCTETS: usize = 7;
 
 /// Items that suit the table, for destinations with and without rows; or with faults.
 pub fn some_items(octets: &[u8], random: &mut Random) -> Vec<u8> {
-    let any = 1 + random.below(MOST);
-    let count = random.pick(&[1, 2, MOST, any]);
+    let any = 1 + random.below(Rreq::MOST);
+    let count = random.pick(&[1, 2, Rreq::MOST, any]);
     let mut addresses = distinct(octets, count, random);
     lay_faults(&mut addresses, octets, random);
     let mut items = Vec::with_capacity(count * OCTETS);
@@ -72,7 +72,7 @@ fn resize(items: &mut Vec<u8>, random: &mut Random) {
         0,
         here - 1,
         here + 1,
-        OCTETS * (MOST + 1),
+        OCTETS * (Rreq::MOST + 1),
         random.below(161),
     ];
     items.resize(random.pick(&lengths), random.octet());

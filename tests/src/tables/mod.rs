@@ -54,7 +54,9 @@ fn head(own: Address, random: &mut Random) -> Head {
     }
 }
 
-fn held_row(destination: Address, next_hop: Address, random: &mut Random) -> Row {
+/// A row as receiving might leave it. One of unknown number leads straight to its
+/// destination instead of through the next hop.
+pub fn held_row(destination: Address, next_hop: Address, random: &mut Random) -> Row {
     let any = random.octet();
     let known = !random.one_in(4);
     Row {
@@ -72,12 +74,6 @@ fn held_row(destination: Address, next_hop: Address, random: &mut Random) -> Row
         metric: Metric(boundary32(random).max(1)),
         expiry: expiry(random),
     }
-}
-
-/// A held row for a destination, as receiving might leave it.
-pub fn learned(own: Address, destination: Address, random: &mut Random) -> Row {
-    let next_hop = Family::Unrelated.draw_other_than(&[own], random);
-    held_row(destination, next_hop, random)
 }
 
 /// What the rows of one table have in common.
@@ -109,6 +105,8 @@ fn filled(rows: usize, mould: &Mould, random: &mut Random) -> Vec<u8> {
             [] => family.draw_other_than(&[own], random),
             _ => random.pick(&neighbours),
         };
+        // A neighbour has a row of its own now and then. Its address then stands both as
+        // destination and as next hop, and a search must not take one for the other.
         let destination = if random.one_in(16) && !taken.contains(&next_hop) {
             next_hop
         } else {
@@ -124,7 +122,8 @@ fn filled(rows: usize, mould: &Mould, random: &mut Random) -> Vec<u8> {
     octets
 }
 
-/// The row made valid and of known number.
+/// The row made valid and of known number: a row of unknown number could not keep this next
+/// hop, and an invalidated one could not be lost.
 fn fragile(row: Row, next_hop: Address, expiry: u64) -> Row {
     Row {
         status: VALID,
@@ -135,7 +134,8 @@ fn fragile(row: Row, next_hop: Address, expiry: u64) -> Row {
     }
 }
 
-/// A legal table with free rows scattered in it.
+/// A legal table: full, or with free rows anywhere, as forgetting leaves them. Its next hops
+/// are few or many, so that a break loses none, one or several rows.
 pub fn legal(rows: usize, random: &mut Random) -> Vec<u8> {
     let mould = Mould {
         family: Family::random(random),
@@ -157,7 +157,8 @@ pub fn full(rows: usize, random: &mut Random) -> Vec<u8> {
     filled(rows, &mould, random)
 }
 
-/// A legal table that nearly all of its rows can be lost from in one break.
+/// A legal table of which one break can lose nearly all rows, since only many rows lost at
+/// once need several RERRs.
 pub fn leaning(rows: usize, random: &mut Random) -> Vec<u8> {
     let mould = Mould {
         family: Family::random(random),

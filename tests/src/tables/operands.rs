@@ -4,6 +4,7 @@ use super::{
     address_at, boundary32, clock48, individual, length, not_individual, number_at, some_held_row,
 };
 use crate::random::Random;
+use crate::reference::LEAST_OUTPUT;
 use crate::reference::table::CLOCK_MAX;
 
 /// A destination to ask the table for: mostly one of its own rows.
@@ -60,10 +61,11 @@ pub fn some_lifetime(random: &mut Random) -> u32 {
 
 /// Mostly the least output that every call accepts, or more.
 pub fn some_output_length(random: &mut Random) -> usize {
-    let (shorter, longer) = (random.below(1560), 1561 + random.below(500));
+    let shorter = random.below(LEAST_OUTPUT);
+    let longer = LEAST_OUTPUT + 1 + random.below(500);
     match random.below(12) {
-        0 => random.pick(&[0, 1, 1559, shorter]),
+        0 => random.pick(&[0, 1, LEAST_OUTPUT - 1, shorter]),
         1..4 => longer,
-        _ => 1560,
+        _ => LEAST_OUTPUT,
     }
 }

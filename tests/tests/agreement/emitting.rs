@@ -20,15 +20,19 @@ const ANSWERS: [Listed; 4] = [
     ("break", &[0, 1, 2, 3, 4, 21, 22, 23]),
 ];
 
-/// What accepted calls must have met besides, 1 standing for yes and 0 for no.
+/// What accepted calls must have met besides; where it is a yes or no, 1 stands for yes.
 const LEAST_SEEN: u64 = 500;
-const SEEN: [Listed; 9] = [
+const SEEN: [Listed; 13] = [
     (ITEMS, &UP_TO_20),
     (ROW_OF_AN_ITEM, &[0, 1, 2, 3]),
     (NUMBER_KNOWN, &[0, 1]),
-    (NUMBER_PASSES, &[0, 1]),
-    (REQUEST_ID_PASSES, &[0, 1]),
+    (NUMBER_OF_ASK_PASSES, &[0, 1]),
+    (ID_OF_ASK_PASSES, &[0, 1]),
+    (NUMBER_OF_ANNOUNCE_PASSES, &[0, 1]),
+    (NUMBER_OF_ROOT_PASSES, &[0, 1]),
+    (ID_OF_ROOT_PASSES, &[0, 1]),
     (FRAMES, &[0, 1, 2, 3, 4, 5, 6]),
+    (ROWS_LOST, &ROWS_LOST_COUNTED),
     (LATER, &[0, 1]),
     (LOST_KNOWN, &[0, 1]),
     (LOST_PASSES, &[0, 1]),
@@ -39,9 +43,15 @@ const UP_TO_20: [u32; 20] = [
 const ITEMS: &str = "items of an ask";
 const ROW_OF_AN_ITEM: &str = "row of an item none 0, valid 1, invalidated 2, expired 3";
 const NUMBER_KNOWN: &str = "number of a row of an item known";
-const NUMBER_PASSES: &str = "own number passes to 0";
-const REQUEST_ID_PASSES: &str = "request ID passes to 0";
+const NUMBER_OF_ASK_PASSES: &str = "own number of an ask passes to 0";
+const ID_OF_ASK_PASSES: &str = "request ID of an ask passes to 0";
+const NUMBER_OF_ANNOUNCE_PASSES: &str = "own number of an announcement passes to 0";
+const NUMBER_OF_ROOT_PASSES: &str = "own number of a root request passes to 0";
+const ID_OF_ROOT_PASSES: &str = "request ID of a root request passes to 0";
 const FRAMES: &str = "frames of a break";
+const ROWS_LOST: &str = "rows lost by a break";
+/// None, one, all, and the counts about which one more RERR is needed.
+const ROWS_LOST_COUNTED: [u32; 8] = [0, 1, 25, 26, 50, 51, 127, 128];
 const LATER: &str = "clock of a break later than the latest";
 const LOST_KNOWN: &str = "number of a lost row known";
 const LOST_PASSES: &str = "number of a lost row passes to 0";
@@ -49,9 +59,9 @@ const LOST_PASSES: &str = "number of a lost row passes to 0";
 /// Any number of rows, and more often those about which one more RERR is needed.
 fn some_rows(random: &mut Random) -> usize {
     let near_full_error = 25 * (1 + random.below(5)) + random.below(2);
-    match random.below(4) {
-        0 => near_full_error,
-        1 => MAX_ROWS - random.below(3),
+    match random.below(8) {
+        0..4 => near_full_error,
+        4..6 => MAX_ROWS - random.below(3),
         _ => 1 + random.below(MAX_ROWS),
     }
 }
@@ -70,10 +80,10 @@ fn some_table(random: &mut Random) -> Vec<u8> {
 fn ask(point: &mut Point, run: &mut Run, seen: &mut Tally) {
     let lifetime = tables::some_lifetime(&mut run.random);
     let items = tables::some_items(point.table(), &mut run.random);
-    let before = point.table().to_vec();
     if point.ask(lifetime, &items, run).answer == 0 {
-        see_items(&before, &items, seen);
-        see_counters(&before, seen);
+        see_items(point.before(), &items, seen);
+        seen.count(NUMBER_OF_ASK_PASSES, number_passes(point.before()));
+        seen.count(ID_OF_ASK_PASSES, request_id_passes(point.before()));
     }
 }
 
@@ -93,20 +103,39 @@ fn see_items(table: &[u8], items: &[u8], seen: &mut Tally) {
     }
 }
 
-fn see_counters(before: &[u8], seen: &mut Tally) {
-    let passes = |at: usize| u32::from(before[at..at + 4] == [0xFF; 4]);
-    seen.count(NUMBER_PASSES, passes(8));
-    seen.count(REQUEST_ID_PASSES, passes(12));
+/// Whether the own number of the table passes to 0 with the next step.
+fn number_passes(table: &[u8]) -> u32 {
+    (table[8..12] == [0xFF; 4]).into()
+}
+
+fn request_id_passes(table: &[u8]) -> u32 {
+    (table[12..16] == [0xFF; 4]).into()
+}
+
+fn announce(point: &mut Point, run: &mut Run, seen: &mut Tally) {
+    let flags = tables::some_flags(&mut run.random);
+    let lifetime = tables::some_lifetime(&mut run.random);
+    if point.announce(flags, lifetime, run).answer == 0 {
+        seen.count(NUMBER_OF_ANNOUNCE_PASSES, number_passes(point.before()));
+    }
+}
+
+fn root_request(point: &mut Point, run: &mut Run, seen: &mut Tally) {
+    let flags = tables::some_flags(&mut run.random);
+    let lifetime = tables::some_lifetime(&mut run.random);
+    if point.root_request(flags, lifetime, run).answer == 0 {
+        seen.count(NUMBER_OF_ROOT_PASSES, number_passes(point.before()));
+        seen.count(ID_OF_ROOT_PASSES, request_id_passes(point.before()));
+    }
 }
 
 fn report_break(point: &mut Point, run: &mut Run, seen: &mut Tally) {
     let neighbour = tables::some_neighbour(point.table(), &mut run.random);
     let clock = tables::some_clock(point.table(), &mut run.random);
-    let before = point.table().to_vec();
     let outcome = point.report_break(clock, neighbour, run);
     if outcome.answer == 0 {
         seen.count(FRAMES, outcome.frames);
-        see_break(&before, point.table(), seen);
+        see_break(point.before(), point.table(), seen);
     }
 }
 
@@ -114,22 +143,25 @@ fn see_break(before: &[u8], after: &[u8], seen: &mut Tally) {
     let [before, after] = [before, after].map(|octets| Table::cut(octets).expect("accepted"));
     let later = after.head().latest_clock > before.head().latest_clock;
     seen.count(LATER, later.into());
+    let mut lost = 0;
     for (before, after) in before.rows().zip(after.rows()) {
         if before.status != after.status {
+            lost += 1;
             seen.count(LOST_KNOWN, before.number_known.into());
             let passes = before.number.0 == u32::MAX;
             seen.count(LOST_PASSES, passes.into());
         }
     }
+    if ROWS_LOST_COUNTED.contains(&lost) {
+        seen.count(ROWS_LOST, lost);
+    }
 }
 
 fn one_call(point: &mut Point, run: &mut Run, seen: &mut Tally) {
-    let flags = tables::some_flags(&mut run.random);
-    let lifetime = tables::some_lifetime(&mut run.random);
     match run.random.below(8) {
         0..3 => ask(point, run, seen),
-        3 => point.announce(flags, lifetime, run),
-        4 => point.root_request(flags, lifetime, run),
+        3 => announce(point, run, seen),
+        4 => root_request(point, run, seen),
         _ => report_break(point, run, seen),
     }
 }
@@ -150,5 +182,5 @@ fn library_and_reference_agree() {
     run.answers.check(&ANSWERS, LEAST_ANSWERED);
     seen.check(&SEEN, LEAST_SEEN);
     println!("emitting calls compared: {}", run.answers.total());
-    assert!(run.answers.total() >= 1_500_000);
+    assert_eq!(run.answers.total(), (TABLES * CALLS_PER_TABLE) as u64);
 }

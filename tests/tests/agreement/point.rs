@@ -36,17 +36,30 @@ fn lend_address<'a>(address: [u8; 6], fence: &'a mut Fence, random: &mut Random)
 /// A table that both implementations have, and the calls compared on it.
 pub struct Point {
     table: Pair,
+    /// The table before the last call.
+    before: Vec<u8>,
 }
 
 impl Point {
     pub fn new(table: &[u8], random: &mut Random) -> Point {
         Point {
             table: Pair::new(table, random),
+            before: Vec::with_capacity(table.len()),
         }
     }
 
     pub fn table(&self) -> &[u8] {
         self.table.octets()
+    }
+
+    /// The table before the last call.
+    pub fn before(&self) -> &[u8] {
+        &self.before
+    }
+
+    fn keep_before(&mut self) {
+        self.before.clear();
+        self.before.extend_from_slice(self.table.octets());
     }
 
     /// Changes the table of both, as a call that is not compared would.
@@ -55,18 +68,20 @@ impl Point {
         change(self.table.of_reference());
     }
 
-    /// Runs one call on both and holds answers and all octets, guards too, together.
+    /// Runs one call on both and holds answers and all octets, guards too, together. Its name
+    /// and operands are put into words only if something differs.
     fn compare<A: PartialEq + std::fmt::Debug>(
         &mut self,
-        what: &str,
+        what: impl Fn() -> String,
         call: impl Fn(&Implementation, &mut [u8]) -> A,
     ) -> A {
-        let before = self.table().to_vec();
+        self.keep_before();
         let found = call(&LIBRARY, self.table.of_library());
         let expected = call(&REFERENCE, self.table.of_reference());
-        assert_eq!(found, expected, "{what} on {before:?}: answers differ");
+        let on = || format!("{} on {:?}", what(), self.before);
+        assert_eq!(found, expected, "{}: answers differ", on());
         if let Some(octet) = self.table.difference() {
-            panic!("{what} on {before:?}: octet {octet} of the table differs");
+            panic!("{}: octet {octet} of the table differs", on());
         }
         found
     }
@@ -75,14 +90,17 @@ impl Point {
     /// what an acceptance does, is known without the reference.
     fn compare_emitting(
         &mut self,
-        what: &str,
+        what: impl Fn() -> String,
         call: impl Fn(&Implementation, &mut [u8], &mut [u8]) -> Outcome,
         random: &mut Random,
     ) -> Outcome {
-        let before = self.table().to_vec();
+        self.keep_before();
         let blank = vec![random.octet(); tables::some_output_length(random)];
         let mut output = Pair::new(&blank, random);
-        let on = || format!("{what} with an output of {} on {before:?}", blank.len());
+        let on = || {
+            let (what, room, before) = (what(), blank.len(), &self.before);
+            format!("{what} with an output of {room} on {before:?}")
+        };
         let found = call(&LIBRARY, self.table.of_library(), output.of_library());
         let expected = call(&REFERENCE, self.table.of_reference(), output.of_reference());
         assert_eq!(found, expected, "{}: outcomes differ", on());
@@ -96,37 +114,36 @@ impl Point {
         assert!(left_alone, "{}: output beyond {beyond} changed", on());
         if found.answer != 0 {
             assert_eq!((found.frames, found.octets), (0, 0), "{}: no zeros", on());
-            assert!(before == self.table(), "{}: refused but changed", on());
+            assert!(self.before == self.table(), "{}: refused but changed", on());
         }
         found
     }
 
     pub fn fresh(&mut self, own: [u8; 6], number: u32, run: &mut Run) {
-        let what = format!("fresh({own:?}, {number})");
+        let what = || format!("fresh({own:?}, {number})");
         let own = lend_address(own, &mut run.fence, &mut run.random);
-        let answer = self.compare(&what, |by, table| (by.fresh)(table, own, number));
+        let answer = self.compare(what, |by, table| (by.fresh)(table, own, number));
         run.answers.count("fresh", answer);
     }
 
     pub fn forget(&mut self, destination: [u8; 6], run: &mut Run) {
-        let what = format!("forget({destination:?})");
+        let what = || format!("forget({destination:?})");
         let destination = lend_address(destination, &mut run.fence, &mut run.random);
-        let answer = self.compare(&what, |by, table| (by.forget)(table, destination));
+        let answer = self.compare(what, |by, table| (by.forget)(table, destination));
         run.answers.count("forget", answer);
     }
 
     pub fn next_hop(&mut self, clock: u64, destination: [u8; 6], run: &mut Run) {
-        let what = format!("next hop({clock}, {destination:?})");
+        let what = || format!("next hop({clock}, {destination:?})");
         let destination = lend_address(destination, &mut run.fence, &mut run.random);
-        let hop = self.compare(&what, |by, table| (by.next_hop)(table, clock, destination));
+        let hop = self.compare(what, |by, table| (by.next_hop)(table, clock, destination));
         run.answers.count("next hop", hop.answer);
     }
 
     pub fn ask(&mut self, lifetime: u32, items: &[u8], run: &mut Run) -> Outcome {
-        let what = format!("ask({lifetime}, {items:?})");
         let lent = lend(items, &mut run.fence, &mut run.random);
         let outcome = self.compare_emitting(
-            &what,
+            || format!("ask({lifetime}, {items:?})"),
             |by, table, output| (by.ask)(table, output, lifetime, lent),
             &mut run.random,
         );
@@ -135,30 +152,31 @@ impl Point {
         outcome
     }
 
-    pub fn announce(&mut self, flags: u8, lifetime: u32, run: &mut Run) {
+    pub fn announce(&mut self, flags: u8, lifetime: u32, run: &mut Run) -> Outcome {
         let outcome = self.compare_emitting(
-            &format!("announce({flags}, {lifetime})"),
+            || format!("announce({flags}, {lifetime})"),
             |by, table, output| (by.announce)(table, output, flags, lifetime),
             &mut run.random,
         );
         run.answers.count("announce", outcome.answer);
+        outcome
     }
 
-    pub fn root_request(&mut self, flags: u8, lifetime: u32, run: &mut Run) {
+    pub fn root_request(&mut self, flags: u8, lifetime: u32, run: &mut Run) -> Outcome {
         let outcome = self.compare_emitting(
-            &format!("root request({flags}, {lifetime})"),
+            || format!("root request({flags}, {lifetime})"),
             |by, table, output| (by.root_request)(table, output, flags, lifetime),
             &mut run.random,
         );
         run.answers.count("root request", outcome.answer);
+        outcome
     }
 
     pub fn report_break(&mut self, clock: u64, neighbour: [u8; 6], run: &mut Run) -> Outcome {
-        let what = format!("break({clock}, {neighbour:?})");
-        let neighbour = lend_address(neighbour, &mut run.fence, &mut run.random);
+        let lent = lend_address(neighbour, &mut run.fence, &mut run.random);
         let outcome = self.compare_emitting(
-            &what,
-            |by, table, output| (by.report_break)(table, output, clock, neighbour),
+            || format!("break({clock}, {neighbour:?})"),
+            |by, table, output| (by.report_break)(table, output, clock, lent),
             &mut run.random,
         );
         run.answers.count("break", outcome.answer);

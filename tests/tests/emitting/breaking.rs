@@ -3,21 +3,18 @@
 use hwmp_tests::implementation::Implementation;
 use hwmp_tests::library::Outcome;
 
-use crate::worked::{
-    ALL_ONES, Address, FREE, GROUP, LAST_CLOCK, OWN, Row, STEPS, ZERO, accepted, refused_with_room,
-    rerr, rreq, table,
-};
+use crate::worked::{Address, FREE, Row, STEPS, accepted, rerr, rreq, table};
 
 /// The neighbour that breaks, and another one.
-const LOST: Address = [0x0A, 0, 0, 0, 0, 1];
-const OTHER: Address = [0x0A, 0, 0, 0, 0, 2];
+pub const BROKEN: Address = [0x0A, 0, 0, 0, 0, 1];
+pub const OTHER: Address = [0x0A, 0, 0, 0, 0, 2];
 
-fn destination(place: usize) -> Address {
+pub fn destination(place: usize) -> Address {
     [0x10, 0, 0, 0, 0, place as u8]
 }
 
 /// A valid row through the neighbour, of known number 9.
-fn through(neighbour: Address, place: usize) -> Row {
+pub fn through(neighbour: Address, place: usize) -> Row {
     Row {
         status: 1,
         known: 1,
@@ -33,14 +30,14 @@ fn through(neighbour: Address, place: usize) -> Row {
 /// The neighbour's own row, of unknown number.
 fn to_neighbour(metric: u32) -> Row {
     let row = Row {
-        destination: LOST,
-        ..through(LOST, 1)
+        destination: BROKEN,
+        ..through(BROKEN, 1)
     };
     row.unknown(metric)
 }
 
 /// What a break makes of a row of known number.
-fn broken(row: Row, number: u32) -> Row {
+pub fn broken(row: Row, number: u32) -> Row {
     Row {
         status: 2,
         number,
@@ -49,62 +46,78 @@ fn broken(row: Row, number: u32) -> Row {
     }
 }
 
-fn report_break(
+pub fn report_break(
     clock: u64,
     neighbour: Address,
 ) -> impl Fn(&Implementation, &mut [u8], &mut [u8]) -> Outcome {
     move |by, table, output| (by.report_break)(table, output, clock, &neighbour)
 }
 
-/// A break of LOST at clock 5000, which every row here outlives unless it says otherwise.
+/// A break of BROKEN at clock 5000, which every row here outlives unless it says otherwise.
 fn breaks(what: &str, before: &[Row], after: &[Row], lost: &[(Address, u32)]) {
     let (before, after) = (table(5, 7, 1000, before), table(5, 7, 5000, after));
     let frames = match lost {
         [] => vec![],
         _ => vec![rerr(lost)],
     };
-    accepted(what, &before, &report_break(5000, LOST), &after, &frames);
+    accepted(what, &before, &report_break(5000, BROKEN), &after, &frames);
 }
 
-/// Rows in an order other than that of their addresses: lost ones, with a number that goes
-/// round and an unknown one among them, and rows that stay for one reason each.
-#[test]
-fn a_break_octet_by_octet() {
-    let round = Row {
+/// Lost rows, with a number that goes round and an unknown one among them, and rows that stay
+/// for one reason each. Their order is not that of their addresses.
+fn eight_rows() -> [Row; 8] {
+    let goes_round = Row {
         number: 0xFFFF_FFFF,
-        ..through(LOST, 4)
+        ..through(BROKEN, 4)
     };
     let expired = Row {
         expiry: 5000,
-        ..through(LOST, 3)
+        ..through(BROKEN, 3)
     };
     let invalidated = Row {
         status: 2,
-        ..through(LOST, 6)
+        ..through(BROKEN, 6)
     };
-    let before = [
-        through(LOST, 7),
+    [
+        through(BROKEN, 7),
         FREE,
         through(OTHER, 2),
         to_neighbour(70),
         expired,
-        round,
+        goes_round,
         invalidated,
-        through(LOST, 1),
-    ];
-    let after = [
-        broken(through(LOST, 7), 10),
-        FREE,
-        through(OTHER, 2),
+        through(BROKEN, 1),
+    ]
+}
+
+fn eight_rows_after() -> [Row; 8] {
+    let [
+        first,
+        free,
+        other,
+        neighbour,
+        expired,
+        goes_round,
+        invalidated,
+        last,
+    ] = eight_rows();
+    [
+        broken(first, 10),
+        free,
+        other,
         Row {
             status: 2,
-            ..to_neighbour(70)
+            ..neighbour
         },
         expired,
-        broken(round, 0),
+        broken(goes_round, 0),
         invalidated,
-        broken(through(LOST, 1), 10),
-    ];
+        broken(last, 10),
+    ]
+}
+
+#[test]
+fn a_break_octet_by_octet() {
     let frame = [
         0xFF, 0xFF, 0xFF, 0xFF, 0xFF, 0xFF, // receiver
         132, 42, // ID, Length
@@ -114,9 +127,9 @@ fn a_break_octet_by_octet() {
         0x10, 0, 0, 0, 0, 4, 0, 0, 0, 0, // the number that goes round
         0x10, 0, 0, 0, 0, 1, 10, 0, 0, 0,
     ];
-    let before = table(0x0102_0304, 0x1112_1314, 0x1234, &before);
-    let after = table(0x0102_0304, 0x1112_1314, 5000, &after);
-    let call = report_break(5000, LOST);
+    let before = table(0x0102_0304, 0x1112_1314, 0x1234, &eight_rows());
+    let after = table(0x0102_0304, 0x1112_1314, 5000, &eight_rows_after());
+    let call = report_break(5000, BROKEN);
     accepted("eight rows", &before, &call, &after, &[frame.to_vec()]);
     println!("break: four of eight rows lost, in a frame of 50 octets");
 }
@@ -126,7 +139,7 @@ fn p6_a_number_goes_round() {
     let row = Row {
         number: 4_294_967_295,
         metric: 30,
-        ..through(LOST, 1)
+        ..through(BROKEN, 1)
     };
     let after = Row {
         status: 2,
@@ -145,7 +158,7 @@ fn a_known_number_is_stepped() {
             let row = Row {
                 number,
                 metric,
-                ..through(LOST, 1)
+                ..through(BROKEN, 1)
             };
             let what = format!("number {number}, metric {metric}");
             breaks(
@@ -165,7 +178,12 @@ fn an_unknown_number_stays_unknown() {
     for metric in [1, 30, 0xFFFF_FFFF] {
         let row = to_neighbour(metric);
         let after = Row { status: 2, ..row };
-        breaks(&format!("metric {metric}"), &[row], &[after], &[(LOST, 0)]);
+        breaks(
+            &format!("metric {metric}"),
+            &[row],
+            &[after],
+            &[(BROKEN, 0)],
+        );
     }
     println!("break: a row of unknown number is invalidated, its metric stays");
 }
@@ -186,7 +204,7 @@ fn only_active_rows_are_lost() {
         (2, 5000, false),
     ];
     for (status, expiry, lost) in edges {
-        for row in [through(LOST, 1), to_neighbour(30)] {
+        for row in [through(BROKEN, 1), to_neighbour(30)] {
             let row = Row {
                 status,
                 expiry,
@@ -211,14 +229,14 @@ fn only_active_rows_are_lost() {
 #[test]
 fn only_rows_through_the_neighbour_are_lost() {
     let for_it = Row {
-        destination: LOST,
+        destination: BROKEN,
         ..through(OTHER, 1)
     };
     breaks("for the neighbour", &[for_it], &[for_it], &[]);
     for octet in 0..6 {
-        let mut nearly = LOST;
+        let mut nearly = BROKEN;
         nearly[octet] ^= 0x40;
-        let rows = [through(nearly, 1), through(LOST, 2)];
+        let rows = [through(nearly, 1), through(BROKEN, 2)];
         let after = [rows[0], broken(rows[1], 10)];
         let what = format!("octet {octet} differs");
         breaks(&what, &rows, &after, &[(destination(2), 10)]);
@@ -226,169 +244,10 @@ fn only_rows_through_the_neighbour_are_lost() {
     println!("break: the next hop decides, all six octets of it");
 }
 
-/// The clock is stored also if no row is lost; then there is no frame.
-#[test]
-fn the_clock_is_stored() {
-    // Latest clock and clock.
-    let clocks = [
-        (0, 0),
-        (0, 1),
-        (1000, 1000),
-        (1000, 1001),
-        (0xFFFF_FFFF, 0x1_0000_0000),
-        (0, 0xA1B2_C3D4_E5F6),
-        (LAST_CLOCK - 1, LAST_CLOCK),
-        (LAST_CLOCK, LAST_CLOCK),
-        (0, LAST_CLOCK),
-    ];
-    let kept = through(OTHER, 1);
-    let lost = Row {
-        expiry: (1 << 48) + (1 << 32),
-        ..through(LOST, 2)
-    };
-    for (latest, clock) in clocks {
-        let what = format!("clock {clock} after {latest}");
-        let call = report_break(clock, LOST);
-        let (before, after) = (table(5, 7, latest, &[kept]), table(5, 7, clock, &[kept]));
-        accepted(&what, &before, &call, &after, &[]);
-        let before = table(5, 7, latest, &[kept, lost]);
-        let after = table(5, 7, clock, &[kept, broken(lost, 10)]);
-        accepted(
-            &what,
-            &before,
-            &call,
-            &after,
-            &[rerr(&[(destination(2), 10)])],
-        );
-    }
-    println!(
-        "break: {} clocks stored, with and without a row lost",
-        clocks.len()
-    );
-}
-
-#[test]
-fn clocks_and_neighbours_that_are_refused() {
-    // Latest clock, clock and neighbour; answer.
-    let edges = [
-        (1000, 999, LOST, 22),
-        (LAST_CLOCK, LAST_CLOCK - 1, LOST, 22),
-        (1 << 32, (1 << 32) - 1, LOST, 22),
-        (1 << 40, 1 << 39, LOST, 22),
-        ((1 << 32) + 1, 2, LOST, 22),
-        (0, LAST_CLOCK + 1, LOST, 3),
-        (0, 1 << 63, LOST, 3),
-        (0, u64::MAX, LOST, 3),
-        (0, 1000, GROUP, 4),
-        (0, 1000, ZERO, 4),
-        (0, 1000, ALL_ONES, 4),
-        (0, 1000, [1, 0, 0, 0, 0, 0], 4),
-        (0, 1000, OWN, 23),
-    ];
-    for (latest, clock, neighbour, answer) in edges {
-        let before = table(5, 7, latest, &[through(LOST, 1), FREE]);
-        let what = format!("clock {clock} after {latest}, {neighbour:?}");
-        refused_with_room(&what, &before, &report_break(clock, neighbour), answer);
-    }
-    println!("break: {} refused edges", edges.len());
-}
-
-/// How many rows are lost; N of each RERR, and all octets: 6 + 2 + 2 + 10N for each.
-const SPLITS: [(usize, &[usize], usize); 10] = [
-    (0, &[], 0),
-    (1, &[1], 20),
-    (24, &[24], 250),
-    (25, &[25], 260),
-    (26, &[25, 1], 280),
-    (50, &[25, 25], 520),
-    (51, &[25, 25, 1], 540),
-    (126, &[25, 25, 25, 25, 25, 1], 1320),
-    (127, &[25, 25, 25, 25, 25, 2], 1330),
-    (128, &[25, 25, 25, 25, 25, 3], 1340),
-];
-
-/// Of 128 rows so many are lost, the first ones, the last ones, or some all over the table.
-#[test]
-fn twenty_five_rows_go_in_one_error() {
-    for (count, ns, octets) in SPLITS {
-        let is_lost: [Box<dyn Fn(usize) -> bool>; 3] = [
-            Box::new(move |place| place < count),
-            Box::new(move |place| place >= 128 - count),
-            // 59 is prime to 128, so this passes through all places.
-            Box::new(move |place| place * 59 % 128 < count),
-        ];
-        for is_lost in is_lost {
-            split(count, ns, octets, is_lost.as_ref());
-        }
-    }
-    println!(
-        "break: {} counts of rows lost, up to 128 in 1,340 octets",
-        SPLITS.len()
-    );
-}
-
-fn split(count: usize, ns: &[usize], octets: usize, is_lost: &dyn Fn(usize) -> bool) {
-    let (mut before, mut after, mut lost) = (Vec::new(), Vec::new(), Vec::new());
-    for place in 0..128 {
-        if is_lost(place) {
-            let (row, next) = (numbered(place), 1001 + place as u32);
-            before.push(row);
-            after.push(broken(row, next));
-            lost.push((destination(place), next));
-        } else {
-            before.push(not_lost(place));
-            after.push(not_lost(place));
-        }
-    }
-    let what = format!("{count} rows lost");
-    assert_eq!(lost.len(), count, "{what}: the case loses others");
-    let frames = errors(&lost, ns);
-    assert_eq!(frames.concat().len(), octets, "{what}");
-    let (before, after) = (table(5, 7, 1000, &before), table(5, 7, 5000, &after));
-    accepted(&what, &before, &report_break(5000, LOST), &after, &frames);
-}
-
-/// The rows lost, so many in each RERR. Its Length and N are what the table above says.
-fn errors(mut lost: &[(Address, u32)], ns: &[usize]) -> Vec<Vec<u8>> {
-    let mut frames = Vec::new();
-    for &n in ns {
-        let (these, others) = lost.split_at(n);
-        let frame = rerr(these);
-        assert_eq!(usize::from(frame[7]), 2 + 10 * n, "Length for {n}");
-        assert_eq!(usize::from(frame[9]), n, "N for {n}");
-        frames.push(frame);
-        lost = others;
-    }
-    frames
-}
-
-fn numbered(place: usize) -> Row {
-    Row {
-        number: 1000 + place as u32,
-        ..through(LOST, place)
-    }
-}
-
-/// Rows that stay, for four reasons by turns.
-fn not_lost(place: usize) -> Row {
-    match place % 4 {
-        0 => FREE,
-        1 => through(OTHER, place),
-        2 => Row {
-            status: 2,
-            ..through(LOST, place)
-        },
-        _ => Row {
-            expiry: 5000,
-            ..through(LOST, place)
-        },
-    }
-}
-
 /// A second break finds nothing active, and an ask after it carries the stepped number.
 #[test]
 fn what_a_break_leaves() {
-    let once = [broken(through(LOST, 1), 10), through(OTHER, 2)];
+    let once = [broken(through(BROKEN, 1), 10), through(OTHER, 2)];
     breaks("broken again", &once, &once, &[]);
     let items = [&[1][..], &destination(1)].concat();
     let (before, after) = (table(5, 7, 5000, &once), table(6, 8, 5000, &once));

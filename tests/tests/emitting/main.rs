@@ -3,7 +3,10 @@
 
 mod asking;
 mod breaking;
+mod clocks;
+mod items;
 mod originating;
 mod reading_back;
 mod refusals;
+mod splitting;
 mod worked;

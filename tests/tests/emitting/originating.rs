@@ -99,7 +99,10 @@ fn counters_step_and_the_frame_has_them_after_the_step() {
             accepted(&what, &before, &root_request(0, 1000), &requested, &[frame]);
         }
     }
-    println!("announce, root request: {} pairs of counters", 8 * 8);
+    println!(
+        "announce, root request: {} pairs of counters",
+        STEPS.len().pow(2)
+    );
 }
 
 #[test]

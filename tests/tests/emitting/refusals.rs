@@ -1,9 +1,12 @@
 //! The order of the refusals, and the lengths of table and output, for all four calls.
 
 use hwmp_tests::fence::{Fence, Side};
+use hwmp_tests::implementation::Implementation;
+use hwmp_tests::library::Outcome;
 
 use crate::worked::{
-    Address, BOTH, Call, FREE, GROUP, LAST_CLOCK, LEAST_OUTPUT, OWN, Row, refused, table,
+    Address, BOTH, Call, FREE, GROUP, LAST_CLOCK, LEAST_OUTPUT, OWN, Row, refused,
+    refused_with_room, table,
 };
 
 const DESTINATION: Address = [2, 0, 0, 0, 0, 9];
@@ -78,22 +81,65 @@ impl Faults {
     }
 }
 
-/// Tries every set of the given faults; each gives the lowest of them.
-fn lowest_comes_first(name: &str, numbers: &[u32], run: impl Fn(&Faults, &dyn Fn(Call))) {
-    for chosen in 0..1 << numbers.len() {
+/// A call whose operands have these faults, on a table and an output.
+type FaultyCall = fn(&Faults, &Implementation, &mut [u8], &mut [u8]) -> Outcome;
+
+/// The calls, each with the refusals that it can give.
+const CALLS: [(&str, &[u32], FaultyCall); 4] = [
+    (
+        "ask",
+        &[1, 2, 8, 9, 10, 11, 21, 24],
+        |faults, by, table, output| (by.ask)(table, output, faults.lifetime(), &faults.items()),
+    ),
+    (
+        "announce",
+        &[1, 2, 10, 11, 21],
+        |faults, by, table, output| (by.announce)(table, output, faults.flags(), faults.lifetime()),
+    ),
+    (
+        "root request",
+        &[1, 2, 10, 11, 21],
+        |faults, by, table, output| {
+            (by.root_request)(table, output, faults.flags(), faults.lifetime())
+        },
+    ),
+    (
+        "break",
+        &[1, 2, 3, 4, 21, 22, 23],
+        |faults, by, table, output| {
+            (by.report_break)(table, output, faults.clock(), &faults.neighbour())
+        },
+    ),
+];
+
+/// Every set of the numbers, each in their order.
+fn sets(numbers: &[u32]) -> impl Iterator<Item = Faults> {
+    (0..1 << numbers.len()).map(|chosen: u32| {
         let bits = numbers.iter().enumerate();
         let faults = bits.filter(|(bit, _)| chosen >> bit & 1 == 1);
-        let faults = Faults(faults.map(|(_, &number)| number).collect());
-        let what = format!("{name} with {:?}", faults.0);
-        run(&faults, &|call| match faults.0.first() {
-            Some(&lowest) => refused(&what, &faults.table(), &faults.output(), call, lowest),
-            None => accepted_by_both(&what, call),
-        });
-    }
-    println!("{name}: every set of faults {numbers:?} gives the lowest");
+        Faults(faults.map(|(_, &number)| number).collect())
+    })
 }
 
-/// Without a fault the call is accepted, or the sets above would prove nothing.
+/// Every set of faults gives the lowest of them. A clock cannot be too large and behind at
+/// once, nor a neighbour be a group and the own address; so where 3 stands with 22, or 4 with
+/// 23, only the lower one is really there.
+#[test]
+fn each_call_gives_the_lowest_refusal() {
+    for (name, numbers, call) in CALLS {
+        for faults in sets(numbers) {
+            let what = format!("{name} with {:?}", faults.0);
+            let call: Call = &|by, table, output| call(&faults, by, table, output);
+            match faults.0.first() {
+                Some(&lowest) => refused(&what, &faults.table(), &faults.output(), call, lowest),
+                None => accepted_by_both(&what, call),
+            }
+        }
+        println!("{name}: every set of faults {numbers:?} gives the lowest");
+    }
+}
+
+/// Without a fault the call is accepted, or the sets above would show nothing.
 fn accepted_by_both(what: &str, call: Call) {
     for by in BOTH {
         let outcome = call(by, &mut sample(), &mut [0xA5; LEAST_OUTPUT]);
@@ -106,75 +152,34 @@ fn accepted_by_both(what: &str, call: Call) {
     }
 }
 
-#[test]
-fn ask_gives_the_lowest_refusal() {
-    let numbers = [1, 2, 8, 9, 10, 11, 21, 24];
-    lowest_comes_first("ask", &numbers, |faults, with| {
-        let (lifetime, items) = (faults.lifetime(), faults.items());
-        with(&|by, table, output| (by.ask)(table, output, lifetime, &items));
-    });
-}
-
-#[test]
-fn announce_gives_the_lowest_refusal() {
-    lowest_comes_first("announce", &[1, 2, 10, 11, 21], |faults, with| {
-        let (flags, lifetime) = (faults.flags(), faults.lifetime());
-        with(&|by, table, output| (by.announce)(table, output, flags, lifetime));
-    });
-}
-
-#[test]
-fn root_request_gives_the_lowest_refusal() {
-    lowest_comes_first("root request", &[1, 2, 10, 11, 21], |faults, with| {
-        let (flags, lifetime) = (faults.flags(), faults.lifetime());
-        with(&|by, table, output| (by.root_request)(table, output, flags, lifetime));
-    });
-}
-
-#[test]
-fn break_gives_the_lowest_refusal() {
-    let numbers = [1, 2, 3, 4, 21, 22, 23];
-    lowest_comes_first("break", &numbers, |faults, with| {
-        let (clock, neighbour) = (faults.clock(), faults.neighbour());
-        with(&|by, table, output| (by.report_break)(table, output, clock, &neighbour));
-    });
-}
-
 /// Each call with operands that it accepts.
 fn each_call(mut run: impl FnMut(&str, Call)) {
     let without = Faults(vec![]);
-    let items = without.items();
-    let neighbour = without.neighbour();
-    run("ask", &|by, table, output| {
-        (by.ask)(table, output, 1000, &items)
-    });
-    run("announce", &|by, table, output| {
-        (by.announce)(table, output, 1, 1000)
-    });
-    run("root request", &|by, table, output| {
-        (by.root_request)(table, output, 5, 1000)
-    });
-    run("break", &|by, table, output| {
-        (by.report_break)(table, output, 1000, &neighbour)
-    });
+    for (name, _, call) in CALLS {
+        run(name, &|by, table, output| call(&without, by, table, output));
+    }
 }
 
 #[test]
 fn only_whole_tables_of_1_to_128_rows_have_a_length() {
     let lengths: Vec<usize> = (1..=128).map(|rows| 32 + 32 * rows).collect();
+    let most = 32 + 32 * 131;
     each_call(|name, call| {
-        for by in BOTH {
-            for length in 0..=32 + 32 * 131 {
-                // Zeros are no table, so a length that fits is refused with 21 instead.
-                let expected = if lengths.contains(&length) { 21 } else { 1 };
-                let mut octets = vec![0; length];
-                let outcome = call(by, &mut octets, &mut [0xA5; LEAST_OUTPUT]);
-                assert_eq!(outcome.answer, expected, "{name} on {length}: {}", by.name);
-                assert_eq!(octets, vec![0; length], "{name} on {length}: {}", by.name);
-            }
+        for length in 0..=most {
+            // Zeros are no table, so a length that fits is refused with 21 instead.
+            let answer = if lengths.contains(&length) { 21 } else { 1 };
+            refused_with_room(
+                &format!("{name} on {length}"),
+                &vec![0; length],
+                call,
+                answer,
+            );
         }
     });
-    println!("each call: of table lengths 0 to {} 128 fit", 32 + 32 * 131);
+    println!(
+        "each call: of table lengths 0 to {most} {} fit",
+        lengths.len()
+    );
 }
 
 /// Beside a fence, so that a frame in a shorter output would end the run.

@@ -101,24 +101,28 @@ pub fn accepted(what: &str, before: &[u8], call: Call, after: &[u8], frames: &[V
     for (length, blank) in OUTPUTS {
         let mut output = vec![blank; length];
         output[..written.len()].copy_from_slice(&written);
-        leaves(
-            what,
-            before,
-            &vec![blank; length],
-            call,
-            (expected, after, &output),
-        );
+        let after = After {
+            outcome: expected,
+            table: after,
+            output: &output,
+        };
+        leaves(what, before, &vec![blank; length], call, &after);
     }
 }
 
 /// Both must refuse with that number and change nothing.
 pub fn refused(what: &str, before: &[u8], output: &[u8], call: Call, answer: u32) {
-    let expected = Outcome {
+    let outcome = Outcome {
         answer,
         frames: 0,
         octets: 0,
     };
-    leaves(what, before, output, call, (expected, before, output));
+    let unchanged = After {
+        outcome,
+        table: before,
+        output,
+    };
+    leaves(what, before, output, call, &unchanged);
 }
 
 /// The same with an output that is long enough.
@@ -126,13 +130,14 @@ pub fn refused_with_room(what: &str, before: &[u8], call: Call, answer: u32) {
     refused(what, before, &[0xA5; LEAST_OUTPUT], call, answer);
 }
 
-fn leaves(
-    what: &str,
-    table: &[u8],
-    output: &[u8],
-    call: Call,
-    (outcome, table_after, output_after): (Outcome, &[u8], &[u8]),
-) {
+/// What a call must return and leave.
+struct After<'a> {
+    outcome: Outcome,
+    table: &'a [u8],
+    output: &'a [u8],
+}
+
+fn leaves(what: &str, table: &[u8], output: &[u8], call: Call, after: &After) {
     let (tables, outputs) = (&mut Fence::build(), &mut Fence::build());
     for by in BOTH {
         for side in Side::BOTH {
@@ -140,9 +145,9 @@ fn leaves(
             let output = outputs.lend(output, side);
             let found = call(by, table, output);
             let name = by.name;
-            assert_eq!(found, outcome, "{what}: {name}, {side:?}");
-            assert_eq!(table, table_after, "{what}: table by {name}, {side:?}");
-            assert_eq!(output, output_after, "{what}: output by {name}, {side:?}");
+            assert_eq!(found, after.outcome, "{what}: {name}, {side:?}");
+            assert_eq!(table, after.table, "{what}: table by {name}, {side:?}");
+            assert_eq!(output, after.output, "{what}: output by {name}, {side:?}");
         }
     }
 }

@@ -19,6 +19,11 @@ pub struct Destination {
 impl Destination {
     pub const OCTETS: usize = 11;
 
+    /// The flag 'destination only'.
+    pub const DO: u8 = 1;
+    /// The flag 'reply and forward'.
+    pub const RF: u8 = 2;
+
     pub fn decode(octets: &[u8; Self::OCTETS]) -> Destination {
         Destination {
             flags: octets[0],
@@ -60,7 +65,7 @@ impl NumberedAddress {
     }
 }
 
-/// A list that is made entry by entry, of at most so many.
+/// A list of at most MOST entries, built one by one without a heap.
 pub struct Entries<const OCTETS: usize, const MOST: usize> {
     entries: [[u8; OCTETS]; MOST],
     count: usize,
@@ -78,14 +83,6 @@ impl<const OCTETS: usize, const MOST: usize> Entries<OCTETS, MOST> {
     pub fn push(&mut self, entry: [u8; OCTETS]) {
         self.entries[self.count] = entry;
         self.count += 1;
-    }
-
-    pub fn clear(&mut self) {
-        self.count = 0;
-    }
-
-    pub fn is_full(&self) -> bool {
-        self.count == MOST
     }
 
     pub fn as_slice(&self) -> &[[u8; OCTETS]] {

@@ -31,7 +31,7 @@ pub enum Element<'a> {
     Rerr(Rerr<'a>),
 }
 
-/// How the destinations of a RREQ are written. The octets are the same.
+/// How the destinations of a RREQ or RERR are written. The octets are the same.
 #[derive(Clone, Copy, Debug, PartialEq, Eq)]
 pub enum Destinations {
     AsOnePart,
@@ -96,7 +96,7 @@ impl<'a> Element<'a> {
             Element::Rann(rann) => rann.write(element),
             Element::Rreq(rreq) => rreq.write(element, destinations),
             Element::Rrep(rrep) => rrep.write(element),
-            Element::Rerr(rerr) => rerr.write(element),
+            Element::Rerr(rerr) => rerr.write(element, destinations),
         }
         Ok(octets)
     }

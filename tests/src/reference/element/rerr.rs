@@ -1,5 +1,5 @@
 use super::list::{self, NumberedAddress};
-use super::{Numbers, lay_fixed, lay_numbers};
+use super::{Destinations, Numbers, lay_fixed, lay_numbers};
 use crate::reference::Address;
 
 /// A route error.
@@ -52,11 +52,18 @@ impl<'a> Rerr<'a> {
         list::lay_numbers(lay_numbers(numbers, fixed), self.destinations());
     }
 
-    /// One by one, since a point picks the destinations that an error names.
-    pub(super) fn write(&self, element: &mut [u8]) {
+    pub(super) fn write(&self, element: &mut [u8], destinations: Destinations) {
         let count = self.destinations.len() as u8;
         let fixed = [Self::ID, self.length() as u8, self.flags, count];
-        let (places, _) = lay_fixed(element, fixed).as_chunks_mut();
+        let list = lay_fixed(element, fixed);
+        match destinations {
+            Destinations::AsOnePart => list.copy_from_slice(self.list()),
+            Destinations::Singly => self.write_singly(list),
+        }
+    }
+
+    fn write_singly(&self, list: &mut [u8]) {
+        let (places, _) = list.as_chunks_mut();
         for (place, destination) in places.iter_mut().zip(self.destinations()) {
             *place = destination.encode();
         }

@@ -27,7 +27,7 @@ impl<'a> Rreq<'a> {
     pub(super) fn read(fields: &'a [u8]) -> Option<Rreq<'a>> {
         let (fields, list) = fields.split_first_chunk::<FIXED>()?;
         let count = fields[25];
-        if !(1..=Self::MOST).contains(&count.into()) {
+        if !(1..=Self::MOST).contains(&usize::from(count)) {
             return None;
         }
         Some(Rreq {

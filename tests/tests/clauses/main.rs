@@ -1,0 +1,107 @@
+//! Every clause of 'Table octets' in document 01: the smallest damage that breaks just that
+//! clause is refused with 21, and the value just inside is not. Offsets and values are
+//! written out from the document and do not lean on the reference.
+
+mod listing;
+mod sample;
+mod table_octets;
+
+use std::collections::BTreeMap;
+
+use hwmp_tests::implementation::{Implementation, LIBRARY, REFERENCE};
+use hwmp_tests::library::Outcome;
+use hwmp_tests::reference::table::{Flaw, Table};
+
+use sample::{PLACES, Sample};
+use table_octets::cases;
+
+const OWN: [u8; 6] = [2, 0, 0, 0, 0, 1];
+const ZERO: [u8; 6] = [0; 6];
+const NEXT_HOP: [u8; 6] = [0x20, 0, 0, 0, 0, 2];
+const ABSENT: [u8; 6] = [0x30, 0, 0, 0, 0, 3];
+const LAST_CLOCK: u64 = (1 << 48) - 1;
+
+/// Asks both implementations for a destination without a row, so that a table gives 29 and
+/// 28; the clock is the last one, which no table is ahead of.
+fn judge(octets: &[u8], breaks: Option<Flaw>, what: &str) {
+    let flaw = Table::cut(octets).expect("a table's length").check().err();
+    assert_eq!(flaw, breaks, "{what}: the case breaks another clause");
+    let (forget, next_hop) = if breaks.is_some() { (21, 21) } else { (29, 28) };
+    for by in [&LIBRARY, &REFERENCE] {
+        let mut lent = octets.to_vec();
+        let answer = (by.forget)(&mut lent, &ABSENT);
+        assert_eq!(answer, forget, "{what}: forget by the {}", by.name);
+        let hop = (by.next_hop)(&lent, LAST_CLOCK, &ABSENT);
+        assert_eq!(hop.answer, next_hop, "{what}: next hop by the {}", by.name);
+        assert_eq!(hop.address, ZERO, "{what}: next hop by the {}", by.name);
+        assert_eq!(lent, octets, "{what}: octets changed by the {}", by.name);
+        judge_emitting(by, octets, breaks, what);
+    }
+}
+
+/// The calls that emit accept every table, and leave octets that are none as they were.
+fn judge_emitting(by: &Implementation, octets: &[u8], breaks: Option<Flaw>, what: &str) {
+    type Call = fn(&Implementation, &mut [u8], &mut [u8]) -> Outcome;
+    let calls: [(&str, Call); 4] = [
+        ("ask", |by, table, output| {
+            (by.ask)(table, output, 1, &[[0].as_slice(), &ABSENT].concat())
+        }),
+        ("announce", |by, table, output| {
+            (by.announce)(table, output, 1, 1)
+        }),
+        ("root request", |by, table, output| {
+            (by.root_request)(table, output, 1, 1)
+        }),
+        ("break", |by, table, output| {
+            (by.report_break)(table, output, LAST_CLOCK, &ABSENT)
+        }),
+    ];
+    for (name, call) in calls {
+        let (mut lent, mut output) = (octets.to_vec(), [0xA5; 1560]);
+        let outcome = call(by, &mut lent, &mut output);
+        let what = format!("{what}: {name} by the {}", by.name);
+        if breaks.is_none() {
+            assert_eq!(outcome.answer, 0, "{what}");
+        } else {
+            assert_eq!(outcome.answer, 21, "{what}");
+            assert_eq!(lent, octets, "{what}: table changed");
+            assert_eq!(output, [0xA5; 1560], "{what}: output changed");
+        }
+    }
+}
+
+#[test]
+fn each_clause_is_checked_and_no_more() {
+    let cases = cases();
+    let mut counts: BTreeMap<&str, [usize; 2]> = BTreeMap::new();
+    for (rows, place) in PLACES {
+        judge(&Sample::new(rows, place).octets, None, "unchanged");
+        for (index, case) in cases.iter().enumerate() {
+            if case.two_rows && rows == 1 {
+                continue;
+            }
+            let mut sample = Sample::new(rows, place);
+            (case.change)(&mut sample);
+            let clause = case.clause;
+            let what = format!("{clause}, case {index}, row {place} of {rows}");
+            judge(&sample.octets, case.breaks, &what);
+            counts.entry(clause).or_default()[usize::from(case.breaks.is_some())] += 1;
+        }
+    }
+    for (clause, [inside, broken]) in counts {
+        println!("{clause}: {broken} broken refused with 21, {inside} inside accepted");
+    }
+}
+
+#[test]
+fn no_clause_is_without_a_case() {
+    let cases = cases();
+    for flaw in Flaw::ALL {
+        let count = cases
+            .iter()
+            .filter(|case| case.breaks == Some(flaw))
+            .count();
+        println!("{flaw:?}: {count} cases");
+        assert!(count > 0, "no case breaks {flaw:?}");
+    }
+}
