@@ -26,7 +26,7 @@ use Rattle.rules.specs.Outcome.{Frame, Effect}
 use Rattle.rules.specs.Learn.{Arrival, learnt}
 use Rattle.rules.specs.Destinations.{Answered, allAnswered}
 use Rattle.rules.specs.Onward.{onward, toAll, rannOnward, rreqOnward, rrepOnward}
-use Rattle.rules.specs.Errors.{isThrough, isHit, erred, broken, brokenEntries, errorAt}
+use Rattle.rules.specs.Errors.{isThrough, isMatch, erred, broken, brokenEntries, errorAt}
 use Rattle.rules.specs.Receive.{pathOf, rannReceived, rrepReceived, rreqReceived, rerrReceived, received, receiving, receive}
 use Rattle.rules.specs.Originate.{rannNumbered, rreqNumbered, ownPath, announced, requested, asking, ask, announcing, announce, requestingAsRoot, rootRequest}
 use Rattle.rules.specs.Break.{brokenOff, breaking, breakNeighbour}
@@ -60,7 +60,8 @@ module _ (d : Address) (base : ℕ) (log : List Sent) (t : List ℕ) where
       record {
         move = rw row (stay (rowFor t d));
         absent = λ self before. row ∙ before;
-        backed = to-all-emitted (λ (x : Element). Backed d base (own t) (rowFor (putHead t h) d) (pathOf x)) e (rw is (backed-path _ (λ about. inl (sym same-point ∙ about)))) .each;
+        backed = to-all-emitted (λ (x : Element). Backed d base (own t) (rowFor (putHead t h) d) (pathOf x)) e
+            (rw is (backed-path _ (λ about. inl (sym same-point ∙ about)))) .each;
       }
 
   requested-sound : (flags lifetime : ℕ) (targets : List Target) → Sound d base log t (requested t flags lifetime targets)
@@ -160,7 +161,7 @@ module _ (d : Address) (base : ℕ) (small : base < 2 ^ 32) (log : List Sent) (t
     received-sound (rreq f targets) is ok = rreq-sound f targets (ap pathOf is) (ok .heard (f .path) refl)
     received-sound (rrep f dependents) is ok = rrep-sound f dependents (ap pathOf is) (ok .heard (f .path) refl)
     received-sound (rerr flags destinations) is ok =
-        fallen-sound (isHit (a .clock) (a .transmitter) destinations) (erred destinations)
+        fallen-sound (isMatch (a .clock) (a .transmitter) destinations) (erred destinations)
         (error-keeps-rows (a .clock) (a .transmitter) destinations (ok .fits .entries)) (error-falls base small destinations) _ _
         (to-all-emitted (λ (x : Element). Backed d base (own t) _ (pathOf x)) _ backed-none .each)
 

@@ -21,7 +21,7 @@ use Rattle.rules.specs.NextHop.{alongRow, nextHop}
 use Rattle.rules.specs.Learn.{expiryOf, subjectRow, transmitterRow, takesLink, subjectLearnt, transmitterLearnt, learnt}
 use Rattle.rules.specs.Destinations.{reply, answeredNumber, answersFor, forOneself, forAllOnes, forAnother, answered, allAnswered}
 use Rattle.rules.specs.Onward.{onward, towards, rannOnward, rreqOnward, rrepOnward}
-use Rattle.rules.specs.Errors.{isThrough, isLostBy, matches, numberBeside, isHit, erredWith, erred, broken, brokenEntry, brokenEntries, errorAt, errorsFor}
+use Rattle.rules.specs.Errors.{isThrough, isLostBy, matches, numberBeside, isMatch, erredWith, erred, broken, brokenEntry, brokenEntries, errorAt, errorsFor}
 use Rattle.rules.specs.Receive.{hasBadAddress, severalOrAll, hasBadList, isLowTtlReply, isStaleFor, isStale, matchesNothing, rowsNeeded, rannReceived, rrepReceived, rreqReceived, rerrReceived, received, receive}
 use Rattle.rules.specs.Originate.{rannNumbered, rreqNumbered, ownPath, announced, requested, itemsFit, knownNumber, askedFor, asking, ask, announce, isRootFlags, rootRequest}
 use Rattle.rules.specs.Break.{brokenOff, breaking, breakNeighbour}
@@ -40,7 +40,7 @@ unfolding flatMap numberOctets numberAt over withNumber fieldsAt withFields fiel
     expiryOf subjectRow transmitterRow takesLink subjectLearnt transmitterLearnt learnt
     reply answeredNumber answersFor forOneself forAllOnes forAnother answered allAnswered
     onward towards rannOnward rreqOnward rrepOnward
-    isThrough isLostBy matches numberBeside isHit erredWith erred broken brokenEntry brokenEntries errorAt errorsFor
+    isThrough isLostBy matches numberBeside isMatch erredWith erred broken brokenEntry brokenEntries errorAt errorsFor
     hasBadAddress severalOrAll hasBadList isLowTtlReply isStaleFor isStale matchesNothing rowsNeeded
     rannReceived rrepReceived rreqReceived rerrReceived received receive
     rannNumbered rreqNumbered ownPath announced requested itemsFit knownNumber askedFor asking ask announce isRootFlags rootRequest

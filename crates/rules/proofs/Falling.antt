@@ -22,7 +22,7 @@ use Rattle.element.specs.declared.NumberedAddress.{NumberedAddress}
 use Rattle.element.specs.Entries.{All}
 use Rattle.element.proofs.ListParts.{FitsNumbered}
 use Rattle.rules.specs.Lists.{has}
-use Rattle.rules.specs.Errors.{isThrough, isLostBy, numberBeside, isHit, erredWith, erred, broken}
+use Rattle.rules.specs.Errors.{isThrough, isLostBy, numberBeside, isMatch, erredWith, erred, broken}
 use Rattle.rules.proofs.Branches.{cond-cases}
 use Rattle.rules.proofs.Tables.{Whole, Keeps}
 
@@ -124,20 +124,20 @@ module _ (c : ℕ) (transmitter : Address) (named : List NumberedAddress) (fit :
   erred-with-loses r k (some n) e =
       cond-cases (Lost r) (newer n (r .number)) (λ _. higher n (beside-fits (r .destination) named fit n e) k refl) (λ _. invalid refl)
 
-  -- a row that is hit is active, and its number is known
-  hit-is : (r : Row) → isHit c transmitter named r ≡ true → (active c r ≡ true) × (eqb (r .known) 1 ≡ true)
-  unfolding isHit isLostBy
-  hit-is r e =
+  -- the row of a match is active, and its number is known
+  match-is : (r : Row) → isMatch c transmitter named r ≡ true → (active c r ≡ true) × (eqb (r .known) 1 ≡ true)
+  unfolding isMatch isLostBy
+  match-is r e =
       let lost = and-eq-true-iff (isLostBy c transmitter r) (has (λ _. true) (numberBeside (r .destination) named)) .0 e .0 in
       let both = and-eq-true-iff (isThrough c transmitter r) (eqb (r .known) 1) .0 lost in
       (through-acts c transmitter r (both .0), both .1)
 
-  erred-loses : (r : Row) → isHit c transmitter named r ≡ true → Lost r (erred named r)
+  erred-loses : (r : Row) → isMatch c transmitter named r ≡ true → Lost r (erred named r)
   unfolding erred
-  erred-loses r e = erred-with-loses r (hit-is r e .1) (numberBeside (r .destination) named) refl
+  erred-loses r e = erred-with-loses r (match-is r e .1) (numberBeside (r .destination) named) refl
 
-  pub error-keeps-rows : KeepsRows (isHit c transmitter named) (erred named)
-  error-keeps-rows = lost-keeps-rows (isHit c transmitter named) (erred named) c (λ r e. hit-is r e .0) erred-loses
+  pub error-keeps-rows : KeepsRows (isMatch c transmitter named) (erred named)
+  error-keeps-rows = lost-keeps-rows (isMatch c transmitter named) (erred named) c (λ r e. match-is r e .0) erred-loses
 
-  pub error-keeps : (t : List ℕ) → Whole t → Keeps t (changeWhere (isHit c transmitter named) (erred named) t)
-  error-keeps = lost-keeps (isHit c transmitter named) (erred named) c (λ r e. hit-is r e .0) erred-loses
+  pub error-keeps : (t : List ℕ) → Whole t → Keeps t (changeWhere (isMatch c transmitter named) (erred named) t)
+  error-keeps = lost-keeps (isMatch c transmitter named) (erred named) c (λ r e. match-is r e .0) erred-loses

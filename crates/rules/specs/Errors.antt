@@ -39,16 +39,16 @@ unfoldable pub numberBeside : Address → List NumberedAddress → Option Sequen
 numberBeside d [] = none
 numberBeside d (m ∷ named) = cond (same (m .address) d) (some (m .number)) (numberBeside d named)
 
--- the rows that a RERR hits: those of its matches
-unfoldable pub isHit : ℕ → Address → List NumberedAddress → Row → Bool
-isHit c transmitter named r = isLostBy c transmitter r && has (λ _. true) (numberBeside (r .destination) named)
+-- the row of a match: it is so, and the RERR names its destination
+unfoldable pub isMatch : ℕ → Address → List NumberedAddress → Row → Bool
+isMatch c transmitter named r = isLostBy c transmitter r && has (λ _. true) (numberBeside (r .destination) named)
 
 -- a match is invalidated; if the received number is newer, the row takes it and metric 4,294,967,295
 unfoldable pub erredWith : Option SequenceNumber → Row → Row
 erredWith none r = r
 erredWith (some n) r = cond (newer n (r .number)) (raised n (invalidated r)) (invalidated r)
 
--- what a RERR with these destinations makes of a row that it hits
+-- what a RERR with these destinations makes of the row of a match
 unfoldable pub erred : List NumberedAddress → Row → Row
 erred named r = erredWith (numberBeside (r .destination) named) r
 

@@ -27,7 +27,7 @@ use Rattle.rules.specs.Outcome.{Effect, underHead}
 use Rattle.rules.specs.Learn.{Arrival, metricHere, learnt}
 use Rattle.rules.specs.Destinations.{Answered, allAnswered}
 use Rattle.rules.specs.Onward.{rannOnward, rreqOnward, rrepOnward, toAll}
-use Rattle.rules.specs.Errors.{matches, isHit, erred}
+use Rattle.rules.specs.Errors.{matches, isMatch, erred}
 
 -- ---- what a RANN, a RREQ and a RREP have in common
 
@@ -130,7 +130,7 @@ module _ (t : List ℕ) (a : Arrival) where
   unfoldable pub rerrReceived : ℕ → List NumberedAddress → Effect
   rerrReceived flags destinations =
       record {
-        table = underHead t (number t) (a .clock) (changeWhere (isHit (a .clock) (a .transmitter) destinations) (erred destinations) t);
+        table = underHead t (number t) (a .clock) (changeWhere (isMatch (a .clock) (a .transmitter) destinations) (erred destinations) t);
         frames = toAll (rerr flags (those (matches t (a .clock) (a .transmitter)) destinations));
       }
 
