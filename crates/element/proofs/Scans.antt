@@ -116,12 +116,14 @@ module _ (k : ListKind) (part : List ℕ) (n : ℕ) (ne : n ≡ entriesIn k part
         pub forbidden-found : not b ≡ true → anyForbidden k (addressesFrom k part i) ≡ g → true ≡ g
         unfolding addressesFrom anyForbidden
         forbidden-found no-b =
-            scan-found (anyForbidden k) (λ c rest. not (allowed k c)) refl (λ c rest. refl) (addressIn k part) (entriesIn k part) i g entry-there (ap not (sym allowed-is) ∙ no-b)
+            scan-found (anyForbidden k) (λ c rest. not (allowed k c)) refl (λ c rest. refl)
+            (addressIn k part) (entriesIn k part) i g entry-there (ap not (sym allowed-is) ∙ no-b)
 
         pub forbidden-more : not b ≡ false → anyForbidden k (addressesFrom k part i) ≡ g → anyForbidden k (addressesFrom k part (i + 1)) ≡ g
         unfolding addressesFrom anyForbidden
         forbidden-more yes-b =
-            scan-more (anyForbidden k) (λ c rest. not (allowed k c)) refl (λ c rest. refl) (addressIn k part) (entriesIn k part) i g entry-there (ap not (sym allowed-is) ∙ yes-b)
+            scan-more (anyForbidden k) (λ c rest. not (allowed k c)) refl (λ c rest. refl)
+            (addressIn k part) (entriesIn k part) i g entry-there (ap not (sym allowed-is) ∙ yes-b)
 
       module _ (d : Address) where
         same-is : same a d ≡ same (addressIn k part i) d
@@ -130,12 +132,14 @@ module _ (k : ListKind) (part : List ℕ) (n : ℕ) (ne : n ≡ entriesIn k part
         pub among-found : a .0 ≡ d .0 → among d (addressesFrom k part i) ≡ g → true ≡ g
         unfolding addressesFrom among
         among-found e =
-            scan-found (among d) (λ c rest. same c d) refl (λ c rest. refl) (addressIn k part) (entriesIn k part) i g entry-there (sym same-is ∙ eq-eqb (a .0) (d .0) e)
+            scan-found (among d) (λ c rest. same c d) refl (λ c rest. refl)
+            (addressIn k part) (entriesIn k part) i g entry-there (sym same-is ∙ eq-eqb (a .0) (d .0) e)
 
         pub among-more : (a .0 ≡ d .0 → ⊥) → among d (addressesFrom k part i) ≡ g → among d (addressesFrom k part (i + 1)) ≡ g
         unfolding addressesFrom among
         among-more e =
-            scan-more (among d) (λ c rest. same c d) refl (λ c rest. refl) (addressIn k part) (entriesIn k part) i g entry-there (sym same-is ∙ ne-eqb (a .0) (d .0) e)
+            scan-more (among d) (λ c rest. same c d) refl (λ c rest. refl)
+            (addressIn k part) (entriesIn k part) i g entry-there (sym same-is ∙ ne-eqb (a .0) (d .0) e)
 
       module _ (b : Bool) (be : b ≡ among a (addressesFrom k part (i + 1))) where
         among-is : b ≡ among (addressIn k part i) (addressesFrom k part (i + 1))
@@ -155,7 +159,9 @@ module _ (k : ListKind) (part : List ℕ) (n : ℕ) (ne : n ≡ entriesIn k part
 
     pub forbidden-ended : anyForbidden k (addressesFrom k part i) ≡ g → false ≡ g
     unfolding addressesFrom anyForbidden
-    forbidden-ended = scan-ended (anyForbidden k) (λ c rest. not (allowed k c)) refl (λ c rest. refl) (addressIn k part) (entriesIn k part) i g all-passed
+    forbidden-ended =
+        scan-ended (anyForbidden k) (λ c rest. not (allowed k c)) refl (λ c rest. refl)
+        (addressIn k part) (entriesIn k part) i g all-passed
 
     pub among-ended : (d : Address) → among d (addressesFrom k part i) ≡ g → false ≡ g
     unfolding addressesFrom among

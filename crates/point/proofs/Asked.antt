@@ -90,8 +90,9 @@ module _ (t s : List ℕ) (n : ℕ) where
       → over out at (flatMap (askedOctets t) (each (itemAt s) 0 (n - 0))) ≡ over out at (flatMap targetOctets (map (askedFor t) (each (itemAt s) 0 n)))
   asked-start out at = rw (sub-zero n) (ap (over out at) (sym (asked-one-by-one t (each (itemAt s) 0 n))))
 
-  pub asked-more : (out u g : List ℕ) (i at at′ : ℕ) → i < n → (x : Item) → x ≡ itemAt s i → (y : Target) → y ≡ askedFor t x → u ≡ over out at (targetOctets y) → at′ ≡ at + 11
-      → over out at (flatMap (askedOctets t) (each (itemAt s) i (n - i))) ≡ g → over u at′ (flatMap (askedOctets t) (each (itemAt s) (i + 1) (n - (i + 1)))) ≡ g
+  pub asked-more : (out u g : List ℕ) (i at at′ : ℕ) → i < n → (x : Item) → x ≡ itemAt s i → (y : Target) → y ≡ askedFor t x
+      → u ≡ over out at (targetOctets y) → at′ ≡ at + 11 → over out at (flatMap (askedOctets t) (each (itemAt s) i (n - i))) ≡ g
+      → over u at′ (flatMap (askedOctets t) (each (itemAt s) (i + 1) (n - (i + 1)))) ≡ g
   asked-more out u g i at at′ l x xe y ye ue ae =
       let same-target : y ≡ askedFor t (itemAt s i) = ye ∙ ap (askedFor t) xe in
       entries-more (askedOctets t) (itemAt s) n out u g i at at′ l (ue ∙ ap (λ (z : Target). over out at (targetOctets z)) same-target)
@@ -156,7 +157,7 @@ module _ (t output s : List ℕ) (lifetime : ℕ) (a : Answer) (ae : a ≡ answe
     items-few = leb-true (length s) 140 (items-fit .1)
 
   pub ask-refused : (n : ℕ) → a ≡ Refused n → exits (NotDone n) t output ≡ atExit t output (ask t (length output) lifetime s)
-  unfolding asking ask
+  unfolding ask
   ask-refused = refusal t output (asking t (length output) lifetime s) a ae
 
   pub ask-accepted : a ≡ Accepted → (x : Exit) → x ≡ atExit t output (accepted (requested t 0 lifetime (map (askedFor t) (itemsIn s))))

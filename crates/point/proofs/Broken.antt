@@ -153,8 +153,10 @@ module _ (t₀ out₀ : List ℕ) (c : ℕ) (neighbour : Address) (n : ℕ) wher
       row-as-it-was : rowAt t i ≡ rowAt t₀ i
       row-as-it-was = ap (λ (u : List ℕ). rowAt u i) (so-far .rows) ∙ below-other (isThrough c neighbour) broken i i t₀ (le-refl i)
 
-      pub breaking-more : (t′ : List ℕ) → t′ ≡ changeAt (isThrough c neighbour) broken i t → (lost′ : ℕ) → lost′ ≡ lost + length (brokenEntry c neighbour (rowAt t i))
-          → (out′ : List ℕ) → out′ ≡ over out (octetsFor lost) (begunAfter lost (brokenEntry c neighbour (rowAt t i))) → Breaking (i + 1) lost′ t′ out′
+      pub breaking-more : (t′ : List ℕ) → t′ ≡ changeAt (isThrough c neighbour) broken i t
+          → (lost′ : ℕ) → lost′ ≡ lost + length (brokenEntry c neighbour (rowAt t i))
+          → (out′ : List ℕ) → out′ ≡ over out (octetsFor lost) (begunAfter lost (brokenEntry c neighbour (rowAt t i)))
+          → Breaking (i + 1) lost′ t′ out′
       unfolding changeBelow flatMap
       breaking-more t′ te lost′ le out′ oe =
           let entry : List NumberedAddress = brokenEntry c neighbour (rowAt t i) in
@@ -165,7 +167,9 @@ module _ (t₀ out₀ : List ℕ) (c : ℕ) (neighbour : Address) (n : ℕ) wher
           record {
             below = omega arith;
             few = omega (arith, so-far .few, le, entry-one c neighbour (rowAt t i));
-            rows = te ∙ ap (changeAt (isThrough c neighbour) broken i) (so-far .rows) ∙ ap (λ (k : ℕ). changeBelow (isThrough c neighbour) broken k t₀) (sym (add-one i));
+            rows =
+                te ∙ ap (changeAt (isThrough c neighbour) broken i) (so-far .rows)
+                ∙ ap (λ (k : ℕ). changeBelow (isThrough c neighbour) broken k t₀) (sym (add-one i));
             counted = omega (arith, so-far .counted, le, ap length left, length-append entry rest);
             written =
                 ap₂ (λ (u : List ℕ) (p : ℕ). over u p (begunAfter lost′ rest)) oe place-after
@@ -221,7 +225,8 @@ module _ (t output : List ℕ) (c : ℕ) (neighbour : Address) (n : ℕ) (ne : n
 
 -- ---- what it leaves
 
-pub broken-exit : (t output w u v : List ℕ) (c : ℕ) (neighbour : Address) (h : Head) → h ≡ headAt t → (lost : ℕ) → lost ≡ length (brokenEntries t c neighbour) → lost ≤ 128
+pub broken-exit : (t output w u v : List ℕ) (c : ℕ) (neighbour : Address) (h : Head) → h ≡ headAt t
+    → (lost : ℕ) → lost ≡ length (brokenEntries t c neighbour) → lost ≤ 128
     → w ≡ changeWhere (isThrough c neighbour) broken t → v ≡ over output 0 (frameOctets (errorsFor (brokenEntries t c neighbour)))
     → u ≡ putHead w (headWith (h .number) (h .request) c h) → (e : Emitted) → e ≡ record { frames = framesFor lost; octets = octetsFor lost }
     → exits (Done e) u v ≡ atExit t output (accepted (brokenOff t c neighbour))

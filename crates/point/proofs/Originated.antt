@@ -69,8 +69,8 @@ request-finished w output v h flags lifetime targets n ne we at ate ve =
 
 -- and the head
 module _ (t output u v : List ℕ) (flags lifetime : ℕ) (h₀ h : Head) (e₀ : h₀ ≡ headAt t) (he : h ≡ rreqNumbered h₀) (ue : u ≡ putHead t h) where
-  pub requested-exit : (targets : List Target) (n : ℕ) → n ≡ length targets → v ≡ over output 0 (writeFrame allOnes (rreq (ownRequest h flags lifetime) targets))
-      → (octets : ℕ) → octets ≡ 34 + 11 * n
+  pub requested-exit : (targets : List Target) (n : ℕ) → n ≡ length targets
+      → v ≡ over output 0 (writeFrame allOnes (rreq (ownRequest h flags lifetime) targets)) → (octets : ℕ) → octets ≡ 34 + 11 * n
       → exits (Done (record { frames = 1; octets = octets })) u v ≡ atExit t output (accepted (requested t flags lifetime targets))
   unfolding requested
   requested-exit targets n ne ve octets size =

@@ -179,7 +179,8 @@ unfolding errorsFor each
 errors-none = refl
 
 errors-octets : (entries : List NumberedAddress) → 1 ≤ length entries
-    → frameOctets (errorsFor entries) ≡ (errorStart (length (take 25 entries)) ++ flatMap numberedOctets (take 25 entries)) ++ frameOctets (errorsFor (drop 25 entries))
+    → frameOctets (errorsFor entries)
+    ≡ (errorStart (length (take 25 entries)) ++ flatMap numberedOctets (take 25 entries)) ++ frameOctets (errorsFor (drop 25 entries))
 unfolding frameOctets flatMap errorAt
 errors-octets entries one =
     ap frameOctets (errors-next entries one) ∙ ap (λ (l : List ℕ). l ++ frameOctets (errorsFor (drop 25 entries))) (error-parts (take 25 entries))
@@ -204,7 +205,9 @@ errors-many entries = each-length (errorAt entries) 0 (framesFor (length entries
 
 pub errors-long : (n : ℕ) (entries : List NumberedAddress) → length entries ≤ 25 * n → length (frameOctets (errorsFor entries)) ≡ octetsFor (length entries)
 unfolding frameOctets flatMap
-errors-long = by-25 (λ l. length (frameOctets (errorsFor l)) ≡ octetsFor (length l)) (ap (λ (frames : List Frame). length (frameOctets frames)) errors-none) more
+errors-long =
+    by-25 (λ l. length (frameOctets (errorsFor l)) ≡ octetsFor (length l))
+    (ap (λ (frames : List Frame). length (frameOctets frames)) errors-none) more
   where
     more : (l : List NumberedAddress) → 1 ≤ length l → length (frameOctets (errorsFor (drop 25 l))) ≡ octetsFor (length (drop 25 l))
         → length (frameOctets (errorsFor l)) ≡ octetsFor (length l)
@@ -237,8 +240,9 @@ closes-last entries one few s at =
     let whole : take 25 entries ≡ entries = take-all 25 entries (omega arith) in
     let few-at-most : length entries ≤ 25 = omega arith in
     let none : drop 25 entries ≡ [] = drop-of-length-le entries few-at-most in
-    ap (λ (b : Bool). cond b (over s at (begunAfter 0 entries)) (over (over s at (begunAfter 0 entries)) (at + 260 * (n / 25)) (errorStart (n % 25)))) (ne-eqb (n % 25) 0 (λ e. omega arith))
-    ∙ ap₂ (λ (p k : ℕ). over (over s at (begunAfter 0 entries)) p (errorStart k)) place count
+    let begun : List ℕ = over s at (begunAfter 0 entries) in
+    ap (λ (b : Bool). cond b begun (over begun (at + 260 * (n / 25)) (errorStart (n % 25)))) (ne-eqb (n % 25) 0 (λ e. omega arith))
+    ∙ ap₂ (λ (p k : ℕ). over begun p (errorStart k)) place count
     ∙ ap (λ (l : List ℕ). over (over s at l) at (errorStart n)) (begun-first entries one (omega arith))
     ∙ over-again s at (errorStart 25) (errorStart n) (flatMap numberedOctets entries) (start-long 25 ∙ sym (start-long n))
     ∙ ap (over s at) (sym (errors-octets entries one
@@ -272,7 +276,8 @@ closes-full entries many rest-closes s at =
     ∙ rest-closes (over s at full) (at + 260)
     ∙ ap (λ (k : ℕ). over (over s at full) (at + k) (frameOctets (errorsFor rest))) (sym size)
     ∙ sym (over-append s at full (frameOctets (errorsFor rest)))
-    ∙ ap (over s at) (sym (errors-octets entries (omega arith) ∙ ap (λ (k : ℕ). (errorStart k ++ flatMap numberedOctets first) ++ frameOctets (errorsFor rest)) long))
+    ∙ ap (over s at) (sym (errors-octets entries (omega arith)
+    ∙ ap (λ (k : ℕ). (errorStart k ++ flatMap numberedOctets first) ++ frameOctets (errorsFor rest)) long))
 
 pub closes : (n : ℕ) (entries : List NumberedAddress) → length entries ≤ 25 * n → (s : List ℕ) (at : ℕ)
     → closed (over s at (begunAfter 0 entries)) at (length entries) ≡ over s at (frameOctets (errorsFor entries))

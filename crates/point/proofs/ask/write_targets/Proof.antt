@@ -15,7 +15,8 @@ use Rattle.point.proofs.ask.write_targets.Tie as tie
 abbrev Inv-loop : tie.InvT-loop
 Inv-loop output₀ at table items n place₀ i₀ output place i =
     (i ≤ n) × (length output ≡ length output₀) × (place ≡ at + 11 * i)
-    × (over output place (flatMap (askedOctets table) (each (itemAt items) i (n - i))) ≡ over output₀ at (flatMap targetOctets (map (askedFor table) (each (itemAt items) 0 n))))
+    × (over output place (flatMap (askedOctets table) (each (itemAt items) i (n - i)))
+    ≡ over output₀ at (flatMap targetOctets (map (askedFor table) (each (itemAt items) 0 n))))
 
 abbrev μ-loop : tie.MeasureT-loop
 μ-loop output₀ at table items n place₀ i₀ output place i = n - i
