@@ -1,7 +1,7 @@
 -- Break: its check, the rows that are lost, and what it leaves, as the code asks it. Assumes nothing.
 use Prim.Native.Nat.{ℕ, _+_, _-_, _<_, _≤_}
 use mathlib.Core.Path.{_≡_, refl, sym, ap, ap₂, _∙_}
-use mathlib.Core.Bool.{Bool, true, false, not}
+use mathlib.Core.Bool.{Bool, true, false, not, _&&_}
 use mathlib.Core.List.{List, [], _∷_, _++_, flatMap}
 use lib.Dec.{ltb}
 use lib.ListN.{length, length-append}
@@ -15,7 +15,7 @@ use Rattle.table.specs.declared.address.Address.{Address}
 use Rattle.table.specs.declared.row.Head.{Head}
 use Rattle.table.specs.declared.row.Row.{Row}
 use Rattle.table.specs.Address.{same}
-use Rattle.table.specs.Row.{headWith, invalidated, raised}
+use Rattle.table.specs.Row.{headWith, active, invalidated, raised}
 use Rattle.table.specs.Layout.{headAt, putHead, rows, place, rowAt, putRow}
 use Rattle.table.specs.Table.{own, number, clock, changeAt, changeBelow, changeWhere}
 use Rattle.table.proofs.Changes.{below-other}
@@ -56,6 +56,10 @@ module _ (t : List ℕ) (h : Head) (he : h ≡ headAt t) where
 pub ruleset by-head = (clock-early, clock-late, own-neighbour, other-neighbour)
 
 -- ---- a row that is lost
+
+pub through-is : (c : ℕ) (hop : Address) (r : Row) (b : Bool) → b ≡ active c r → (b && same (r .next) hop) ≡ isThrough c hop r
+unfolding isThrough
+through-is c hop r b e = ap (λ (a : Bool). a && same (r .next) hop) e
 
 module _ (r down : Row) (de : down ≡ invalidated r) where
   pub broken-unknown : (r .known ≡ 1 → ⊥) → down ≡ broken r

@@ -1,13 +1,12 @@
--- `point::break_neighbour::is_through` meets its contract: by what its definition unfolds to. Assumes nothing.
+-- `point::break_neighbour::is_through` meets its contract: by what it calls. Assumes nothing.
 use borrow.Author.Needs.{needs}
-use Rattle.rules.specs.Errors.{isThrough}
+use Rattle.point.proofs.Broken.{through-is}
 use Rattle.point.proofs.break_neighbour.is_through.Statement.{statement}
 use Rattle.point.proofs.break_neighbour.is_through.Tie as tie
 
 pub is-through-spec : {M : Type 1} → statement M
-unfolding isThrough
 is-through-spec =
     tie.close
     (tie.spec
     (λ c κs. search needs)
-    (λ c. cc))
+    (λ c. search through-is))
