@@ -1,5 +1,6 @@
 //! The entries of a list, and the faults that a list can have.
 
+use super::Destinations;
 use crate::reference::octets::{field, put};
 use crate::reference::{Address, SequenceNumber};
 
@@ -101,6 +102,24 @@ pub(super) fn lay_numbers(places: &mut [u64], entries: impl Iterator<Item = Numb
     let (places, _) = places.as_chunks_mut();
     for (place, entry) in places.iter_mut().zip(entries) {
         *place = [entry.address.number(), entry.number.0.into()];
+    }
+}
+
+/// Writes a list as the octets it has, or each entry by itself, decoded and encoded again.
+pub(super) fn write<const OCTETS: usize>(
+    list: &mut [u8],
+    entries: &[[u8; OCTETS]],
+    destinations: Destinations,
+    again: impl Fn(&[u8; OCTETS]) -> [u8; OCTETS],
+) {
+    match destinations {
+        Destinations::AsOnePart => list.copy_from_slice(entries.as_flattened()),
+        Destinations::Singly => {
+            let (places, _) = list.as_chunks_mut();
+            for (place, entry) in places.iter_mut().zip(entries) {
+                *place = again(entry);
+            }
+        }
     }
 }
 

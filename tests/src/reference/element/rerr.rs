@@ -56,17 +56,9 @@ impl<'a> Rerr<'a> {
         let count = self.destinations.len() as u8;
         let fixed = [Self::ID, self.length() as u8, self.flags, count];
         let list = lay_fixed(element, fixed);
-        match destinations {
-            Destinations::AsOnePart => list.copy_from_slice(self.list()),
-            Destinations::Singly => self.write_singly(list),
-        }
-    }
-
-    fn write_singly(&self, list: &mut [u8]) {
-        let (places, _) = list.as_chunks_mut();
-        for (place, destination) in places.iter_mut().zip(self.destinations()) {
-            *place = destination.encode();
-        }
+        list::write(list, self.destinations, destinations, |entry| {
+            NumberedAddress::decode(entry).encode()
+        });
     }
 
     pub(super) fn faults(&self, given: Address) -> u32 {

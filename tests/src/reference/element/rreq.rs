@@ -91,17 +91,9 @@ impl<'a> Rreq<'a> {
         put(&mut fixed, 23, self.metric.0.to_le_bytes());
         put(&mut fixed, 27, [self.destinations.len() as u8]);
         let list = lay_fixed(element, fixed);
-        match destinations {
-            Destinations::AsOnePart => list.copy_from_slice(self.list()),
-            Destinations::Singly => self.write_singly(list),
-        }
-    }
-
-    fn write_singly(&self, list: &mut [u8]) {
-        let (places, _) = list.as_chunks_mut();
-        for (place, destination) in places.iter_mut().zip(self.destinations()) {
-            *place = destination.encode();
-        }
+        list::write(list, self.destinations, destinations, |entry| {
+            Destination::decode(entry).encode()
+        });
     }
 
     /// All ones is allowed here beside individual addresses.
