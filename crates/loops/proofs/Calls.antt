@@ -23,7 +23,8 @@ use Rattle.element.specs.Element.{Element, rann, rreq, rrep, rerr}
 use Rattle.element.specs.Octets.{readElement}
 use Rattle.rules.specs.Decision.{accepted}
 use Rattle.rules.specs.Outcome.{Frame, Effect}
-use Rattle.rules.specs.Learn.{Arrival, learnt}
+use Rattle.rules.specs.declared.Arrival.{Arrival}
+use Rattle.rules.specs.Learn.{learnt}
 use Rattle.rules.specs.Destinations.{Answered, allAnswered}
 use Rattle.rules.specs.Onward.{onward, toAll, rannOnward, rreqOnward, rrepOnward}
 use Rattle.rules.specs.Errors.{isThrough, isMatch, erred, broken, brokenEntries, errorAt}

@@ -20,7 +20,7 @@ use Rattle.element.specs.declared.PathInfo.{PathInfo}
 use Rattle.element.specs.declared.Target.{Target}
 use Rattle.element.specs.Element.{Element}
 use Rattle.rules.specs.Outcome.{Frame}
-use Rattle.rules.specs.Learn.{Arrival}
+use Rattle.rules.specs.declared.Arrival.{Arrival}
 use Rattle.rules.specs.Destinations.{reply, allAnswered}
 use Rattle.rules.specs.Receive.{pathOf}
 use Rattle.rules.proofs.Emitting.{Each, replies-emitted}

@@ -18,7 +18,8 @@ use Rattle.table.specs.Row.{isOther, renewed, numbered}
 use Rattle.table.specs.Table.{own, rowFor}
 use Rattle.table.proofs.WellFormed.{not-same}
 use Rattle.element.specs.declared.PathInfo.{PathInfo}
-use Rattle.rules.specs.Learn.{Arrival, metricHere, rowOrNew, subjectRow, transmitterRow, learnt}
+use Rattle.rules.specs.declared.Arrival.{Arrival}
+use Rattle.rules.specs.Learn.{metricHere, rowOrNew, subjectRow, transmitterRow, learnt}
 use Rattle.rules.proofs.AsGood.{InWindow, path-no-worse, link-no-worse, Falls, stays, falls}
 use Rattle.rules.proofs.Learning.{Heard, renewal, left, Learning, subject, other, learning}
 use Rattle.loops.specs.Mesh.{Sent}

@@ -14,7 +14,7 @@ use Rattle.element.specs.Octets.{readElement}
 use Rattle.rules.specs.Decision.{Check, Ruling, decide, refuse_when_}
 use Rattle.rules.specs.Lists.{has}
 use Rattle.rules.specs.Outcome.{Effect, underHead}
-use Rattle.rules.specs.Learn.{Arrival}
+use Rattle.rules.specs.declared.Arrival.{Arrival}
 use Rattle.rules.specs.Errors.{isThrough}
 use Rattle.rules.specs.Receive.{ofPath, isStaleFor, receiving}
 use Rattle.rules.specs.Break.{brokenOff, breaking}

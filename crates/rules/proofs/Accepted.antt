@@ -21,7 +21,8 @@ use Rattle.element.specs.Lists.{anyForbidden}
 use Rattle.element.proofs.ReadBack.{Fits, read-fits}
 use Rattle.rules.specs.Decision.{Check}
 use Rattle.rules.specs.Lists.{has}
-use Rattle.rules.specs.Learn.{Arrival, metricHere}
+use Rattle.rules.specs.declared.Arrival.{Arrival}
+use Rattle.rules.specs.Learn.{metricHere}
 use Rattle.rules.specs.Receive.{pathOf, ofPath, targetAddresses, hasBadAddress, isStale, matchesNothing, rowsNeeded, receiving}
 use Rattle.rules.proofs.Rulings.{Passed, passed-check}
 use Rattle.rules.proofs.Tables.{Whole, whole}

@@ -19,7 +19,8 @@ use Rattle.table.specs.Row.{active, invalidated, raised}
 use Rattle.table.specs.Table.{rowFor}
 use Rattle.element.specs.declared.NumberedAddress.{NumberedAddress}
 use Rattle.element.specs.declared.PathInfo.{PathInfo}
-use Rattle.rules.specs.Learn.{Arrival, metricHere, takesLink}
+use Rattle.rules.specs.declared.Arrival.{Arrival}
+use Rattle.rules.specs.Learn.{metricHere, takesLink}
 use Rattle.rules.specs.Errors.{numberBeside, erredWith, erred, broken}
 use Rattle.rules.specs.Receive.{isStaleFor, isStale}
 use Rattle.rules.proofs.Branches.{cond-cases}

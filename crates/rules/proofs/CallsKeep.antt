@@ -36,7 +36,8 @@ use Rattle.element.proofs.ReadBack.{Fits, all-each}
 use Rattle.rules.specs.Decision.{Check, accepted}
 use Rattle.rules.specs.Lists.{any, those}
 use Rattle.rules.specs.Outcome.{Frame, Effect}
-use Rattle.rules.specs.Learn.{Arrival, learnt}
+use Rattle.rules.specs.declared.Arrival.{Arrival}
+use Rattle.rules.specs.Learn.{learnt}
 use Rattle.rules.specs.Destinations.{Answered, allAnswered}
 use Rattle.rules.specs.Onward.{rreqOnward}
 use Rattle.rules.specs.Errors.{matches, brokenEntries}

@@ -26,7 +26,7 @@ use Rattle.element.specs.Lists.{allOnes}
 use Rattle.element.proofs.Scans.{each-length}
 use Rattle.rules.specs.Flags.{replyWanted, unicast, hasDO}
 use Rattle.rules.specs.Outcome.{Frame}
-use Rattle.rules.specs.Learn.{Arrival}
+use Rattle.rules.specs.declared.Arrival.{Arrival}
 use Rattle.rules.specs.Destinations.{Answered, ownReply, rowReply, answeredNumber, answersFor, forOneself, forAllOnes, forAnother, answered, allAnswered}
 use Rattle.rules.specs.Onward.{onward, toAll, towards, ifTtlLeft, rannOnward, rreqOnward, rrepOnward}
 use Rattle.rules.specs.Errors.{errorAt, errorsFor}

@@ -22,7 +22,8 @@ use Rattle.table.proofs.HeldRows.{Held, held-says, held-is}
 use Rattle.table.proofs.Lookup.{row-destination, row-is-held, row-fits-its-octets, store-found, store-other, store-free, store-legal, store-length, store-head, store-octets}
 use Rattle.table.proofs.WellFormed.{same-itself, differ, not-same, equal-or-not}
 use Rattle.element.specs.declared.PathInfo.{PathInfo}
-use Rattle.rules.specs.Learn.{Arrival, metricHere, rowOrNew, expiryOf, subjectRow, transmitterRow, takesLink, subjectLearnt, transmitterLearnt, learnt}
+use Rattle.rules.specs.declared.Arrival.{Arrival}
+use Rattle.rules.specs.Learn.{metricHere, rowOrNew, expiryOf, subjectRow, transmitterRow, takesLink, subjectLearnt, transmitterLearnt, learnt}
 use Rattle.rules.specs.Receive.{isStale, rowsNeeded}
 use Rattle.rules.proofs.Branches.{cond-cases}
 use Rattle.rules.proofs.Tables.{Whole, Keeps}

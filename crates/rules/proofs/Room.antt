@@ -27,7 +27,8 @@ use Rattle.element.proofs.Sizes.{frame-length}
 use Rattle.element.proofs.ReadBack.{Fits}
 use Rattle.rules.specs.Decision.{accepted}
 use Rattle.rules.specs.Outcome.{Frame, Effect, frameOctets}
-use Rattle.rules.specs.Learn.{Arrival, learnt}
+use Rattle.rules.specs.declared.Arrival.{Arrival}
+use Rattle.rules.specs.Learn.{learnt}
 use Rattle.rules.specs.Destinations.{Answered, reply, allAnswered}
 use Rattle.rules.specs.Onward.{rreqOnward}
 use Rattle.rules.specs.Errors.{isThrough, brokenEntry, brokenEntries}

@@ -34,7 +34,8 @@ use Rattle.element.proofs.ListParts.{FitsTarget, FitsNumbered}
 use Rattle.element.proofs.ReadBack.{Fits, all-each}
 use Rattle.rules.specs.Flags.{replyWanted, hasRF, withDO}
 use Rattle.rules.specs.Outcome.{Frame}
-use Rattle.rules.specs.Learn.{Arrival, metricHere}
+use Rattle.rules.specs.declared.Arrival.{Arrival}
+use Rattle.rules.specs.Learn.{metricHere}
 use Rattle.rules.specs.Destinations.{Answered, rowReply, reply, answeredNumber, answersFor, forOneself, forAllOnes, forAnother, answered, allAnswered, keptAfterReply}
 use Rattle.rules.specs.Onward.{onward, rannOnward, rreqOnward, rrepOnward}
 use Rattle.rules.specs.Errors.{isThrough, broken, brokenEntry, brokenEntries, errorAt, errorsFor}

@@ -5,7 +5,7 @@ use Rattle.octets.specs.LittleEndian.{Octets}
 use Rattle.table.specs.declared.address.Address.{Address}
 use Rattle.rules.specs.Decision.{Decision}
 use Rattle.rules.specs.Outcome.{Effect}
-use Rattle.rules.specs.Learn.{Arrival}
+use Rattle.rules.specs.declared.Arrival.{Arrival}
 use Rattle.rules.specs.Receive.{receive}
 use Rattle.rules.specs.Originate.{ask, announce, rootRequest}
 use Rattle.rules.specs.Break.{breakNeighbour}

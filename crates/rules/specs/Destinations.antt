@@ -19,7 +19,7 @@ use Rattle.element.specs.Element.{rrep}
 use Rattle.element.specs.Lists.{allOnes}
 use Rattle.rules.specs.Flags.{replyWanted, hasDO, hasRF, withDO}
 use Rattle.rules.specs.Outcome.{Frame}
-use Rattle.rules.specs.Learn.{Arrival}
+use Rattle.rules.specs.declared.Arrival.{Arrival}
 
 -- what destinations come to: the own number, the replies, and the destinations that are kept
 pub record Answered : Type 0 where

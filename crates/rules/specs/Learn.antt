@@ -13,12 +13,7 @@ use Rattle.table.specs.Address.{same}
 use Rattle.table.specs.Row.{active, renewed, numbered}
 use Rattle.table.specs.Table.{rowFor, store}
 use Rattle.element.specs.declared.PathInfo.{PathInfo}
-
--- how an element came in: at which clock, from which transmitter, over a link of which metric
-pub record Arrival : Type 0 where
-  pub clock : ℕ
-  pub transmitter : Address
-  pub link : Metric
+use Rattle.rules.specs.declared.Arrival.{Arrival}
 
 -- received metric + link metric, and received hop count + 1
 abbrev pub metricHere : Arrival → PathInfo → Metric
@@ -62,10 +57,13 @@ transmitterRow a lifetime r = renewed (a .transmitter) (a .link) (record { 0 = 1
 
 -- Absent, it is made; inactive, it is renewed if its number is unknown or link metric is at most its metric;
 -- active, it is changed if link metric is below its metric; otherwise untouched.
+abbrev pub rowTakesLink : Arrival → Row → Bool
+rowTakesLink a r =
+    cond (active (a .clock) r) (ltb (a .link .0) (r .metric .0)) (eqb (r .known) 0 || leb (a .link .0) (r .metric .0))
+
 unfoldable pub takesLink : Arrival → Option Row → Bool
 takesLink a none = true
-takesLink a (some r) =
-    cond (active (a .clock) r) (ltb (a .link .0) (r .metric .0)) (eqb (r .known) 0 || leb (a .link .0) (r .metric .0))
+takesLink a (some r) = rowTakesLink a r
 
 unfoldable pub subjectLearnt : Arrival → PathInfo → List ℕ → List ℕ
 subjectLearnt a p t = store t (subjectRow a p (rowOrNew (p .subject) (rowFor t (p .subject))))

@@ -17,7 +17,8 @@ use Rattle.element.specs.Element.{Element, rann, rreq, rrep}
 use Rattle.element.specs.Lists.{allOnes}
 use Rattle.rules.specs.Flags.{unicast}
 use Rattle.rules.specs.Outcome.{Frame}
-use Rattle.rules.specs.Learn.{Arrival, metricHere, hopsHere}
+use Rattle.rules.specs.declared.Arrival.{Arrival}
+use Rattle.rules.specs.Learn.{metricHere, hopsHere}
 
 -- the three changes: hop count + 1, TTL - 1, metric + link
 unfoldable pub onward : Arrival → PathInfo → PathInfo

@@ -24,7 +24,8 @@ use Rattle.rules.specs.Decision.{Decision, Ruling, decide, refuse_when_,
 use Rattle.rules.specs.Lists.{any, those, has}
 use Rattle.rules.specs.Flags.{unicast}
 use Rattle.rules.specs.Outcome.{Effect, underHead}
-use Rattle.rules.specs.Learn.{Arrival, metricHere, learnt}
+use Rattle.rules.specs.declared.Arrival.{Arrival}
+use Rattle.rules.specs.Learn.{metricHere, learnt}
 use Rattle.rules.specs.Destinations.{Answered, allAnswered}
 use Rattle.rules.specs.Onward.{rannOnward, rreqOnward, rrepOnward, toAll}
 use Rattle.rules.specs.Errors.{matches, isMatch, erred}
@@ -140,8 +141,27 @@ module _ (t : List ℕ) (a : Arrival) where
   received (rrep f dependents) = rrepReceived f dependents
   received (rerr flags destinations) = rerrReceived flags destinations
 
--- ---- the call: a table t, an output of `room` octets, and an element s that came in as a says
+-- ---- the call
 
+-- an element e that was read, of a table t; a is how it came in
+abbrev pub judging : List ℕ → Arrival → Element → Ruling Effect
+judging t a e = do
+  refuse 9 when hasBadAddress e
+  refuse 10 when hasBadList e
+  refuse 11 when ofPath (λ p. eqb (p .lifetime) 0) e
+  refuse 12 when ofPath (λ p. eqb (p .hops .0) 255) e
+  refuse 13 when ofPath (λ p. metricHere a p .0 above 2 ^ 32 - 2) e
+  refuse 14 when isLowTtlReply e
+  refuse 21 when not (isTable t)
+  refuse 22 when a .clock below clock t
+  refuse 23 when same (a .transmitter) (own t)
+  refuse 24 when ofPath (λ p. same (p .subject) (own t)) e
+  refuse 25 when ofPath (isStale t a) e
+  refuse 26 when matchesNothing t a e
+  refuse 27 when ofPath (λ p. rowsNeeded t a p above freeRows t) e
+  accept (received t a e)
+
+-- the octets s of an element, of an output of `room` octets
 abbrev pub receiving : List ℕ → ℕ → Arrival → List ℕ → Ruling Effect
 receiving t room a s = do
   refuse 1 when not (sized t)
@@ -152,20 +172,7 @@ receiving t room a s = do
   refuse 6 when wrongLength s
   refuse 7 when otherId s
   refuse 8 when misfit s
-  refuse 9 when hasBadAddress (readElement s)
-  refuse 10 when hasBadList (readElement s)
-  refuse 11 when ofPath (λ p. eqb (p .lifetime) 0) (readElement s)
-  refuse 12 when ofPath (λ p. eqb (p .hops .0) 255) (readElement s)
-  refuse 13 when ofPath (λ p. metricHere a p .0 above 2 ^ 32 - 2) (readElement s)
-  refuse 14 when isLowTtlReply (readElement s)
-  refuse 21 when not (isTable t)
-  refuse 22 when a .clock below clock t
-  refuse 23 when same (a .transmitter) (own t)
-  refuse 24 when ofPath (λ p. same (p .subject) (own t)) (readElement s)
-  refuse 25 when ofPath (isStale t a) (readElement s)
-  refuse 26 when matchesNothing t a (readElement s)
-  refuse 27 when ofPath (λ p. rowsNeeded t a p above freeRows t) (readElement s)
-  accept (received t a (readElement s))
+  judging t a (readElement s)
 
 unfoldable pub receive : List ℕ → ℕ → Arrival → List ℕ → Decision Effect
 receive t room a s = decide (receiving t room a s)
