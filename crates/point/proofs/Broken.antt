@@ -1,14 +1,13 @@
--- Break: its check, the rows that are lost, and what it leaves, as the code asks it. Assumes nothing.
+-- Break: the rows that are lost, and what it leaves, as the code asks it. Assumes nothing.
 use Prim.Native.Nat.{ℕ, _+_, _-_, _<_, _≤_}
 use mathlib.Core.Path.{_≡_, refl, sym, ap, ap₂, _∙_}
 use mathlib.Core.Bool.{Bool, true, false, not, _&&_}
 use mathlib.Core.List.{List, [], _∷_, _++_, flatMap}
-use lib.Dec.{ltb}
 use lib.ListN.{length, length-append}
 use native.Mathlib.Nat.{zero-add, add-zero, sub-zero, le-refl}
 use native.Mathlib.Numerals.{add-one}
 use native.Mathlib.Omega.{arith}
-use borrow.Author.Tests.{eq-eqb, ne-eqb, lt-ltb, le-ltb, not-true, not-false}
+use borrow.Author.Tests.{eq-eqb, ne-eqb, not-true, not-false}
 use Rattle.octets.specs.LittleEndian.{over}
 use Rattle.octets.proofs.OctetLists.{over-append}
 use Rattle.table.specs.declared.address.Address.{Address}
@@ -17,7 +16,7 @@ use Rattle.table.specs.declared.row.Row.{Row}
 use Rattle.table.specs.Address.{same}
 use Rattle.table.specs.Row.{headWith, active, invalidated, raised}
 use Rattle.table.specs.Layout.{headAt, putHead, rows, place, rowAt, putRow}
-use Rattle.table.specs.Table.{own, number, clock, changeAt, changeBelow, changeWhere}
+use Rattle.table.specs.Table.{number, changeAt, changeBelow, changeWhere}
 use Rattle.table.proofs.Changes.{below-other}
 use Rattle.counters.specs.declared.SequenceNumber.{SequenceNumber}
 use Rattle.counters.specs.Numbers.{nextNumber}
@@ -37,23 +36,6 @@ use Rattle.point.specs.Answers.{answerTo, exits}
 use Rattle.point.specs.Reports.{framesFor, octetsFor, begunAfter, closed}
 use Rattle.point.proofs.Reported.{begun-append, begun-length, closes, errors-many, errors-long}
 use Rattle.point.proofs.Checks.{table-long, table-short, output-long, refusal, acceptance}
-
--- ---- its check, by the head that was read
-
-module _ (t : List ℕ) (h : Head) (he : h ≡ headAt t) where
-  pub clock-early : (c : ℕ) → c < h .clock → ltb c (clock t) ≡ true
-  clock-early c l = ap (λ (k : Head). ltb c (k .clock)) (sym he) ∙ lt-ltb c (h .clock) l
-
-  pub clock-late : (c : ℕ) → h .clock ≤ c → ltb c (clock t) ≡ false
-  clock-late c l = ap (λ (k : Head). ltb c (k .clock)) (sym he) ∙ le-ltb c (h .clock) l
-
-  pub own-neighbour : (n : Address) → n .0 ≡ h .own .0 → same n (own t) ≡ true
-  own-neighbour n e = ap (λ (k : Head). same n (k .own)) (sym he) ∙ eq-eqb (n .0) (h .own .0) e
-
-  pub other-neighbour : (n : Address) → (n .0 ≡ h .own .0 → ⊥) → same n (own t) ≡ false
-  other-neighbour n e = ap (λ (k : Head). same n (k .own)) (sym he) ∙ ne-eqb (n .0) (h .own .0) e
-
-pub ruleset by-head = (clock-early, clock-late, own-neighbour, other-neighbour)
 
 -- ---- a row that is lost
 

@@ -2,5 +2,6 @@ mod Asked
 mod Broken
 mod Cases
 mod Checks
+mod Neighbours
 mod Originated
 mod Reported

@@ -1,12 +1,11 @@
 // Report a broken neighbour.
 use crate::Answer;
 use crate::Outcome;
+use crate::clocked;
 use crate::errors;
 use element::NumberedAddress;
 use table::address::Address;
-use table::legal;
 use table::row;
-use table::row::Head;
 use table::row::Row;
 use table::search;
 ghost use mathlib.Core.Path.{_≡_};
@@ -14,8 +13,7 @@ ghost use mathlib.Core.List.{flatMap};
 ghost use Prim.Native.Nat.{_+_, _≤_};
 ghost use lib.ListN.{length};
 ghost use Rattle.octets.specs.LittleEndian.{over};
-ghost use Rattle.table.specs.Row.{headWith};
-ghost use Rattle.table.specs.Layout.{place, putHead, rowAt};
+ghost use Rattle.table.specs.Layout.{place, rowAt};
 ghost use Rattle.table.specs.Table.{changeAt, changeBelow, changeWhere};
 ghost use Rattle.element.specs.Entries.{each};
 ghost use Rattle.rules.specs.Break.{breakNeighbour, breaking, brokenOff};
@@ -23,43 +21,15 @@ ghost use Rattle.rules.specs.Decision.{accepted};
 ghost use Rattle.rules.specs.Errors.{broken, brokenEntries, brokenEntry, errorsFor, isThrough};
 ghost use Rattle.rules.specs.Outcome.{atExit, frameOctets};
 ghost use Rattle.point.specs.Answers.{answerTo, exits};
-ghost use Rattle.point.specs.Checks.{stateChecks};
 ghost use Rattle.point.specs.Reports.{begunAfter, octetsFor};
-
-// The refusals of a break by the state.
-fn check_state(table: &[u8], clock: u64, neighbour: Address) -> Answer
-    requires { ⌜ 32 ≤ length (now table) ⌝ }
-    ensures { λ r. ⌜ r ≡ answerTo (stateChecks (now (table .entry)) clock neighbour) ⌝ }
-{
-    if !legal::is_table(table) {
-        return Answer::Refused(21);
-    }
-    let head = row::read_head(table);
-    if clock < head.clock {
-        return Answer::Refused(22);
-    }
-    if neighbour.0 == head.own.0 {
-        return Answer::Refused(23);
-    }
-    Answer::Accepted
-}
 
 fn check(table: &[u8], output: &[u8], clock: u64, neighbour: Address) -> Answer
     ensures { λ r. ⌜ r ≡ answerTo (breaking (now (table .entry)) (length (now (output .entry))) clock neighbour .checks) ⌝ }
 {
-    if !legal::is_sized(table) {
-        return Answer::Refused(1);
+    if let Answer::Refused(n) = clocked::check_operands(table, output, clock, neighbour) {
+        return Answer::Refused(n);
     }
-    if output.len() < crate::LEAST_OUTPUT {
-        return Answer::Refused(2);
-    }
-    if legal::MAX_CLOCK < clock {
-        return Answer::Refused(3);
-    }
-    if !neighbour.is_individual() {
-        return Answer::Refused(4);
-    }
-    check_state(table, clock, neighbour)
+    clocked::check_state(table, clock, neighbour)
 }
 
 // Whether the row is active, with this next hop.
@@ -148,17 +118,7 @@ fn lose_rows(table: &mut [u8], output: &mut [u8], clock: u64, neighbour: Address
     lost
 }
 
-// The clock is stored whether or not a row was lost.
-fn store_clock(table: &mut [u8], head: Head, clock: u64)
-    requires { ⌜ 32 ≤ length (now table) ⌝ }
-    ensures { λ _. ⌜ now (table .exit) ≡ putHead (now (table .entry)) (headWith (head .number) (head .request) clock head) ⌝ }
-{
-    let number = head.number;
-    let request = head.request;
-    row::write_head(table, head.with(number, request, clock));
-}
-
-// The table and the frames of a break that is not refused.
+// The table and the frames of a break that is not refused. The clock is stored whether or not a row was lost.
 fn break_off(table: &mut [u8], output: &mut [u8], clock: u64, neighbour: Address) -> Outcome
     requires { ⌜ 32 ≤ length (now table) ⌝ }
     requires { ⌜ length (now table) ≤ 4128 ⌝ }
@@ -167,7 +127,7 @@ fn break_off(table: &mut [u8], output: &mut [u8], clock: u64, neighbour: Address
 {
     let head = row::read_head(table);
     let lost = lose_rows(table, output, clock, neighbour);
-    store_clock(table, head, clock);
+    clocked::store_head(table, head, head.number, clock);
     Outcome::Accepted(errors::emitted(lost))
 }
 

@@ -2,6 +2,7 @@
 pub mod announce;
 pub mod ask;
 pub mod break_neighbour;
+pub mod clocked;
 mod errors;
 pub mod forget;
 pub mod fresh;

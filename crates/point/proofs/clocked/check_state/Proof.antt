@@ -1,9 +1,9 @@
--- `point::break_neighbour::check_state` meets its contract: one check of the list after another. Assumes nothing.
+-- `point::clocked::check_state` meets its contract: one check of the list after another. Assumes nothing.
 use borrow.Author.Needs.{needs}
 use Rattle.point.proofs.Checks.{checking}
-use Rattle.point.proofs.Broken.{by-head}
-use Rattle.point.proofs.break_neighbour.check_state.Statement.{statement}
-use Rattle.point.proofs.break_neighbour.check_state.Tie as tie
+use Rattle.point.proofs.Neighbours.{by-head}
+use Rattle.point.proofs.clocked.check_state.Statement.{statement}
+use Rattle.point.proofs.clocked.check_state.Tie as tie
 
 pub check-state-spec : {M : Type 1} → statement M
 check-state-spec =
