@@ -1,0 +1,3 @@
+mod NewRows
+mod Renewals
+mod Staleness

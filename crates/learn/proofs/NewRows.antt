@@ -1,0 +1,35 @@
+-- Refusal 27, case by case, as the code asks it. Assumes nothing.
+use Prim.Native.Nat.{ℕ, _+_}
+use mathlib.Core.Path.{_≡_, sym, ap₂, _∙_}
+use mathlib.Core.List.{List}
+use lib.Dec.{ltb}
+use native.Mathlib.Nat.{add-zero}
+use borrow.Author.Tests.{eq-eqb, ne-eqb}
+use Rattle.table.specs.declared.address.Address.{Address}
+use Rattle.table.specs.declared.search.Found.{Found}
+use Rattle.table.specs.declared.search.Found.the-variants.{At, Nothing}
+use Rattle.table.specs.Table.{findRow, rowFor, newRows, freeRows}
+use Rattle.element.specs.declared.PathInfo.{PathInfo}
+use Rattle.rules.specs.declared.Arrival.{Arrival}
+use Rattle.rules.specs.Receive.{rowsNeeded}
+
+module _ (t : List ℕ) (d : Address) (f : Found) (fe : f ≡ findRow t d) where
+  pub row-there : (i : ℕ) → f ≡ At i → 0 ≡ newRows (rowFor t d)
+  unfolding rowFor
+  row-there i e = rw (← fe, e)
+
+  pub row-absent : f ≡ Nothing → 1 ≡ newRows (rowFor t d)
+  unfolding rowFor
+  row-absent e = rw (← fe, e)
+
+module _ (t : List ℕ) (a : Arrival) (p : PathInfo) (n : ℕ) (ne : n ≡ newRows (rowFor t (p .subject))) where
+  pub one-address : a .transmitter .0 ≡ p .subject .0 → n ≡ rowsNeeded t a p
+  unfolding rowsNeeded
+  one-address e = rw (eq-eqb (a .transmitter .0) (p .subject .0) e) (ne ∙ sym (add-zero (newRows (rowFor t (p .subject)))))
+
+  pub two-addresses : (a .transmitter .0 ≡ p .subject .0 → ⊥) → (m : ℕ) → m ≡ newRows (rowFor t (a .transmitter)) → n + m ≡ rowsNeeded t a p
+  unfolding rowsNeeded
+  two-addresses e m me = rw (ne-eqb (a .transmitter .0) (p .subject .0) e) (ap₂ _+_ ne me)
+
+pub lacks : (t : List ℕ) (a : Arrival) (p : PathInfo) (n m : ℕ) → n ≡ freeRows t → m ≡ rowsNeeded t a p → ltb n m ≡ ltb (freeRows t) (rowsNeeded t a p)
+lacks t a p n m ne me = ap₂ ltb ne me

@@ -1,0 +1,15 @@
+-- `learn::room::rows_needed` meets its contract: of one address, or of two. Assumes nothing.
+use borrow.Author.Needs.{needs}
+use Rattle.learn.proofs.NewRows.{one-address, two-addresses}
+use Rattle.learn.proofs.room.rows_needed.Statement.{statement}
+use Rattle.learn.proofs.room.rows_needed.Tie as tie
+
+pub rows-needed-spec : {M : Type 1} → statement M
+rows-needed-spec =
+    tie.close
+    (tie.spec
+    (λ c κs. search needs)
+    (λ c. search one-address)
+    (λ c κs. search needs)
+    (λ c. search needs)
+    (λ c. search two-addresses))

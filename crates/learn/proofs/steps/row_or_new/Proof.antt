@@ -1,0 +1,18 @@
+-- `learn::steps::row_or_new` meets its contract: the row, or a new one. Assumes nothing.
+use borrow.Author.Needs.{needs}
+use Rattle.table.proofs.Cases.{found-within}
+use Rattle.learn.proofs.Renewals.{row-found, row-made}
+use Rattle.learn.proofs.steps.row_or_new.Statement.{statement}
+use Rattle.learn.proofs.steps.row_or_new.Tie as tie
+
+pub row-or-new-spec : {M : Type 1} → statement M
+row-or-new-spec =
+    tie.close
+    (tie.spec
+    (λ c κs. search needs)
+    (λ c. search needs)
+    (λ c κs. search found-within)
+    (λ c. search needs)
+    (λ c κs. search needs)
+    (λ c. search row-found)
+    (λ c. search row-made))

@@ -1,0 +1,24 @@
+// The path of a received element as it is at this point: one link longer.
+use counters::HopCount;
+use counters::Metric;
+use element::PathInfo;
+use rules::Arrival;
+ghost use mathlib.Core.Path.{_≡_};
+ghost use Prim.Native.Nat.{_+_, _<_, _≤_};
+ghost use Rattle.rules.specs.Learn.{hopsHere, metricHere};
+
+// Received metric + link metric.
+pub fn metric_here(a: Arrival, p: PathInfo) -> Metric
+    requires { ⌜ p .metric .0 + a .link .0 ≤ 4294967294 ⌝ }
+    ensures { λ r. ⌜ r ≡ metricHere a p ⌝ }
+{
+    Metric(p.metric.0 + a.link.0)
+}
+
+// Received hop count + 1.
+pub fn hops_here(p: PathInfo) -> HopCount
+    requires { ⌜ p .hops .0 < 255 ⌝ }
+    ensures { λ r. ⌜ r ≡ hopsHere p ⌝ }
+{
+    HopCount(p.hops.0 + 1)
+}

@@ -1,0 +1,37 @@
+// Refusal 25: what is received is no newer, and no better, than what the row of its subject remembers.
+use element::PathInfo;
+use rules::Arrival;
+use table::row;
+use table::row::Row;
+use table::search;
+use table::search::Found;
+ghost use mathlib.Core.Path.{_≡_};
+ghost use Prim.Native.Nat.{_≤_};
+ghost use lib.ListN.{length};
+ghost use Rattle.rules.specs.Receive.{isStale, isStaleFor};
+
+// By the row, active or not: an older number, or an equal one with a metric that is not smaller.
+fn is_stale_for(a: Arrival, p: PathInfo, r: Row) -> bool
+    ensures { λ b. ⌜ b ≡ isStaleFor a p r ⌝ }
+{
+    let received = p.number;
+    let stored = r.number;
+    if r.known != 1 {
+        return false;
+    }
+    if received.is_older(stored) {
+        return true;
+    }
+    let metric = p.metric.0 as u64 + a.link.0 as u64;
+    (received.0 == stored.0) & (r.metric.0 as u64 <= metric)
+}
+
+pub fn is_stale(table: &[u8], a: Arrival, p: PathInfo) -> bool
+    requires { ⌜ 32 ≤ length (now table) ⌝ }
+    ensures { λ b. ⌜ b ≡ isStale (now (table .entry)) a p ⌝ }
+{
+    let Found::At(i) = search::find_row(table, p.subject) else {
+        return false;
+    };
+    is_stale_for(a, p, row::read_row(table, i))
+}

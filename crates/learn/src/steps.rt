@@ -1,0 +1,139 @@
+// Steps 1 and 2 of receiving: the rows of the subject and of the transmitter.
+use crate::here;
+use counters::HopCount;
+use counters::Metric;
+use counters::SequenceNumber;
+use element::PathInfo;
+use rules::Arrival;
+use table::address::Address;
+use table::row;
+use table::row::Row;
+use table::search;
+use table::search::Found;
+use table::store;
+ghost use mathlib.Core.Path.{_≡_};
+ghost use Prim.Native.Nat.{_+_, _<_, _≤_};
+ghost use lib.ListN.{length};
+ghost use Rattle.table.specs.Table.{rowFor};
+ghost use Rattle.rules.specs.Learn.{expiryOf, learnt, newRow, rowOrNew, rowTakesLink, subjectLearnt, subjectRow, takesLink, transmitterLearnt, transmitterRow};
+
+// A row that is to be made, with number unknown.
+fn new_row(destination: Address) -> Row
+    ensures { λ r. ⌜ r ≡ newRow destination ⌝ }
+{
+    Row {
+        status: 0,
+        known: 0,
+        hops: HopCount(0),
+        zero: 0,
+        destination,
+        next: Address(0),
+        number: SequenceNumber(0),
+        metric: Metric(0),
+        expiry: 0,
+    }
+}
+
+// The row that a step changes.
+fn row_or_new(table: &[u8], destination: Address) -> Row
+    requires { ⌜ 32 ≤ length (now table) ⌝ }
+    ensures { λ r. ⌜ r ≡ rowOrNew destination (rowFor (now (table .entry)) destination) ⌝ }
+{
+    match search::find_row(table, destination) {
+        Found::At(i) => row::read_row(table, i),
+        Found::Nothing => new_row(destination),
+    }
+}
+
+// Clock + lifetime, or the stored expiry if the row was active and that is larger.
+fn expiry_of(clock: u64, lifetime: u32, r: Row) -> u64
+    requires { ⌜ clock ≤ 281474976710655 ⌝ }
+    ensures { λ e. ⌜ e ≡ expiryOf clock lifetime r ⌝ }
+{
+    let stored = r.expiry;
+    let expiry = clock + lifetime as u64;
+    if r.is_active(clock) & (expiry < stored) {
+        return stored;
+    }
+    expiry
+}
+
+// Step 1: valid with the received number, over the transmitter.
+fn subject_row(a: Arrival, p: PathInfo, r: Row) -> Row
+    requires { ⌜ a .clock ≤ 281474976710655 ⌝ }
+    requires { ⌜ p .metric .0 + a .link .0 ≤ 4294967294 ⌝ }
+    requires { ⌜ p .hops .0 < 255 ⌝ }
+    ensures { λ s. ⌜ s ≡ subjectRow a p r ⌝ }
+{
+    let expiry = expiry_of(a.clock, p.lifetime, r);
+    let metric = here::metric_here(a, p);
+    let hops = here::hops_here(p);
+    let renewed = r.renewed(a.transmitter, metric, hops, expiry);
+    renewed.numbered(p.number)
+}
+
+fn learn_subject(table: &mut [u8], a: Arrival, p: PathInfo)
+    requires { ⌜ 32 ≤ length (now table) ⌝ }
+    requires { ⌜ a .clock ≤ 281474976710655 ⌝ }
+    requires { ⌜ p .metric .0 + a .link .0 ≤ 4294967294 ⌝ }
+    requires { ⌜ p .hops .0 < 255 ⌝ }
+    ensures { λ _. ⌜ now (table .exit) ≡ subjectLearnt a p (now (table .entry)) ⌝ }
+{
+    let r = row_or_new(table, p.subject);
+    store::put_row(table, subject_row(a, p, r));
+}
+
+// An inactive row takes the link unless a known number remembers a better metric; an active one if the link is better.
+fn row_takes_link(a: Arrival, r: Row) -> bool
+    ensures { λ b. ⌜ b ≡ rowTakesLink a r ⌝ }
+{
+    if r.is_active(a.clock) {
+        return a.link.0 < r.metric.0;
+    }
+    (r.known == 0) | (a.link.0 <= r.metric.0)
+}
+
+fn takes_link(table: &[u8], a: Arrival) -> bool
+    requires { ⌜ 32 ≤ length (now table) ⌝ }
+    ensures { λ b. ⌜ b ≡ takesLink a (rowFor (now (table .entry)) (a .transmitter)) ⌝ }
+{
+    let Found::At(i) = search::find_row(table, a.transmitter) else {
+        return true;
+    };
+    row_takes_link(a, row::read_row(table, i))
+}
+
+// Step 2: valid over the link itself; an existing number stays.
+fn transmitter_row(a: Arrival, lifetime: u32, r: Row) -> Row
+    requires { ⌜ a .clock ≤ 281474976710655 ⌝ }
+    ensures { λ s. ⌜ s ≡ transmitterRow a lifetime r ⌝ }
+{
+    let expiry = expiry_of(a.clock, lifetime, r);
+    r.renewed(a.transmitter, a.link, HopCount(1), expiry)
+}
+
+fn learn_transmitter(table: &mut [u8], a: Arrival, lifetime: u32)
+    requires { ⌜ 32 ≤ length (now table) ⌝ }
+    requires { ⌜ a .clock ≤ 281474976710655 ⌝ }
+    ensures { λ _. ⌜ now (table .exit) ≡ transmitterLearnt a lifetime (now (table .entry)) ⌝ }
+{
+    if !takes_link(table, a) {
+        return;
+    }
+    let r = row_or_new(table, a.transmitter);
+    store::put_row(table, transmitter_row(a, lifetime, r));
+}
+
+// Step 1, and step 2 if the transmitter is a different address. The subject comes first: it takes the lower of two free rows.
+pub fn learn(table: &mut [u8], a: Arrival, p: PathInfo)
+    requires { ⌜ 32 ≤ length (now table) ⌝ }
+    requires { ⌜ a .clock ≤ 281474976710655 ⌝ }
+    requires { ⌜ p .metric .0 + a .link .0 ≤ 4294967294 ⌝ }
+    requires { ⌜ p .hops .0 < 255 ⌝ }
+    ensures { λ _. ⌜ now (table .exit) ≡ learnt a p (now (table .entry)) ⌝ }
+{
+    learn_subject(table, a, p);
+    if a.transmitter.0 != p.subject.0 {
+        learn_transmitter(table, a, p.lifetime);
+    }
+}
