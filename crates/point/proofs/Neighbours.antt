@@ -1,17 +1,13 @@
 -- What receive and break have in common: their checks of operands and of the state, as the code asks it. Assumes nothing.
-use Prim.Native.Nat.{ℕ, _-_, _^_, _<_, _≤_}
+use Prim.Native.Nat.{ℕ, _-_, _^_, _≤_}
 use mathlib.Core.Path.{_≡_, sym, ap, _∙_}
-use mathlib.Core.Bool.{true, false}
 use mathlib.Core.List.{List, _++_}
-use lib.Dec.{ltb}
 use lib.ListN.{length}
-use borrow.Author.Tests.{eq-eqb, ne-eqb, lt-ltb, le-ltb, ltb-false}
+use borrow.Author.Tests.{ltb-false}
 use Rattle.table.specs.declared.address.Address.{Address}
 use Rattle.table.specs.declared.row.Head.{Head}
-use Rattle.table.specs.Address.{same}
 use Rattle.table.specs.Row.{headWith}
-use Rattle.table.specs.Layout.{headAt, putHead}
-use Rattle.table.specs.Table.{own, clock}
+use Rattle.table.specs.Layout.{putHead}
 use Rattle.counters.specs.declared.SequenceNumber.{SequenceNumber}
 use Rattle.rules.specs.Decision.{Check}
 use Rattle.point.specs.declared.Answer.{Answer}
@@ -42,22 +38,7 @@ module _ (t output : List ℕ) (c : ℕ) (neighbour : Address) (a : Answer) (ae 
     pub operands-clock : c ≤ 2 ^ 48 - 1
     operands-clock = ltb-false (2 ^ 48 - 1) c (answer-passed (operandChecks t (length output) c neighbour) (sym e ∙ ae) .1 .1 .0)
 
--- ---- the state, by the head that was read
-
-module _ (t : List ℕ) (h : Head) (he : h ≡ headAt t) where
-  pub clock-early : (c : ℕ) → c < h .clock → ltb c (clock t) ≡ true
-  clock-early c l = ap (λ (k : Head). ltb c (k .clock)) (sym he) ∙ lt-ltb c (h .clock) l
-
-  pub clock-late : (c : ℕ) → h .clock ≤ c → ltb c (clock t) ≡ false
-  clock-late c l = ap (λ (k : Head). ltb c (k .clock)) (sym he) ∙ le-ltb c (h .clock) l
-
-  pub own-neighbour : (n : Address) → n .0 ≡ h .own .0 → same n (own t) ≡ true
-  own-neighbour n e = ap (λ (k : Head). same n (k .own)) (sym he) ∙ eq-eqb (n .0) (h .own .0) e
-
-  pub other-neighbour : (n : Address) → (n .0 ≡ h .own .0 → ⊥) → same n (own t) ≡ false
-  other-neighbour n e = ap (λ (k : Head). same n (k .own)) (sym he) ∙ ne-eqb (n .0) (h .own .0) e
-
-pub ruleset by-head = (clock-early, clock-late, own-neighbour, other-neighbour)
+-- ---- the head is stored
 
 pub head-stored : (t u : List ℕ) (n : SequenceNumber) (c : ℕ) (h k : Head) → k ≡ headWith n (h .request) c h → u ≡ putHead t k → u ≡ putHead t (headWith n (h .request) c h)
 head-stored t u n c h k ke ue = ue ∙ ap (putHead t) ke

@@ -114,7 +114,7 @@ module _ (Q : Element → Type 0) where
           cond-cases (Replies 1) (answersFor (a .clock) q r)
           (λ e. one-emitted _ (fromRow (q .address) r found (answers-known (a .clock) q r e))) (λ _. none-emitted 1)
 
-      one-answered : (n : SequenceNumber) (q : Target) → Replies 1 (answered u a p n q)
+      pub one-answered : (n : SequenceNumber) (q : Target) → Replies 1 (answered u a p n q)
       unfolding answered
       one-answered n q =
           cond-cases (Replies 1) (same (q .address) (own u)) (λ _. oneself-answered n q)

@@ -15,6 +15,7 @@ use Rattle.table.specs.Row.{active}
 use Rattle.table.specs.Table.{own, rowFor}
 use Rattle.element.specs.declared.PathInfo.{PathInfo}
 use Rattle.element.specs.declared.Target.{Target}
+use Rattle.element.specs.declared.RrepFields.{RrepFields}
 use Rattle.element.specs.Element.{rrep}
 use Rattle.element.specs.Lists.{allOnes}
 use Rattle.rules.specs.Flags.{replyWanted, hasDO, hasRF, withDO}
@@ -28,24 +29,24 @@ pub record Answered : Type 0 where
   pub kept : List Target
 
 -- A reply goes to the transmitter: flags 0, TTL 31, lifetime, source and source number from the request, no dependents.
+abbrev pub replyFields : PathInfo → Address → SequenceNumber → HopCount → Metric → RrepFields
+replyFields p destination number hops metric =
+    record {
+      path = record {
+        flags = 0;
+        hops = hops;
+        ttl = 31;
+        subject = destination;
+        number = number;
+        lifetime = p .lifetime;
+        metric = metric;
+      };
+      source = record { address = p .subject; number = p .number };
+    }
+
 unfoldable pub reply : Arrival → PathInfo → Address → SequenceNumber → HopCount → Metric → Frame
 reply a p destination number hops metric =
-    record {
-      receiver = a .transmitter;
-      element = rrep
-          (record {
-            path = record {
-              flags = 0;
-              hops = hops;
-              ttl = 31;
-              subject = destination;
-              number = number;
-              lifetime = p .lifetime;
-              metric = metric;
-            };
-            source = record { address = p .subject; number = p .number };
-          }) [];
-    }
+    record { receiver = a .transmitter; element = rrep (replyFields p destination number hops metric) [] }
 
 -- for oneself: own address and number, hop count 0, metric 0
 abbrev pub ownReply : Arrival → PathInfo → Address → SequenceNumber → Frame

@@ -1,4 +1,5 @@
 -- The laws of tables, for this crate's proofs and its callers'.
+pub mod ByHead
 pub mod Cases
 pub mod Changes
 pub mod HeadAndRows

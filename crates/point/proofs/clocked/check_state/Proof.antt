@@ -1,7 +1,7 @@
 -- `point::clocked::check_state` meets its contract: one check of the list after another. Assumes nothing.
 use borrow.Author.Needs.{needs}
+use Rattle.table.proofs.ByHead.{by-head}
 use Rattle.point.proofs.Checks.{checking}
-use Rattle.point.proofs.Neighbours.{by-head}
 use Rattle.point.proofs.clocked.check_state.Statement.{statement}
 use Rattle.point.proofs.clocked.check_state.Tie as tie
 
