@@ -1,0 +1,83 @@
+-- Whether a point answers for another, case by case, as the code asks it. Assumes nothing.
+use Prim.Native.Nat.{ℕ}
+use mathlib.Core.Path.{_≡_, refl}
+use mathlib.Core.Bool.{Bool, true, false, not}
+use mathlib.Core.List.{List, [], _∷_}
+use mathlib.Core.Option.{Option, none, some}
+use borrow.Author.Tests.{eq-eqb, ne-eqb, not-true, not-false}
+use Rattle.counters.specs.declared.SequenceNumber.{SequenceNumber}
+use Rattle.counters.specs.Numbers.{older}
+use Rattle.table.specs.declared.row.Row.{Row}
+use Rattle.table.specs.declared.search.Found.{Found}
+use Rattle.table.specs.declared.search.Found.the-variants.{At, Nothing}
+use Rattle.table.specs.Layout.{rowAt}
+use Rattle.table.specs.Row.{active}
+use Rattle.table.specs.Table.{findRow, rowFor}
+use Rattle.element.specs.declared.PathInfo.{PathInfo}
+use Rattle.element.specs.declared.Target.{Target}
+use Rattle.rules.specs.declared.Arrival.{Arrival}
+use Rattle.rules.specs.Flags.{hasDO}
+use Rattle.rules.specs.Destinations.{Answered, rowReply, answersFor, keptOn, keptAfterReply, forAnother}
+use Rattle.destinations.specs.Answering.{ifAnswers, answeringRow}
+
+module _ (c : ℕ) (q : Target) (d : Bool) (de : d ≡ hasDO q) where
+  module _ (r : Row) where
+    pub answers-not-do : d ≡ true → false ≡ answersFor c q r
+    unfolding answersFor
+    answers-not-do e = rw (← de, e)
+
+    module _ (no-do : d ≡ false) (b : Bool) (be : b ≡ active c r) where
+      pub answers-not-inactive : not b ≡ true → false ≡ answersFor c q r
+      unfolding answersFor
+      answers-not-inactive e = rw (← de, no-do, ← be, not-true b e)
+
+      module _ (is-active : not b ≡ false) where
+        pub answers-not-unknown : (r .known ≡ 1 → ⊥) → false ≡ answersFor c q r
+        unfolding answersFor
+        answers-not-unknown k = rw (← de, no-do, ← be, not-false b is-active, ne-eqb (r .known) 1 k)
+
+        pub answers-not-older : r .known ≡ 1 → (o : Bool) → o ≡ older (r .number) (q .number) → not o ≡ answersFor c q r
+        unfolding answersFor
+        answers-not-older k o oe = rw (← de, no-do, ← be, not-false b is-active, eq-eqb (r .known) 1 k, ← oe)
+
+  no-answer-do : d ≡ true → (o : Option Row) → none ≡ ifAnswers c q o
+  no-answer-do e none = refl
+  no-answer-do e (some r) = rw (← answers-not-do r e)
+
+  pub nobody-do : d ≡ true → (t : List ℕ) → none ≡ answeringRow t c q
+  unfolding answeringRow
+  nobody-do e t = no-answer-do e (rowFor t (q .address))
+
+module _ (t : List ℕ) (c : ℕ) (q : Target) (f : Found) (fe : f ≡ findRow t (q .address)) where
+  pub nobody-absent : f ≡ Nothing → none ≡ answeringRow t c q
+  unfolding answeringRow rowFor
+  nobody-absent e = rw (← fe, e)
+
+  module _ (i : ℕ) (at-i : f ≡ At i) (r : Row) (re : r ≡ rowAt t i) (b : Bool) (be : b ≡ answersFor c q r) where
+    pub nobody-stale : not b ≡ true → none ≡ answeringRow t c q
+    unfolding answeringRow rowFor
+    nobody-stale e = rw (← fe, at-i, ← re, ← be, not-true b e)
+
+    pub row-answers : not b ≡ false → some r ≡ answeringRow t c q
+    unfolding answeringRow rowFor
+    row-answers e = rw (← fe, at-i, ← re, ← be, not-false b e)
+
+-- ---- `forAnother` goes by that row
+
+module _ (t : List ℕ) (a : Arrival) (p : PathInfo) (n : SequenceNumber) (q : Target) where
+  abbrev pub anotherBy : Option Row → Answered
+  anotherBy none = keptOn n q
+  anotherBy (some r) = record { number = n; replies = rowReply a p r ∷ []; kept = keptAfterReply q }
+
+  by-row : (o : Option Row) → forAnother t a p n q o ≡ anotherBy (ifAnswers (a .clock) q o)
+  unfolding forAnother
+  by-row none = refl
+  by-row (some r) = by (answersFor (a .clock) q r) refl
+    where
+      by : (b : Bool) → answersFor (a .clock) q r ≡ b → forAnother t a p n q (some r) ≡ anotherBy (ifAnswers (a .clock) q (some r))
+      by true e = rw e
+      by false e = rw e
+
+  pub answering-is : forAnother t a p n q (rowFor t (q .address)) ≡ anotherBy (answeringRow t (a .clock) q)
+  unfolding answeringRow
+  answering-is = by-row (rowFor t (q .address))

@@ -1,0 +1,191 @@
+-- Which destinations are kept, case by case and one after another, as the code asks it. Assumes nothing.
+use Prim.Native.Nat.{ℕ, _+_, _-_, _*_, _/_, _<_, _≤_}
+use mathlib.Core.Path.{_≡_, refl, sym, ap, ap₂, _∙_}
+use mathlib.Core.Bool.{Bool, true, false, not, cond}
+use mathlib.Core.List.{List, [], _∷_, _++_, append-nil, flatMap}
+use mathlib.Core.Option.{Option, none, some}
+use lib.ListN.{length, length-append}
+use native.Mathlib.Omega.{arith}
+use native.Mathlib.Nat.{sub-zero, add-zero}
+use borrow.Author.Tests.{eq-eqb, ne-eqb, not-true, not-false}
+use Rattle.octets.specs.LittleEndian.{over}
+use Rattle.counters.specs.declared.SequenceNumber.{SequenceNumber}
+use Rattle.table.specs.declared.row.Head.{Head}
+use Rattle.table.specs.declared.row.Row.{Row}
+use Rattle.table.specs.Address.{same}
+use Rattle.table.specs.Layout.{headAt}
+use Rattle.table.specs.Table.{own}
+use Rattle.table.proofs.ByHead.{is-own, is-other}
+use Rattle.element.specs.declared.PathInfo.{PathInfo}
+use Rattle.element.specs.declared.Target.{Target}
+use Rattle.element.specs.Entries.{each, targetAt, targetOctets}
+use Rattle.element.specs.Lists.{allOnes}
+use Rattle.element.proofs.ListParts.{targets-length}
+use Rattle.element.proofs.Scans.{each-next, each-end}
+use Rattle.element.proofs.Written.{target-length, entries-more, entries-ended}
+use Rattle.rules.specs.declared.Arrival.{Arrival}
+use Rattle.rules.specs.Flags.{hasRF, withDO, replyWanted}
+use Rattle.rules.specs.Destinations.{Answered, keptAfterReply, forOneself, forAllOnes, answered, allAnswered}
+use Rattle.rules.proofs.Branches.{cond-cases}
+use Rattle.destinations.specs.declared.answering.Answering.{Answering}
+use Rattle.destinations.specs.declared.answering.Answering.the-variants.{By, Nobody}
+use Rattle.destinations.specs.declared.kept.Kept.{Kept}
+use Rattle.destinations.specs.declared.kept.Kept.the-variants.{As, Struck}
+use Rattle.destinations.specs.Answering.{rowIn, answeringRow}
+use Rattle.destinations.specs.Kept.{keptIn, keptBy, keptOf, keptOctets}
+use Rattle.destinations.proofs.AnsweringRows.{anotherBy, answering-is}
+
+-- ---- one destination
+
+module _ (t : List ℕ) (c : ℕ) (q : Target) where
+  module _ (h : Head) (he : h ≡ headAt t) where
+    pub own-struck : q .address .0 ≡ h .own .0 → [] ≡ keptOf t c q
+    unfolding keptOf
+    own-struck e = rw (is-own t h he (q .address) e)
+
+    module _ (not-own : q .address .0 ≡ h .own .0 → ⊥) where
+      pub ones-kept : q .address .0 ≡ 281474976710655 → q ∷ [] ≡ keptOf t c q
+      unfolding keptOf
+      ones-kept e = rw (is-other t h he (q .address) not-own, eq-eqb (q .address .0) 281474976710655 e)
+
+      module _ (not-ones : q .address .0 ≡ 281474976710655 → ⊥) (x : Answering) (xe : rowIn x ≡ answeringRow t c q) where
+        another-kept : keptBy q (rowIn x) ≡ keptOf t c q
+        unfolding keptOf
+        another-kept = rw (is-other t h he (q .address) not-own, ne-eqb (q .address .0) 281474976710655 not-ones, ← xe)
+
+        pub unanswered-kept : x ≡ Nobody → q ∷ [] ≡ keptOf t c q
+        unanswered-kept e = ap (λ (y : Answering). keptBy q (rowIn y)) (sym e) ∙ another-kept
+
+        module _ (r : Row) (by-r : x ≡ By r) (b : Bool) (be : b ≡ hasRF q) where
+          after-reply : keptAfterReply q ≡ keptOf t c q
+          after-reply = ap (λ (y : Answering). keptBy q (rowIn y)) (sym by-r) ∙ another-kept
+
+          pub answered-struck : not b ≡ true → [] ≡ keptOf t c q
+          answered-struck e = rw (← after-reply, ← be, not-true b e)
+
+          pub answered-kept : not b ≡ false → (k : Target) → k ≡ withDO q → k ∷ [] ≡ keptOf t c q
+          answered-kept e k ke = rw (← after-reply, ← be, not-false b e, ke)
+
+  -- written, or not
+  module _ (k : Kept) (ke : keptIn k ≡ keptOf t c q) (at : ℕ) (s : List ℕ) where
+    kept-octets : flatMap targetOctets (keptIn k) ≡ keptOctets t c q
+    unfolding keptOctets
+    kept-octets = ap (flatMap targetOctets) ke
+
+    module _ (x : Target) (as-x : k ≡ As x) where
+      one-kept : targetOctets x ≡ keptOctets t c q
+      unfolding flatMap
+      one-kept = sym (append-nil (targetOctets x)) ∙ ap (λ (j : Kept). flatMap targetOctets (keptIn j)) (sym as-x) ∙ kept-octets
+
+      pub kept-place : (r : ℕ) → r ≡ at + 11 → r ≡ at + length (keptOctets t c q)
+      kept-place r re = re ∙ ap (λ (m : ℕ). at + m) (sym (target-length x) ∙ ap length one-kept)
+
+      pub kept-written : (v : List ℕ) → v ≡ over s at (targetOctets x) → v ≡ over s at (keptOctets t c q)
+      kept-written v ve = ve ∙ ap (over s at) one-kept
+
+    module _ (struck : k ≡ Struck) where
+      none-kept : [] ≡ keptOctets t c q
+      unfolding flatMap
+      none-kept = ap (λ (j : Kept). flatMap targetOctets (keptIn j)) (sym struck) ∙ kept-octets
+
+      pub struck-place : at ≡ at + length (keptOctets t c q)
+      struck-place = sym (add-zero at) ∙ ap (λ (l : List ℕ). at + length l) none-kept
+
+      pub struck-written : s ≡ over s at (keptOctets t c q)
+      unfolding over
+      struck-written = ap (over s at) none-kept
+
+  kept-short : length (keptOctets t c q) ≤ 11
+  unfolding keptOctets keptOf
+  kept-short =
+      cond-cases Short (same (q .address) (own t)) (λ _. nothing)
+      (λ _. cond-cases Short (same (q .address) allOnes) (λ _. one q) (λ _. by-answer (answeringRow t c q)))
+    where
+      Short : List Target → Type 0
+      Short l = length (flatMap targetOctets l) ≤ 11
+
+      nothing : Short []
+      nothing = omega (arith, targets-length [])
+
+      one : (x : Target) → Short (x ∷ [])
+      one x = omega (arith, targets-length (x ∷ []))
+
+      by-answer : (o : Option Row) → Short (keptBy q o)
+      by-answer none = one q
+      by-answer (some r) = cond-cases Short (hasRF q) (λ _. one (withDO q)) (λ _. nothing)
+
+-- ---- one after another
+
+module _ (t : List ℕ) (c : ℕ) (part out₀ : List ℕ) (at n : ℕ) where
+  -- what is left to write before destination i, and all of it
+  abbrev keptFrom : ℕ → List ℕ
+  keptFrom i = flatMap (keptOctets t c) (each (targetAt part) i (n - i))
+
+  abbrev allKept : List ℕ
+  allKept = flatMap (keptOctets t c) (each (targetAt part) 0 n)
+
+  -- what stands before destination i: with what is left it comes to the whole
+  pub record Keeping (i place : ℕ) (out : List ℕ) : Type 0 where
+    pub few : place ≤ at + 11 * i
+    pub counted : place + length (keptFrom i) ≡ at + length allKept
+    pub written : over out place (keptFrom i) ≡ over out₀ at allKept
+
+  pub keeping-start : Keeping 0 at out₀
+  keeping-start = record { few = omega arith; counted = rw (sub-zero n); written = rw (sub-zero n) }
+
+  module _ (i place : ℕ) (out : List ℕ) (so-far : Keeping i place out) where
+    pub keeping-room : i < n → n ≡ length part / 11 → at + length part ≤ length out₀ → length out ≡ length out₀ → place + 11 ≤ length out
+    keeping-room l ne room same-length = omega (arith, so-far .few)
+
+    pub keeping-more : i < n → (x : Target) → x ≡ targetAt part i → (place′ : ℕ) → place′ ≡ place + length (keptOctets t c x)
+        → (out′ : List ℕ) → out′ ≡ over out place (keptOctets t c x) → Keeping (i + 1) place′ out′
+    unfolding flatMap
+    keeping-more l x xe place′ pe out′ oe =
+        let this : List ℕ = keptOctets t c (targetAt part i) in
+        let left : keptFrom i ≡ this ++ keptFrom (i + 1) = ap (flatMap (keptOctets t c)) (each-next (targetAt part) i n l) in
+        let after : place′ ≡ place + length this = pe ∙ ap (λ (y : Target). place + length (keptOctets t c y)) xe in
+        record {
+          few = omega (arith, so-far .few, after, kept-short t c (targetAt part i));
+          counted = omega (arith, so-far .counted, after, ap length left, length-append this (keptFrom (i + 1)));
+          written =
+              entries-more (keptOctets t c) (targetAt part) n out out′ (over out₀ at allKept) i place place′ l
+              (oe ∙ ap (λ (y : Target). over out place (keptOctets t c y)) xe) after (so-far .written);
+        }
+
+    module _ (l : n ≤ i) where
+      pub kept-counted : place ≡ at + length allKept
+      unfolding flatMap
+      kept-counted = omega (arith, so-far .counted, ap (λ (m : List Target). length (flatMap (keptOctets t c) m)) (each-end (targetAt part) i n l))
+
+      pub all-kept : out ≡ over out₀ at allKept
+      all-kept = entries-ended (keptOctets t c) (targetAt part) n out (over out₀ at allKept) i place l (so-far .written)
+
+-- ---- they are the kept ones of `allAnswered`
+
+module _ (t : List ℕ) (a : Arrival) (p : PathInfo) where
+  abbrev keptBranch : Bool → Bool → SequenceNumber → Target → Answered
+  keptBranch b c n q = cond b (forOneself t a p n q) (cond c (forAllOnes t a p n q) (anotherBy t a p n q (answeringRow t (a .clock) q)))
+
+  branch-kept : (b c : Bool) (n : SequenceNumber) (q : Target)
+      → keptBranch b c n q .kept ≡ cond b [] (cond c (q ∷ []) (keptBy q (answeringRow t (a .clock) q)))
+  unfolding forOneself forAllOnes
+  branch-kept true c n q = refl
+  branch-kept false true n q = cond-cases (λ (x : Answered). x .kept ≡ q ∷ []) (replyWanted p) (λ _. refl) (λ _. refl)
+  branch-kept false false n q = another (answeringRow t (a .clock) q)
+    where
+      another : (o : Option Row) → anotherBy t a p n q o .kept ≡ keptBy q o
+      another none = refl
+      another (some r) = refl
+
+  kept-is : (n : SequenceNumber) (q : Target) → answered t a p n q .kept ≡ keptOf t (a .clock) q
+  unfolding answered keptOf
+  kept-is n q =
+      ap (λ (x : Answered). cond (same (q .address) (own t)) (forOneself t a p n q) (cond (same (q .address) allOnes) (forAllOnes t a p n q) x) .kept)
+      (answering-is t a p n q)
+      ∙ branch-kept (same (q .address) (own t)) (same (q .address) allOnes) n q
+
+  -- all of them
+  pub all-kept-are : (n : SequenceNumber) (targets : List Target) → allAnswered t a p n targets .kept ≡ flatMap (keptOf t (a .clock)) targets
+  unfolding allAnswered flatMap
+  all-kept-are n [] = refl
+  all-kept-are n (q ∷ targets) = ap₂ _++_ (kept-is n q) (all-kept-are (answered t a p n q .number) targets)

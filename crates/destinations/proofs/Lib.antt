@@ -1,0 +1,4 @@
+mod AnsweringRows
+mod Bits
+mod KeptOnes
+mod Replying

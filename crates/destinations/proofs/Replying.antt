@@ -1,0 +1,346 @@
+-- The replies, case by case and one after another, as the code asks it. Assumes nothing.
+use Prim.Native.Nat.{ℕ, _+_, _-_, _*_, _/_, _<_, _≤_}
+use mathlib.Core.Path.{_≡_, refl, sym, ap, ap₂, _∙_}
+use mathlib.Core.Bool.{Bool, true, false, not}
+use mathlib.Core.List.{List, [], _∷_, _++_, append-nil, append-assoc, flatMap}
+use mathlib.Core.Option.{none, some}
+use lib.ListN.{length, length-append}
+use native.Mathlib.Omega.{arith}
+use native.Mathlib.Nat.{sub-zero, add-zero, zero-add}
+use borrow.Author.Tests.{eq-eqb, ne-eqb, not-true, not-false}
+use Rattle.octets.specs.LittleEndian.{over}
+use Rattle.octets.proofs.OctetLists.{over-append}
+use Rattle.counters.specs.declared.SequenceNumber.{SequenceNumber}
+use Rattle.counters.specs.Numbers.{nextNumber, newer}
+use Rattle.table.specs.declared.address.Address.{Address}
+use Rattle.table.specs.declared.row.Head.{Head}
+use Rattle.table.specs.declared.row.Row.{Row}
+use Rattle.table.specs.Layout.{headAt}
+use Rattle.table.specs.Table.{own, rowFor}
+use Rattle.table.proofs.ByHead.{is-own, is-other}
+use Rattle.element.specs.declared.Kind.the-variants.{Rrep}
+use Rattle.element.specs.declared.PathInfo.{PathInfo}
+use Rattle.element.specs.declared.Target.{Target}
+use Rattle.element.specs.declared.RrepFields.{RrepFields}
+use Rattle.element.specs.Element.{Element, rrep, rrepNumbers, kindOf, countOf}
+use Rattle.element.specs.Layout.{lengthWith}
+use Rattle.element.specs.Entries.{each, All, targetAt}
+use Rattle.element.specs.Octets.{frameStart, writeFrame}
+use Rattle.element.proofs.Scans.{each-next, each-end}
+use Rattle.element.proofs.Sizes.{frame-length}
+use Rattle.element.proofs.Written.{frame-parts}
+use Rattle.rules.specs.declared.Arrival.{Arrival}
+use Rattle.rules.specs.Flags.{replyWanted}
+use Rattle.rules.specs.Outcome.{Frame, frameOctets}
+use Rattle.rules.specs.Destinations.{Answered, reply, replyFields, ownReply, answeredNumber, forOneself, forAllOnes, forAnother, answered, allAnswered}
+use Rattle.rules.proofs.Emitting.{Each, Emits, one-answered, replies-emitted}
+use Rattle.destinations.specs.declared.answering.Answering.{Answering}
+use Rattle.destinations.specs.declared.answering.Answering.the-variants.{By, Nobody}
+use Rattle.destinations.specs.declared.replies.Replied.{Replied}
+use Rattle.destinations.specs.Answering.{rowIn, answeringRow}
+use Rattle.destinations.specs.Replies.{repliedFrom}
+use Rattle.destinations.proofs.AnsweringRows.{anotherBy, answering-is}
+
+-- ---- frames one after another
+
+frames-append : (l l′ : List Frame) → frameOctets (l ++ l′) ≡ frameOctets l ++ frameOctets l′
+unfolding frameOctets flatMap
+frames-append [] l′ = refl
+frames-append (f ∷ l) l′ =
+    ap (λ (m : List ℕ). writeFrame (f .receiver) (f .element) ++ m) (frames-append l l′)
+    ∙ sym (append-assoc (writeFrame (f .receiver) (f .element)) (frameOctets l) (frameOctets l′))
+
+pub one-frame : (f : Frame) → frameOctets (f ∷ []) ≡ writeFrame (f .receiver) (f .element)
+unfolding frameOctets flatMap
+one-frame f = append-nil (writeFrame (f .receiver) (f .element))
+
+-- ---- one reply
+
+abbrev replyFrame : Address → RrepFields → Frame
+replyFrame to f = record { receiver = to; element = rrep f [] }
+
+reply-octets : (to : Address) (f : RrepFields) → frameOctets (replyFrame to f ∷ []) ≡ frameStart to Rrep 0 (rrepNumbers f)
+unfolding flatMap
+reply-octets to f = one-frame (replyFrame to f) ∙ frame-parts to (rrep f []) ∙ append-nil (frameStart to Rrep 0 (rrepNumbers f))
+
+reply-long : (to : Address) (f : RrepFields) → length (frameOctets (replyFrame to f ∷ [])) ≡ 40
+reply-long to f = ap length (one-frame (replyFrame to f)) ∙ frame-length to (rrep f [])
+
+pub reply-written : (s v : List ℕ) (at : ℕ) (to : Address) (f : RrepFields) → v ≡ over s at (frameStart to Rrep 0 (rrepNumbers f))
+    → v ≡ over s at (frameOctets (record { receiver = to; element = rrep f [] } ∷ []))
+reply-written s v at to f e = e ∙ ap (over s at) (sym (reply-octets to f))
+
+module _ (self requested : SequenceNumber) (b : Bool) (be : b ≡ newer requested self) where
+  pub number-raised : b ≡ true → (n : SequenceNumber) → n ≡ nextNumber requested → n ≡ answeredNumber self requested
+  unfolding answeredNumber
+  number-raised e n ne = rw (← be, e) ne
+
+  pub number-stepped : b ≡ false → (n : SequenceNumber) → n ≡ nextNumber self → n ≡ answeredNumber self requested
+  unfolding answeredNumber
+  number-stepped e n ne = rw (← be, e) ne
+
+-- for oneself
+module _ (t s v : List ℕ) (a : Arrival) (p : PathInfo) (n : SequenceNumber) (at : ℕ) (h : Head) (he : h ≡ headAt t)
+    (f : RrepFields) (fe : f ≡ replyFields p (h .own) n (record { 0 = 0 }) (record { 0 = 0 })) where
+  pub oneself-written : v ≡ over s at (frameOctets (record { receiver = a .transmitter; element = rrep f [] } ∷ []))
+      → v ≡ over s at (frameOctets (ownReply a p (own t) n ∷ []))
+  unfolding reply
+  oneself-written ve =
+      ve ∙ ap (λ (g : RrepFields). over s at (frameOctets (replyFrame (a .transmitter) g ∷ [])))
+      (fe ∙ ap (λ (k : Head). replyFields p (k .own) n (record { 0 = 0 }) (record { 0 = 0 })) he)
+
+pub oneself-place : (n : SequenceNumber) (at place : ℕ) → place ≡ at + 40
+    → _≡_ {A = Replied} (record { number = n; place = place }) (record { number = n; place = at + 40 })
+oneself-place n at place e = rw e
+
+-- ---- an answer x, where the replies before it end at `before`
+
+module _ (before : Replied) where
+  -- it has no reply and leaves the number
+  module _ (x : Answered) (none-said : x .replies ≡ []) (same-number : x .number ≡ before .number) where
+    silent-place : before ≡ repliedFrom (before .place) x
+    unfolding frameOctets flatMap
+    silent-place = rw (none-said, same-number, add-zero)
+
+    silent-output : (s : List ℕ) → s ≡ over s (before .place) (frameOctets (x .replies))
+    unfolding frameOctets flatMap over
+    silent-output s = rw none-said
+
+  -- it has one
+  module _ (x : Answered) (to : Address) (f : RrepFields) (said : x .replies ≡ record { receiver = to; element = rrep f [] } ∷ []) where
+    said-place : (n : SequenceNumber) → n ≡ x .number → (place : ℕ) → place ≡ before .place + 40
+        → record { number = n; place = place } ≡ repliedFrom (before .place) x
+    said-place n ne place pe =
+        rw (ne, pe, ap (λ (l : List Frame). before .place + length (frameOctets l)) said, reply-long to f)
+
+    said-output : (s v : List ℕ) → v ≡ over s (before .place) (frameOctets (record { receiver = to; element = rrep f [] } ∷ []))
+        → v ≡ over s (before .place) (frameOctets (x .replies))
+    said-output s v ve = ve ∙ ap (λ (l : List Frame). over s (before .place) (frameOctets l)) (sym said)
+
+-- ---- to another, by the row that answers
+
+module _ (t : List ℕ) (a : Arrival) (p : PathInfo) (q : Target) (before : Replied) (x : Answering) (xe : rowIn x ≡ answeringRow t (a .clock) q) where
+  abbrev toAnother : Answered
+  toAnother = forAnother t a p (before .number) q (rowFor t (q .address))
+
+  another-is : toAnother ≡ anotherBy t a p (before .number) q (rowIn x)
+  another-is = answering-is t a p (before .number) q ∙ ap (anotherBy t a p (before .number) q) (sym xe)
+
+  module _ (e : x ≡ Nobody) where
+    unanswered : toAnother ≡ anotherBy t a p (before .number) q none
+    unanswered = another-is ∙ ap (λ (y : Answering). anotherBy t a p (before .number) q (rowIn y)) e
+
+    pub another-silent-place : before ≡ repliedFrom (before .place) toAnother
+    another-silent-place = silent-place before toAnother (ap (λ (y : Answered). y .replies) unanswered) (ap (λ (y : Answered). y .number) unanswered)
+
+    pub another-silent-output : (s : List ℕ) → s ≡ over s (before .place) (frameOctets (toAnother .replies))
+    another-silent-output = silent-output before toAnother (ap (λ (y : Answered). y .replies) unanswered) (ap (λ (y : Answered). y .number) unanswered)
+
+  module _ (r : Row) (e : x ≡ By r) (f : RrepFields) (fe : f ≡ replyFields p (r .destination) (r .number) (r .hops) (r .metric)) where
+    row-answer : toAnother ≡ anotherBy t a p (before .number) q (some r)
+    row-answer = another-is ∙ ap (λ (y : Answering). anotherBy t a p (before .number) q (rowIn y)) e
+
+    row-said : toAnother .replies ≡ record { receiver = a .transmitter; element = rrep f [] } ∷ []
+    unfolding reply
+    row-said = ap (λ (y : Answered). y .replies) row-answer ∙ ap (λ (g : RrepFields). replyFrame (a .transmitter) g ∷ []) (sym fe)
+
+    pub another-said-place : (place : ℕ) → place ≡ before .place + 40
+        → _≡_ {A = Replied} (record { number = before .number; place = place }) (repliedFrom (before .place) toAnother)
+    another-said-place = said-place before toAnother (a .transmitter) f row-said (before .number) (ap (λ (y : Answered). y .number) (sym row-answer))
+
+    pub another-said-output : (s v : List ℕ) → v ≡ over s (before .place) (frameOctets (record { receiver = a .transmitter; element = rrep f [] } ∷ []))
+        → v ≡ over s (before .place) (frameOctets (toAnother .replies))
+    another-said-output = said-output before toAnother (a .transmitter) f row-said
+
+-- ---- to a destination, by its address
+
+module _ (t : List ℕ) (a : Arrival) (p : PathInfo) (q : Target) (before : Replied) (h : Head) (he : h ≡ headAt t) where
+  abbrev toThis : Answered
+  toThis = answered t a p (before .number) q
+
+  -- of an answer that is known to be another's
+  answer-place : (x : Answered) → toThis ≡ x → (r : Replied) → r ≡ repliedFrom (before .place) x → r ≡ repliedFrom (before .place) toThis
+  answer-place x e r re = re ∙ ap (repliedFrom (before .place)) (sym e)
+
+  answer-output : (x : Answered) → toThis ≡ x → (s v : List ℕ) → v ≡ over s (before .place) (frameOctets (x .replies))
+      → v ≡ over s (before .place) (frameOctets (toThis .replies))
+  answer-output x e s v ve = ve ∙ ap (λ (y : Answered). over s (before .place) (frameOctets (y .replies))) (sym e)
+
+  -- a reply for oneself under the number m
+  module _ (m : SequenceNumber) (number-is : toThis .number ≡ m) (replies-are : toThis .replies ≡ ownReply a p (own t) m ∷ []) where
+    own-said-place : (r : Replied) → r ≡ record { number = m; place = before .place + 40 } → r ≡ repliedFrom (before .place) toThis
+    unfolding reply
+    own-said-place r re = re ∙ said-place before toThis (a .transmitter) _ replies-are m (sym number-is) (before .place + 40) refl
+
+    own-said-output : (s v : List ℕ) → v ≡ over s (before .place) (frameOctets (ownReply a p (own t) m ∷ [])) → v ≡ over s (before .place) (frameOctets (toThis .replies))
+    own-said-output s v ve = ve ∙ ap (λ (l : List Frame). over s (before .place) (frameOctets l)) (sym replies-are)
+
+  module _ (is-self : q .address .0 ≡ h .own .0) (m : SequenceNumber) (me : m ≡ answeredNumber (before .number) (q .number)) where
+    self-answer : toThis ≡ forOneself t a p (before .number) q
+    unfolding answered
+    self-answer = rw (is-own t h he (q .address) is-self)
+
+    self-number : toThis .number ≡ m
+    unfolding forOneself
+    self-number = ap (λ (y : Answered). y .number) self-answer ∙ sym me
+
+    self-replies : toThis .replies ≡ ownReply a p (own t) m ∷ []
+    unfolding forOneself
+    self-replies = ap (λ (y : Answered). y .replies) self-answer ∙ ap (λ (k : SequenceNumber). ownReply a p (own t) k ∷ []) (sym me)
+
+    pub self-place : (r : Replied) → r ≡ record { number = m; place = before .place + 40 } → r ≡ repliedFrom (before .place) toThis
+    self-place = own-said-place m self-number self-replies
+
+    pub self-output : (s v : List ℕ) → v ≡ over s (before .place) (frameOctets (ownReply a p (own t) m ∷ [])) → v ≡ over s (before .place) (frameOctets (toThis .replies))
+    self-output = own-said-output m self-number self-replies
+
+  module _ (not-self : q .address .0 ≡ h .own .0 → ⊥) where
+    module _ (not-ones : q .address .0 ≡ 281474976710655 → ⊥) where
+      other-answer : toThis ≡ forAnother t a p (before .number) q (rowFor t (q .address))
+      unfolding answered
+      other-answer = rw (is-other t h he (q .address) not-self, ne-eqb (q .address .0) 281474976710655 not-ones)
+
+      pub other-place : (r : Replied) → r ≡ repliedFrom (before .place) (forAnother t a p (before .number) q (rowFor t (q .address)))
+          → r ≡ repliedFrom (before .place) toThis
+      other-place = answer-place _ other-answer
+
+      pub other-output : (s v : List ℕ) → v ≡ over s (before .place) (frameOctets (forAnother t a p (before .number) q (rowFor t (q .address)) .replies))
+          → v ≡ over s (before .place) (frameOctets (toThis .replies))
+      other-output = answer-output _ other-answer
+
+    module _ (is-ones : q .address .0 ≡ 281474976710655) (b : Bool) (be : b ≡ replyWanted p) where
+      ones-answer : toThis ≡ forAllOnes t a p (before .number) q
+      unfolding answered
+      ones-answer = rw (is-other t h he (q .address) not-self, eq-eqb (q .address .0) 281474976710655 is-ones)
+
+      module _ (no-reply : not b ≡ true) where
+        unwanted : forAllOnes t a p (before .number) q ≡ record { number = before .number; replies = []; kept = q ∷ [] }
+        unfolding forAllOnes
+        unwanted = rw (← be, not-true b no-reply)
+
+        pub unwanted-place : before ≡ repliedFrom (before .place) toThis
+        unwanted-place =
+            silent-place before toThis (ap (λ (y : Answered). y .replies) (ones-answer ∙ unwanted)) (ap (λ (y : Answered). y .number) (ones-answer ∙ unwanted))
+
+        pub unwanted-output : (s : List ℕ) → s ≡ over s (before .place) (frameOctets (toThis .replies))
+        unwanted-output =
+            silent-output before toThis (ap (λ (y : Answered). y .replies) (ones-answer ∙ unwanted)) (ap (λ (y : Answered). y .number) (ones-answer ∙ unwanted))
+
+      module _ (wants-reply : not b ≡ false) (m : SequenceNumber) (me : m ≡ nextNumber (before .number)) where
+        wanted : forAllOnes t a p (before .number) q ≡ record { number = m; replies = ownReply a p (own t) m ∷ []; kept = q ∷ [] }
+        unfolding forAllOnes
+        wanted = rw (← be, not-false b wants-reply, me)
+
+        pub wanted-place : (r : Replied) → r ≡ record { number = m; place = before .place + 40 } → r ≡ repliedFrom (before .place) toThis
+        wanted-place = own-said-place m (ap (λ (y : Answered). y .number) (ones-answer ∙ wanted)) (ap (λ (y : Answered). y .replies) (ones-answer ∙ wanted))
+
+        pub wanted-output : (s v : List ℕ) → v ≡ over s (before .place) (frameOctets (ownReply a p (own t) m ∷ [])) → v ≡ over s (before .place) (frameOctets (toThis .replies))
+        wanted-output = own-said-output m (ap (λ (y : Answered). y .number) (ones-answer ∙ wanted)) (ap (λ (y : Answered). y .replies) (ones-answer ∙ wanted))
+
+-- ---- all of them: each takes 40 octets
+
+abbrev Bare : Element → Type 0
+Bare e = lengthWith (kindOf e) (countOf e) ≡ 32
+
+frames-long : (l : List Frame) → Each Bare l → length (frameOctets l) ≡ 40 * length l
+unfolding frameOctets flatMap All
+frames-long [] h = refl
+frames-long (f ∷ l) h =
+    omega (
+      arith,
+      length-append (writeFrame (f .receiver) (f .element)) (frameOctets l),
+      frame-length (f .receiver) (f .element),
+      h .0,
+      frames-long l (h .1),
+    )
+
+module _ (t : List ℕ) (a : Arrival) (p : PathInfo) (n : SequenceNumber) where
+  one-short : (q : Target) → length (frameOctets (answered t a p n q .replies)) ≤ 40
+  unfolding reply
+  one-short q =
+      let x : Emits Bare 1 (answered t a p n q .replies) = one-answered Bare t a p (λ m. refl) (λ d r found known. refl) n q in
+      omega (arith, frames-long (answered t a p n q .replies) (x .each), x .few)
+
+  pub replies-long : (targets : List Target)
+      → (length (frameOctets (allAnswered t a p n targets .replies)) ≡ 40 * length (allAnswered t a p n targets .replies))
+      × (length (allAnswered t a p n targets .replies) ≤ length targets)
+  unfolding reply
+  replies-long targets =
+      let x : Emits Bare (length targets) (allAnswered t a p n targets .replies) = replies-emitted Bare t a p (λ m. refl) (λ d r found known. refl) n targets in
+      (frames-long (allAnswered t a p n targets .replies) (x .each), x .few)
+
+-- ---- one after another
+
+module _ (t : List ℕ) (a : Arrival) (p : PathInfo) (part out₀ : List ℕ) (n : ℕ) (start : SequenceNumber) where
+  -- what is left before destination i, where the own number is m; and all of it
+  abbrev leftFrom : ℕ → SequenceNumber → Answered
+  leftFrom i m = allAnswered t a p m (each (targetAt part) i (n - i))
+
+  abbrev allReplies : Answered
+  allReplies = allAnswered t a p start (each (targetAt part) 0 n)
+
+  -- what stands before destination i: with what is left it comes to the whole
+  pub record Replying (i : ℕ) (replied : Replied) (out : List ℕ) : Type 0 where
+    pub few : replied .place ≤ 40 * i
+    pub number : leftFrom i (replied .number) .number ≡ allReplies .number
+    pub counted : replied .place + length (frameOctets (leftFrom i (replied .number) .replies)) ≡ length (frameOctets (allReplies .replies))
+    pub written : over out (replied .place) (frameOctets (leftFrom i (replied .number) .replies)) ≡ over out₀ 0 (frameOctets (allReplies .replies))
+
+  pub replying-start : Replying 0 (record { number = start; place = 0 }) out₀
+  replying-start =
+      record { few = omega arith; number = rw (sub-zero n); counted = rw (sub-zero n, zero-add (length (frameOctets (allReplies .replies)))); written = rw (sub-zero n) }
+
+  module _ (i : ℕ) (replied : Replied) (out : List ℕ) (so-far : Replying i replied out) where
+    pub replying-room : i < n → n ≡ length part / 11 → length part ≤ 220 → 1560 ≤ length out₀ → length out ≡ length out₀ → replied .place + 40 ≤ length out
+    replying-room l ne short room same-length = omega (arith, so-far .few)
+
+    pub replying-more : i < n → (q : Target) → q ≡ targetAt part i → (next : Replied) → next ≡ repliedFrom (replied .place) (answered t a p (replied .number) q)
+        → (out′ : List ℕ) → out′ ≡ over out (replied .place) (frameOctets (answered t a p (replied .number) q .replies)) → Replying (i + 1) next out′
+    unfolding allAnswered
+    replying-more l q qe next ne out′ oe =
+        let this : Answered = answered t a p (replied .number) (targetAt part i) in
+        let after : next ≡ repliedFrom (replied .place) this = ne ∙ ap (λ (x : Target). repliedFrom (replied .place) (answered t a p (replied .number) x)) qe in
+        let here : out′ ≡ over out (replied .place) (frameOctets (this .replies)) =
+        oe ∙ ap (λ (x : Target). over out (replied .place) (frameOctets (answered t a p (replied .number) x .replies))) qe in
+        let rest : Answered = leftFrom (i + 1) (this .number) in
+        let left : leftFrom i (replied .number) ≡ record { number = rest .number; replies = this .replies ++ rest .replies; kept = this .kept ++ rest .kept } =
+        ap (allAnswered t a p (replied .number)) (each-next (targetAt part) i n l) in
+        let octets : frameOctets (leftFrom i (replied .number) .replies) ≡ frameOctets (this .replies) ++ frameOctets (rest .replies) =
+        ap (λ (x : Answered). frameOctets (x .replies)) left ∙ frames-append (this .replies) (rest .replies) in
+        let numbers : leftFrom (i + 1) (next .number) ≡ rest = ap (λ (x : Replied). leftFrom (i + 1) (x .number)) after in
+        let place : next .place ≡ replied .place + length (frameOctets (this .replies)) = ap (λ (x : Replied). x .place) after in
+        record {
+          few = omega (arith, so-far .few, place, one-short t a p (replied .number) (targetAt part i));
+          number = ap (λ (x : Answered). x .number) (numbers) ∙ ap (λ (x : Answered). x .number) (sym left) ∙ so-far .number;
+          counted =
+              omega (
+                arith,
+                so-far .counted,
+                place,
+                ap length octets,
+                length-append (frameOctets (this .replies)) (frameOctets (rest .replies)),
+                ap (λ (x : Answered). length (frameOctets (x .replies))) numbers,
+              );
+          written =
+              ap₂ (λ (u : List ℕ) (x : Replied). over u (x .place) (frameOctets (leftFrom (i + 1) (x .number) .replies))) here after
+              ∙ sym (over-append out (replied .place) (frameOctets (this .replies)) (frameOctets (rest .replies)))
+              ∙ ap (over out (replied .place)) (sym octets)
+              ∙ so-far .written;
+        }
+
+    module _ (l : n ≤ i) where
+      none-left : leftFrom i (replied .number) ≡ record { number = replied .number; replies = []; kept = [] }
+      unfolding allAnswered
+      none-left = ap (allAnswered t a p (replied .number)) (each-end (targetAt part) i n l)
+
+      pub all-replied : replied ≡ repliedFrom 0 allReplies
+      unfolding frameOctets flatMap
+      all-replied =
+          let number : replied .number ≡ allReplies .number = ap (λ (x : Answered). x .number) (sym none-left) ∙ so-far .number in
+          let place : replied .place ≡ 0 + length (frameOctets (allReplies .replies)) =
+          omega (arith, so-far .counted, ap (λ (x : Answered). length (frameOctets (x .replies))) none-left) in
+          ap₂ {C = Replied} (λ (m : SequenceNumber) (k : ℕ). record { number = m; place = k }) number place
+
+      pub replies-written : out ≡ over out₀ 0 (frameOctets (allReplies .replies))
+      unfolding frameOctets flatMap over
+      replies-written = ap (λ (x : Answered). over out (replied .place) (frameOctets (x .replies))) (sym none-left) ∙ so-far .written

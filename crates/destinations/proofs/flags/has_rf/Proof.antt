@@ -1,0 +1,11 @@
+-- `destinations::flags::has_rf` meets its contract: the second bit. Assumes nothing.
+use borrow.Author.Needs.{needs}
+use Rattle.destinations.proofs.Bits.{bit-1}
+use Rattle.destinations.proofs.flags.has_rf.Statement.{statement}
+use Rattle.destinations.proofs.flags.has_rf.Tie as tie
+
+pub has-rf-spec : {M : Type 1} → statement M
+has-rf-spec =
+    tie.close
+    (tie.spec
+    (λ c. search bit-1))

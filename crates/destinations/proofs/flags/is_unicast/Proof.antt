@@ -1,0 +1,11 @@
+-- `destinations::flags::is_unicast` meets its contract: the second bit. Assumes nothing.
+use borrow.Author.Needs.{needs}
+use Rattle.destinations.proofs.Bits.{bit-1}
+use Rattle.destinations.proofs.flags.is_unicast.Statement.{statement}
+use Rattle.destinations.proofs.flags.is_unicast.Tie as tie
+
+pub is-unicast-spec : {M : Type 1} → statement M
+is-unicast-spec =
+    tie.close
+    (tie.spec
+    (λ c. search bit-1))

@@ -1,0 +1,24 @@
+-- The row that an intermediate reply is made from. For the code's own functions: `answering-is` says that `forAnother` goes by
+-- it. Assumes nothing.
+use Prim.Native.Nat.{ℕ}
+use mathlib.Core.Bool.{cond}
+use mathlib.Core.List.{List}
+use mathlib.Core.Option.{Option, none, some}
+use Rattle.table.specs.declared.row.Row.{Row}
+use Rattle.table.specs.Table.{rowFor}
+use Rattle.element.specs.declared.Target.{Target}
+use Rattle.rules.specs.Destinations.{answersFor}
+use Rattle.destinations.specs.declared.answering.Answering.{Answering}
+use Rattle.destinations.specs.declared.answering.Answering.the-variants.{By, Nobody}
+
+abbrev pub rowIn : Answering → Option Row
+rowIn (By r) = some r
+rowIn Nobody = none
+
+-- the row if it answers
+abbrev pub ifAnswers : ℕ → Target → Option Row → Option Row
+ifAnswers c q none = none
+ifAnswers c q (some r) = cond (answersFor c q r) (some r) none
+
+unfoldable pub answeringRow : List ℕ → ℕ → Target → Option Row
+answeringRow t c q = ifAnswers c q (rowFor t (q .address))

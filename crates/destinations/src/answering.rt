@@ -1,0 +1,53 @@
+// Whether this point answers for another.
+use crate::flags;
+use element::Target;
+use table::row;
+use table::row::Row;
+use table::search;
+use table::search::Found;
+ghost use mathlib.Core.Path.{_≡_};
+ghost use Prim.Native.Nat.{_≤_};
+ghost use lib.ListN.{length};
+ghost use Rattle.rules.specs.Destinations.{answersFor};
+ghost use Rattle.destinations.specs.Answering.{answeringRow, rowIn};
+
+// The row that an intermediate reply is made from, if there is one.
+pub enum Answering {
+    By(Row),
+    Nobody,
+}
+
+// DO = 0, and an active row of known number that is not older than requested.
+fn answers_for(clock: u64, q: Target, r: Row) -> bool
+    ensures { λ b. ⌜ b ≡ answersFor clock q r ⌝ }
+{
+    let stored = r.number;
+    if flags::has_do(q) {
+        return false;
+    }
+    if !r.is_active(clock) {
+        return false;
+    }
+    if r.known != 1 {
+        return false;
+    }
+    !stored.is_older(q.number)
+}
+
+// With DO = 1 no row is looked for.
+pub fn answering_row(table: &[u8], clock: u64, q: Target) -> Answering
+    requires { ⌜ 32 ≤ length (now table) ⌝ }
+    ensures { λ r. ⌜ rowIn r ≡ answeringRow (now (table .entry)) clock q ⌝ }
+{
+    if flags::has_do(q) {
+        return Answering::Nobody;
+    }
+    let Found::At(i) = search::find_row(table, q.address) else {
+        return Answering::Nobody;
+    };
+    let r = row::read_row(table, i);
+    if !answers_for(clock, q, r) {
+        return Answering::Nobody;
+    }
+    Answering::By(r)
+}

@@ -1,0 +1,189 @@
+// The replies to a RREQ, one after another from the start of the output. The table is that after steps 1 and 2.
+use crate::answering;
+use crate::answering::Answering;
+use crate::flags;
+use counters::HopCount;
+use counters::Metric;
+use counters::SequenceNumber;
+use element::NumberedAddress;
+use element::PathInfo;
+use element::RrepFields;
+use element::Target;
+use element::list;
+use element::write;
+use rules::Arrival;
+use table::address::Address;
+use table::row;
+use table::row::Row;
+ghost use mathlib.Core.Path.{_≡_};
+ghost use mathlib.Core.List.{[], _∷_};
+ghost use Prim.Native.Nat.{_+_, _≤_};
+ghost use lib.ListN.{length};
+ghost use Rattle.octets.specs.LittleEndian.{over};
+ghost use Rattle.table.specs.Table.{own, rowFor};
+ghost use Rattle.element.specs.Element.{rrep};
+ghost use Rattle.element.specs.Entries.{targetsIn};
+ghost use Rattle.rules.specs.Destinations.{allAnswered, answered, answeredNumber, forAnother, ownReply, replyFields};
+ghost use Rattle.rules.specs.Outcome.{frameOctets};
+ghost use Rattle.destinations.specs.Replies.{repliedFrom};
+
+// Where the replies stand: the own number so far, and the place after them in the output.
+pub struct Replied {
+    pub number: SequenceNumber,
+    pub place: usize,
+}
+
+// A reply: flags 0, TTL 31; lifetime, source and source number from the request.
+fn reply_fields(
+    p: PathInfo,
+    destination: Address,
+    number: SequenceNumber,
+    hops: HopCount,
+    metric: Metric,
+) -> RrepFields
+    ensures { λ r. ⌜ r ≡ replyFields p destination number hops metric ⌝ }
+{
+    let path = PathInfo {
+        flags: 0,
+        hops,
+        ttl: 31,
+        subject: destination,
+        number,
+        lifetime: p.lifetime,
+        metric,
+    };
+    let address = p.subject;
+    let source_number = p.number;
+    let source = NumberedAddress {
+        address,
+        number: source_number,
+    };
+    RrepFields { path, source }
+}
+
+// For oneself: own address and number, hop count 0, metric 0.
+fn own_fields(p: PathInfo, own: Address, number: SequenceNumber) -> RrepFields
+    ensures { λ r. ⌜ r ≡ replyFields p own number (record { 0 = 0 }) (record { 0 = 0 }) ⌝ }
+{
+    reply_fields(p, own, number, HopCount(0), Metric(0))
+}
+
+// Intermediate: the row's destination, number, hop count and metric.
+fn row_fields(p: PathInfo, r: Row) -> RrepFields
+    ensures { λ s. ⌜ s ≡ replyFields p (r .destination) (r .number) (r .hops) (r .metric) ⌝ }
+{
+    reply_fields(p, r.destination, r.number, r.hops, r.metric)
+}
+
+// A reply goes to the transmitter, without dependents. Answers the place after it.
+fn write_reply(output: &mut [u8], at: usize, a: Arrival, f: RrepFields) -> usize
+    requires { ⌜ at + 40 ≤ length (now output) ⌝ }
+    ensures { λ r. ⌜ r ≡ at + 40 ⌝ }
+    ensures { λ _. ⌜ now (output .exit) ≡ over (now (output .entry)) at (frameOctets (record { receiver = a .transmitter; element = rrep f [] } ∷ [])) ⌝ }
+{
+    write::start_rrep(output, at, a.transmitter, f, 0)
+}
+
+// The own number becomes the requested one if that is newer, then steps up by one.
+fn answered_number(own: SequenceNumber, requested: SequenceNumber) -> SequenceNumber
+    ensures { λ r. ⌜ r ≡ answeredNumber own requested ⌝ }
+{
+    if requested.is_newer(own) {
+        return requested.next();
+    }
+    own.next()
+}
+
+// A reply for oneself under this own number, which has been stepped.
+fn reply_as_oneself(
+    output: &mut [u8],
+    at: usize,
+    table: &[u8],
+    a: Arrival,
+    p: PathInfo,
+    number: SequenceNumber,
+) -> Replied
+    requires { ⌜ at + 40 ≤ length (now output) ⌝ }
+    requires { ⌜ 32 ≤ length (now table) ⌝ }
+    ensures { λ r. ⌜ r ≡ record { number = number; place = at + 40 } ⌝ }
+    ensures { λ _. ⌜ now (output .exit) ≡ over (now (output .entry)) at (frameOctets (ownReply a p (own (now (table .entry))) number ∷ [])) ⌝ }
+{
+    let f = own_fields(p, row::read_head(table).own, number);
+    let place = write_reply(output, at, a, f);
+    Replied { number, place }
+}
+
+// Another: an intermediate reply, if a row answers for it.
+fn reply_for_another(
+    output: &mut [u8],
+    table: &[u8],
+    a: Arrival,
+    p: PathInfo,
+    q: Target,
+    before: Replied,
+) -> Replied
+    requires { ⌜ before .place + 40 ≤ length (now output) ⌝ }
+    requires { ⌜ 32 ≤ length (now table) ⌝ }
+    ensures { λ r. ⌜ r ≡ repliedFrom (before .place) (forAnother (now (table .entry)) a p (before .number) q (rowFor (now (table .entry)) (q .address))) ⌝ }
+    ensures { λ _. ⌜ now (output .exit) ≡ over (now (output .entry)) (before .place) (frameOctets (forAnother (now (table .entry)) a p (before .number) q (rowFor (now (table .entry)) (q .address)) .replies)) ⌝ }
+{
+    let Answering::By(r) = answering::answering_row(table, a.clock, q) else {
+        return before;
+    };
+    let place = write_reply(output, before.place, a, row_fields(p, r));
+    let number = before.number;
+    Replied { number, place }
+}
+
+// The own address, another, or all ones: then a reply if it is wanted.
+fn reply_to(
+    output: &mut [u8],
+    table: &[u8],
+    a: Arrival,
+    p: PathInfo,
+    q: Target,
+    before: Replied,
+) -> Replied
+    requires { ⌜ before .place + 40 ≤ length (now output) ⌝ }
+    requires { ⌜ 32 ≤ length (now table) ⌝ }
+    ensures { λ r. ⌜ r ≡ repliedFrom (before .place) (answered (now (table .entry)) a p (before .number) q) ⌝ }
+    ensures { λ _. ⌜ now (output .exit) ≡ over (now (output .entry)) (before .place) (frameOctets (answered (now (table .entry)) a p (before .number) q .replies)) ⌝ }
+{
+    let at = before.place;
+    let number = before.number;
+    if q.address.0 == row::read_head(table).own.0 {
+        return reply_as_oneself(output, at, table, a, p, answered_number(number, q.number));
+    }
+    if q.address.0 != list::ALL_ONES {
+        return reply_for_another(output, table, a, p, q, before);
+    }
+    if !flags::is_reply_wanted(p) {
+        return before;
+    }
+    reply_as_oneself(output, at, table, a, p, number.next())
+}
+
+// Writes the replies to the destinations in part, where the point has this own number.
+pub fn write_replies(
+    output: &mut [u8],
+    table: &[u8],
+    a: Arrival,
+    p: PathInfo,
+    number: SequenceNumber,
+    part: &[u8],
+) -> Replied
+    requires { ⌜ 32 ≤ length (now table) ⌝ }
+    requires { ⌜ length (now part) ≤ 220 ⌝ }
+    requires { ⌜ 1560 ≤ length (now output) ⌝ }
+    ensures { λ r. ⌜ r ≡ repliedFrom 0 (allAnswered (now (table .entry)) a p number (targetsIn (now (part .entry)))) ⌝ }
+    ensures { λ _. ⌜ now (output .exit) ≡ over (now (output .entry)) 0 (frameOctets (allAnswered (now (table .entry)) a p number (targetsIn (now (part .entry))) .replies)) ⌝ }
+{
+    let n = part.len() / 11;
+    let mut replied = Replied { number, place: 0 };
+    let mut i = 0;
+    while i < n {
+        replied = reply_to(output, table, a, p, list::target_at(part, i), replied);
+        i += 1;
+    }
+    replied
+}
