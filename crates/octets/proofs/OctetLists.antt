@@ -35,6 +35,17 @@ set-before s i at x [] l = rw (over-nil, over-nil)
 set-before s i at x (y ∷ p) l =
     rw (over-cons s at y p, over-cons (set s i x) at y p, set-before (set s at y) i (suc at) x p (omega arith), set-comm s at i y x (λ q. omega arith))
 
+-- the second part may be written before the first
+pub over-before : (s : List ℕ) (at : ℕ) (p q : List ℕ) → over (over s (at + length p) q) at p ≡ over s at (p ++ q)
+over-before s at [] q = over-nil (over s (at + 0) q) at ∙ ap (λ (k : ℕ). over s k q) (add-zero at)
+over-before s at (x ∷ p) q =
+    let place : at + length (x ∷ p) ≡ suc at + length p = omega arith in
+    over-cons (over s (at + length (x ∷ p)) q) at x p
+    ∙ ap (λ (l : List ℕ). over l (suc at) p) (set-before s at (at + length (x ∷ p)) x q (omega arith))
+    ∙ ap (λ (k : ℕ). over (over (set s at x) k q) (suc at) p) place
+    ∙ over-before (set s at x) (suc at) p q
+    ∙ sym (over-cons s at x (p ++ q))
+
 -- of what was written, the first part once more
 pub over-again : (s : List ℕ) (at : ℕ) (p q r : List ℕ) → length p ≡ length q → over (over s at (p ++ r)) at q ≡ over s at (q ++ r)
 over-again s at [] [] r e = over-nil (over s at r) at
