@@ -1,12 +1,12 @@
 -- Which destinations are kept, case by case and one after another, as the code asks it. Assumes nothing.
-use Prim.Native.Nat.{ℕ, _+_, _-_, _*_, _/_, _<_, _≤_}
+use Prim.Native.Nat.{ℕ, _+_, _/_, _<_, _≤_}
 use mathlib.Core.Path.{_≡_, refl, sym, ap, ap₂, _∙_}
 use mathlib.Core.Bool.{Bool, true, false, not, cond}
 use mathlib.Core.List.{List, [], _∷_, _++_, append-nil, flatMap}
 use mathlib.Core.Option.{Option, none, some}
-use lib.ListN.{length, length-append}
+use lib.ListN.{length}
 use native.Mathlib.Omega.{arith}
-use native.Mathlib.Nat.{sub-zero, add-zero}
+use native.Mathlib.Nat.{add-zero}
 use borrow.Author.Tests.{eq-eqb, ne-eqb, not-true, not-false}
 use Rattle.octets.specs.LittleEndian.{over}
 use Rattle.counters.specs.declared.SequenceNumber.{SequenceNumber}
@@ -18,11 +18,11 @@ use Rattle.table.specs.Table.{own}
 use Rattle.table.proofs.ByHead.{is-own, is-other}
 use Rattle.element.specs.declared.PathInfo.{PathInfo}
 use Rattle.element.specs.declared.Target.{Target}
-use Rattle.element.specs.Entries.{each, targetAt, targetOctets}
+use Rattle.element.specs.Entries.{targetAt, targetOctets}
 use Rattle.element.specs.Lists.{allOnes}
 use Rattle.element.proofs.ListParts.{targets-length}
-use Rattle.element.proofs.Scans.{each-next, each-end}
-use Rattle.element.proofs.Written.{target-length, entries-more, entries-ended}
+use Rattle.element.proofs.Written.{target-length}
+use Rattle.element.proofs.Listing.{Listing, listing-more}
 use Rattle.rules.specs.declared.Arrival.{Arrival}
 use Rattle.rules.specs.Flags.{hasRF, withDO, replyWanted}
 use Rattle.rules.specs.Destinations.{Answered, keptAfterReply, forOneself, forAllOnes, answered, allAnswered}
@@ -116,49 +116,16 @@ module _ (t : List ℕ) (c : ℕ) (q : Target) where
 
 -- ---- one after another
 
-module _ (t : List ℕ) (c : ℕ) (part out₀ : List ℕ) (at n : ℕ) where
-  -- what is left to write before destination i, and all of it
-  abbrev keptFrom : ℕ → List ℕ
-  keptFrom i = flatMap (keptOctets t c) (each (targetAt part) i (n - i))
+abbrev pub Keeping : List ℕ → ℕ → List ℕ → List ℕ → ℕ → ℕ → ℕ → ℕ → List ℕ → Type 0
+Keeping t c part out₀ at n = Listing (keptOctets t c) (targetAt part) n 11 out₀ at
 
-  abbrev allKept : List ℕ
-  allKept = flatMap (keptOctets t c) (each (targetAt part) 0 n)
+module _ (t : List ℕ) (c : ℕ) (part out₀ : List ℕ) (at n i place : ℕ) (out : List ℕ) (so-far : Keeping t c part out₀ at n i place out) where
+  pub keeping-room : i < n → n ≡ length part / 11 → at + length part ≤ length out₀ → length out ≡ length out₀ → place + 11 ≤ length out
+  keeping-room l ne room same-length = omega (arith, so-far .few)
 
-  -- what stands before destination i: with what is left it comes to the whole
-  pub record Keeping (i place : ℕ) (out : List ℕ) : Type 0 where
-    pub few : place ≤ at + 11 * i
-    pub counted : place + length (keptFrom i) ≡ at + length allKept
-    pub written : over out place (keptFrom i) ≡ over out₀ at allKept
-
-  pub keeping-start : Keeping 0 at out₀
-  keeping-start = record { few = omega arith; counted = rw (sub-zero n); written = rw (sub-zero n) }
-
-  module _ (i place : ℕ) (out : List ℕ) (so-far : Keeping i place out) where
-    pub keeping-room : i < n → n ≡ length part / 11 → at + length part ≤ length out₀ → length out ≡ length out₀ → place + 11 ≤ length out
-    keeping-room l ne room same-length = omega (arith, so-far .few)
-
-    pub keeping-more : i < n → (x : Target) → x ≡ targetAt part i → (place′ : ℕ) → place′ ≡ place + length (keptOctets t c x)
-        → (out′ : List ℕ) → out′ ≡ over out place (keptOctets t c x) → Keeping (i + 1) place′ out′
-    unfolding flatMap
-    keeping-more l x xe place′ pe out′ oe =
-        let this : List ℕ = keptOctets t c (targetAt part i) in
-        let left : keptFrom i ≡ this ++ keptFrom (i + 1) = ap (flatMap (keptOctets t c)) (each-next (targetAt part) i n l) in
-        let after : place′ ≡ place + length this = pe ∙ ap (λ (y : Target). place + length (keptOctets t c y)) xe in
-        record {
-          few = omega (arith, so-far .few, after, kept-short t c (targetAt part i));
-          counted = omega (arith, so-far .counted, after, ap length left, length-append this (keptFrom (i + 1)));
-          written =
-              entries-more (keptOctets t c) (targetAt part) n out out′ (over out₀ at allKept) i place place′ l
-              (oe ∙ ap (λ (y : Target). over out place (keptOctets t c y)) xe) after (so-far .written);
-        }
-
-    module _ (l : n ≤ i) where
-      pub kept-counted : place ≡ at + length allKept
-      unfolding flatMap
-      kept-counted = omega (arith, so-far .counted, ap (λ (m : List Target). length (flatMap (keptOctets t c) m)) (each-end (targetAt part) i n l))
-
-      pub all-kept : out ≡ over out₀ at allKept
-      all-kept = entries-ended (keptOctets t c) (targetAt part) n out (over out₀ at allKept) i place l (so-far .written)
+  pub keeping-more : i < n → (q : Target) → q ≡ targetAt part i → (place′ : ℕ) → place′ ≡ place + length (keptOctets t c q)
+      → (out′ : List ℕ) → out′ ≡ over out place (keptOctets t c q) → Keeping t c part out₀ at n (i + 1) place′ out′
+  keeping-more l = listing-more (keptOctets t c) (targetAt part) n 11 out₀ at i place out so-far l (kept-short t c (targetAt part i))
 
 -- ---- they are the kept ones of `allAnswered`
 

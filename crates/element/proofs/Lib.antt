@@ -5,6 +5,7 @@ pub mod Scans
 pub mod ListParts
 pub mod Sizes
 pub mod Written
+pub mod Listing
 pub mod Readings
 pub mod ReadBack
 pub mod Edges

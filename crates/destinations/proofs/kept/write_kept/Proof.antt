@@ -4,7 +4,8 @@ use mathlib.Core.Path.{_≡_}
 use lib.ListN.{length}
 use native.Mathlib.Omega.{arith}
 use borrow.Author.Needs.{needs}
-use Rattle.destinations.proofs.KeptOnes.{Keeping, keeping-start, keeping-room, keeping-more, kept-counted, all-kept}
+use Rattle.element.proofs.Listing.{listing-start, listing-counted, listing-written}
+use Rattle.destinations.proofs.KeptOnes.{Keeping, keeping-room, keeping-more}
 use Rattle.destinations.proofs.kept.write_kept.Statement.{statement}
 use Rattle.destinations.proofs.kept.write_kept.Tie as tie
 
@@ -21,11 +22,11 @@ write-kept-spec =
     (tie.spec
     Inv-loop
     μ-loop
-    (λ c. search (needs, keeping-start))
+    (λ c. search (needs, listing-start))
     (λ c κs. omega arith)
     (λ c κs. search (needs, keeping-room))
     (λ c. search needs)
     (λ c. search needs)
     (λ c. search (needs, keeping-more))
     (λ c. search needs)
-    (λ c. (search kept-counted, search all-kept)))
+    (λ c. (search listing-counted, search listing-written)))
