@@ -2,7 +2,7 @@
 use Prim.Native.Nat.{ℕ, zero, suc, _+_, _-_, _*_, _/_, _<_, _≤_}
 use mathlib.Core.Path.{_≡_, refl, sym, ap, _∙_}
 use mathlib.Core.Bool.{Bool, true, false, _&&_, _||_, not}
-use mathlib.Core.List.{List, [], _∷_}
+use mathlib.Core.List.{List, [], _∷_, map}
 use lib.Dec.{ltb}
 use lib.ListN.{length}
 use native.Mathlib.Omega.{arith}
@@ -16,7 +16,7 @@ use Rattle.element.specs.declared.list.ListKind.the-variants.{Targets, N
 use Rattle.element.specs.declared.Item.{Item}
 use Rattle.element.specs.declared.NumberedAddress.{NumberedAddress}
 use Rattle.element.specs.declared.Target.{Target}
-use Rattle.element.specs.Entries.{each, itemFrom, itemAt, numberedFrom, numberedAt, targetFrom, targetAt}
+use Rattle.element.specs.Entries.{each, itemFrom, itemAt, numberedFrom, numberedAt, numberedIn, targetFrom, targetAt, targetsIn}
 use Rattle.element.specs.Lists.{addressIn, entriesIn, addressesFrom, addressesIn, allOnes, allowed, anyForbidden, among, twice, onesBesideOthers}
 
 -- ---- entries one after another
@@ -44,6 +44,23 @@ module _ {A : Type 0} (f : ℕ → A) where
 
   pub each-end : (i n : ℕ) → n ≤ i → each f i (n - i) ≡ []
   each-end i n l = let none : n - i ≡ 0 = omega arith in ap (λ (m : ℕ). each f i m) none ∙ each-none i
+
+pub map-each : {A B : Type 0} (g : A → B) (f : ℕ → A) (i n : ℕ) → map g (each f i n) ≡ each (λ (k : ℕ). g (f k)) i n
+unfolding each
+map-each g f i zero = refl
+map-each g f i (suc n) = ap (λ (l : List _). g (f i) ∷ l) (map-each g f (suc i) n)
+
+-- the addresses of a list part are those of its entries
+pub target-addresses : (part : List ℕ) → map (λ (t : Target). t .address) (targetsIn part) ≡ addressesIn Targets part
+unfolding addressesFrom entriesIn
+target-addresses part =
+    map-each (λ (t : Target). t .address) (targetAt part) 0 (length part / 11) ∙ ap (each (addressIn Targets part) 0) (sym (sub-zero (length part / 11)))
+
+pub numbered-addresses : (part : List ℕ) → map (λ (a : NumberedAddress). a .address) (numberedIn part) ≡ addressesIn NumberedAddresses part
+unfolding addressesFrom entriesIn
+numbered-addresses part =
+    map-each (λ (a : NumberedAddress). a .address) (numberedAt part) 0 (length part / 10)
+    ∙ ap (each (addressIn NumberedAddresses part) 0) (sym (sub-zero (length part / 10)))
 
 -- ---- an entry by its octets
 
