@@ -1,4 +1,4 @@
 mod AnsweringRows
 mod Bits
-mod KeptOnes
-mod Replying
+pub mod KeptOnes
+pub mod Replying

@@ -2,7 +2,7 @@
 use Prim.Native.Nat.{ℕ, _+_, _-_, _*_, _/_, _<_, _≤_}
 use mathlib.Core.Path.{_≡_, refl, sym, ap, ap₂, _∙_}
 use mathlib.Core.Bool.{Bool, true, false, not}
-use mathlib.Core.List.{List, [], _∷_, _++_, append-nil, append-assoc, flatMap}
+use mathlib.Core.List.{List, [], _∷_, _++_, append-nil, flatMap}
 use mathlib.Core.Option.{none, some}
 use lib.ListN.{length, length-append}
 use native.Mathlib.Omega.{arith}
@@ -34,25 +34,13 @@ use Rattle.rules.specs.Flags.{replyWanted}
 use Rattle.rules.specs.Outcome.{Frame, frameOctets}
 use Rattle.rules.specs.Destinations.{Answered, reply, replyFields, ownReply, answeredNumber, forOneself, forAllOnes, forAnother, answered, allAnswered}
 use Rattle.rules.proofs.Emitting.{Each, Emits, one-answered, replies-emitted}
+use Rattle.rules.proofs.FrameOctets.{one-frame, frames-append}
 use Rattle.destinations.specs.declared.answering.Answering.{Answering}
 use Rattle.destinations.specs.declared.answering.Answering.the-variants.{By, Nobody}
 use Rattle.destinations.specs.declared.replies.Replied.{Replied}
 use Rattle.destinations.specs.Answering.{rowIn, answeringRow}
 use Rattle.destinations.specs.Replies.{repliedFrom}
 use Rattle.destinations.proofs.AnsweringRows.{anotherBy, answering-is}
-
--- ---- frames one after another
-
-frames-append : (l l′ : List Frame) → frameOctets (l ++ l′) ≡ frameOctets l ++ frameOctets l′
-unfolding frameOctets flatMap
-frames-append [] l′ = refl
-frames-append (f ∷ l) l′ =
-    ap (λ (m : List ℕ). writeFrame (f .receiver) (f .element) ++ m) (frames-append l l′)
-    ∙ sym (append-assoc (writeFrame (f .receiver) (f .element)) (frameOctets l) (frameOctets l′))
-
-pub one-frame : (f : Frame) → frameOctets (f ∷ []) ≡ writeFrame (f .receiver) (f .element)
-unfolding frameOctets flatMap
-one-frame f = append-nil (writeFrame (f .receiver) (f .element))
 
 -- ---- one reply
 

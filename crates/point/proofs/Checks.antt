@@ -8,15 +8,17 @@ use lib.Dec.{ltb}
 use lib.ListN.{length}
 use native.Mathlib.Omega.{arith}
 use borrow.Author.Tests.{eq-eqb, ne-eqb, lt-ltb, le-ltb, ltb-false, not-false}
+use Rattle.octets.specs.LittleEndian.{over}
 use Rattle.table.specs.Layout.{sized}
 use Rattle.table.proofs.Cases.{sized-long, sized-short}
 use Rattle.rules.specs.Decision.{Decision, refused, accepted, Check, Ruling, judged, decide}
-use Rattle.rules.specs.Outcome.{Effect, Exit, atExit}
+use Rattle.rules.specs.Outcome.{Effect, frameOctets, Exit, atExit}
 use Rattle.rules.proofs.Rulings.{Passed, passed}
 use Rattle.point.specs.declared.Answer.{Answer}
 use Rattle.point.specs.declared.Answer.the-variants.{Accepted, Refused}
-use Rattle.point.specs.declared.Outcome.the-variants.{Refused as NotDone}
-use Rattle.point.specs.Answers.{answerTo, exits}
+use Rattle.point.specs.declared.Emitted.{Emitted}
+use Rattle.point.specs.declared.Outcome.the-variants.{Accepted as Done, Refused as NotDone}
+use Rattle.point.specs.Answers.{answerTo, emitted, exits}
 
 -- ---- one check after another
 
@@ -99,6 +101,12 @@ module _ (t output : List ℕ) (r : Ruling Effect) (a : Answer) (ae : a ≡ answ
 
   pub acceptance : a ≡ Accepted → (x : Exit) → x ≡ atExit t output (accepted (r .otherwise)) → x ≡ atExit t output (decide r)
   acceptance e x h = h ∙ sym (ap (atExit t output) (decided-as ∙ ap (as-decision (r .otherwise)) e))
+
+-- an accepted call by the table, the output and the frames that it leaves
+pub accepted-exit : (t output : List ℕ) (x : Effect) (u v : List ℕ) (e : Emitted) → u ≡ x .table → v ≡ over output 0 (frameOctets (x .frames))
+    → e ≡ emitted (x .frames) → exits (Done e) u v ≡ atExit t output (accepted x)
+unfolding atExit
+accepted-exit t output x u v e ue ve ee = rw (ue, ve, ee)
 
 -- the first two checks of every call that has an output: both buffers are long enough for what follows
 abbrev Buffers : List ℕ → List ℕ → List Check → List Check

@@ -18,9 +18,10 @@ use Rattle.element.specs.Octets.{frameStart, writeFrame}
 use Rattle.element.proofs.Sizes.{frame-length}
 use Rattle.element.proofs.Written.{finished}
 use Rattle.rules.specs.Decision.{accepted}
-use Rattle.rules.specs.Outcome.{Exit, frameOctets, atExit}
+use Rattle.rules.specs.Outcome.{Exit, atExit}
 use Rattle.rules.specs.Onward.{toAll}
 use Rattle.rules.specs.Originate.{rannNumbered, rreqNumbered, ownPath, ownRequest, announced, requested, originating, announcing, announce, isRootFlags, allWithDOAndRF, requestingAsRoot, rootRequest}
+use Rattle.rules.proofs.FrameOctets.{one-frame}
 use Rattle.point.specs.declared.Answer.{Answer}
 use Rattle.point.specs.declared.Answer.the-variants.{Accepted, Refused}
 use Rattle.point.specs.declared.Outcome.the-variants.{Accepted as Done, Refused as NotDone}
@@ -29,14 +30,10 @@ use Rattle.point.proofs.Checks.{refusal, acceptance}
 
 -- ---- one frame to all ones
 
-one-frame : (e : Element) → frameOctets (toAll e) ≡ writeFrame allOnes e
-unfolding frameOctets flatMap
-one-frame e = append-nil (writeFrame allOnes e)
-
 one-frame-exit : (t output u v : List ℕ) (n : ℕ) (e : Element) → v ≡ over output 0 (writeFrame allOnes e) → n ≡ length (writeFrame allOnes e)
     → exits (Done (record { frames = 1; octets = n })) u v ≡ atExit t output (accepted (record { table = u; frames = toAll e }))
 unfolding atExit
-one-frame-exit t output u v n e ve ne = rw (one-frame e, ve, ne)
+one-frame-exit t output u v n e ve ne = rw (one-frame, ve, ne)
 
 -- ---- announce
 

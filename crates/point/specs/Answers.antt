@@ -2,11 +2,13 @@
 use Prim.Native.Nat.{ℕ}
 use mathlib.Core.Bool.{cond}
 use mathlib.Core.List.{List, [], _∷_}
+use lib.ListN.{length}
 use Rattle.table.specs.declared.address.Address.{Address}
 use Rattle.rules.specs.Decision.{Decision, refused, accepted, Check, Left}
-use Rattle.rules.specs.Outcome.{Exit}
+use Rattle.rules.specs.Outcome.{Frame, frameOctets, Exit}
 use Rattle.point.specs.declared.Answer.{Answer}
 use Rattle.point.specs.declared.Answer.the-variants.{Accepted, Refused}
+use Rattle.point.specs.declared.Emitted.{Emitted}
 use Rattle.point.specs.declared.Outcome.{Outcome}
 use Rattle.point.specs.declared.Outcome.the-variants.{Accepted as Done, Refused as NotDone}
 use Rattle.point.specs.declared.next_hop.Hop.{Hop}
@@ -25,6 +27,10 @@ leaves a t = record { answer = answerOf a; table = t }
 unfoldable pub answerTo : List Check → Answer
 answerTo [] = Accepted
 answerTo (k ∷ checks) = cond (k .applies) (Refused (k .number)) (answerTo checks)
+
+-- what is written with these frames
+abbrev pub emitted : List Frame → Emitted
+emitted frames = record { frames = length frames; octets = length (frameOctets frames) }
 
 -- this outcome with the table and the output that the call leaves
 abbrev pub exits : Outcome → List ℕ → List ℕ → Exit

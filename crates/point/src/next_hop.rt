@@ -19,7 +19,7 @@ pub enum Hop {
 }
 
 // By the row of the destination alone.
-fn along_row(table: &[u8], clock: u64, destination: Address) -> Hop
+pub fn along_row(table: &[u8], clock: u64, destination: Address) -> Hop
     requires { ⌜ 32 ≤ length (now table) ⌝ }
     ensures { λ r. ⌜ decisionOf r ≡ decide (alongRow clock (rowFor (now (table .entry)) destination)) ⌝ }
 {

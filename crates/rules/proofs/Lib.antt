@@ -7,6 +7,7 @@ pub mod Tables
 pub mod Learning
 pub mod Falling
 pub mod Emitting
+pub mod FrameOctets
 pub mod Sending
 pub mod Accepted
 pub mod CallsKeep

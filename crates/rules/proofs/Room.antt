@@ -1,8 +1,8 @@
 -- The frames of an accepted call take at most 1,560 octets: an output that passes refusal 2 has room for them. Assumes nothing.
 use Prim.Native.Nat.{ℕ, _+_, _*_, _≤_}
-use mathlib.Core.Path.{_≡_, refl, subst}
+use mathlib.Core.Path.{_≡_, refl, ap, subst}
 use mathlib.Core.Bool.{true, and-eq-true-iff}
-use mathlib.Core.List.{List, [], _∷_, _++_, flatMap}
+use mathlib.Core.List.{List, [], _∷_, flatMap}
 use lib.Dec.{leb}
 use lib.ListN.{length, length-append}
 use native.Mathlib.Omega.{arith}
@@ -40,6 +40,7 @@ use Rattle.rules.proofs.Branches.{cond-cases}
 use Rattle.rules.proofs.Rulings.{passed, passed-check}
 use Rattle.rules.proofs.Alls.{all-after, all-implies}
 use Rattle.rules.proofs.Emitting.{Each, Emits, rann-emitted, rreq-emitted, rrep-emitted, replies-emitted, errors-emitted}
+use Rattle.rules.proofs.FrameOctets.{frames-append}
 use Rattle.rules.proofs.Sending.{FramesFit}
 use Rattle.rules.proofs.Accepted.{Accepted, accepted-element}
 use Rattle.rules.proofs.CallsKeep.{call-kept}
@@ -58,17 +59,6 @@ fitting-small e f = by (kindOf e) (length-range (kindOf e) (countOf e) (f .count
     by Rreq l = omega arith
     by Rrep l = omega arith
     by Rerr l = omega arith
-
-frames-append : (l l′ : List Frame) → length (frameOctets (l ++ l′)) ≡ length (frameOctets l) + length (frameOctets l′)
-unfolding frameOctets flatMap
-frames-append [] l′ = omega arith
-frames-append (f ∷ l) l′ =
-    omega (
-      arith,
-      length-append (writeFrame (f .receiver) (f .element)) (frameOctets (l ++ l′)),
-      length-append (writeFrame (f .receiver) (f .element)) (frameOctets l),
-      frames-append l l′,
-    )
 
 frames-small : (n : ℕ) (frames : List Frame) → Each (Long n) frames → length (frameOctets frames) ≤ (8 + n) * length frames
 unfolding frameOctets flatMap All
@@ -137,7 +127,8 @@ module _ (t : List ℕ) (octets : Octets t) (room : ℕ) where
       let goes-on = all-after (λ (x : Frame). Fits (x .element)) (done .replies) onward fit in
       omega (
         arith,
-        frames-append (done .replies) onward,
+        ap length (frames-append (done .replies) onward),
+        length-append (frameOctets (done .replies)) (frameOctets onward),
         frames-small 32 (done .replies) (replies .each),
         replies .few,
         few,
