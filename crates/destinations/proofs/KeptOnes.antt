@@ -1,10 +1,10 @@
 -- Which destinations are kept, case by case and one after another, as the code asks it. Assumes nothing.
-use Prim.Native.Nat.{ℕ, _+_, _/_, _<_, _≤_}
+use Prim.Native.Nat.{ℕ, _+_, _*_, _/_, _<_, _≤_}
 use mathlib.Core.Path.{_≡_, refl, sym, ap, ap₂, _∙_}
 use mathlib.Core.Bool.{Bool, true, false, not, cond}
-use mathlib.Core.List.{List, [], _∷_, _++_, append-nil, flatMap}
+use mathlib.Core.List.{List, [], _∷_, _++_, append-nil, append-assoc, flatMap}
 use mathlib.Core.Option.{Option, none, some}
-use lib.ListN.{length}
+use lib.ListN.{length, length-append}
 use native.Mathlib.Omega.{arith}
 use native.Mathlib.Nat.{add-zero}
 use borrow.Author.Tests.{eq-eqb, ne-eqb, not-true, not-false}
@@ -18,11 +18,12 @@ use Rattle.table.specs.Table.{own}
 use Rattle.table.proofs.ByHead.{is-own, is-other}
 use Rattle.element.specs.declared.PathInfo.{PathInfo}
 use Rattle.element.specs.declared.Target.{Target}
-use Rattle.element.specs.Entries.{targetAt, targetOctets}
+use Rattle.element.specs.Entries.{each, All, targetAt, targetOctets, targetsIn}
 use Rattle.element.specs.Lists.{allOnes}
 use Rattle.element.proofs.ListParts.{targets-length}
+use Rattle.element.proofs.Scans.{each-length}
 use Rattle.element.proofs.Written.{target-length}
-use Rattle.element.proofs.Listing.{Listing, listing-more}
+use Rattle.element.proofs.Listing.{Listing, listing-more, listing-counted, listing-written}
 use Rattle.rules.specs.declared.Arrival.{Arrival}
 use Rattle.rules.specs.Flags.{hasRF, withDO, replyWanted}
 use Rattle.rules.specs.Destinations.{Answered, keptAfterReply, forOneself, forAllOnes, answered, allAnswered}
@@ -32,7 +33,7 @@ use Rattle.destinations.specs.declared.answering.Answering.the-variants.
 use Rattle.destinations.specs.declared.kept.Kept.{Kept}
 use Rattle.destinations.specs.declared.kept.Kept.the-variants.{As, Struck}
 use Rattle.destinations.specs.Answering.{rowIn, answeringRow}
-use Rattle.destinations.specs.Kept.{keptIn, keptBy, keptOf, keptOctets}
+use Rattle.destinations.specs.Kept.{keptIn, keptBy, keptOf, keptOctets, keptAmong}
 use Rattle.destinations.proofs.AnsweringRows.{anotherBy, answering-is}
 
 -- ---- one destination
@@ -127,6 +128,56 @@ module _ (t : List ℕ) (c : ℕ) (part out₀ : List ℕ) (at n i place : ℕ) 
       → (out′ : List ℕ) → out′ ≡ over out place (keptOctets t c q) → Keeping t c part out₀ at n (i + 1) place′ out′
   keeping-more l = listing-more (keptOctets t c) (targetAt part) n 11 out₀ at i place out so-far l (kept-short t c (targetAt part i))
 
+-- the octets of what is kept of each are those of all that are kept
+kept-together : (t : List ℕ) (c : ℕ) (l : List Target) → flatMap (keptOctets t c) l ≡ flatMap targetOctets (flatMap (keptOf t c) l)
+unfolding flatMap keptOctets
+kept-together t c [] = refl
+kept-together t c (q ∷ l) =
+    ap (λ (m : List ℕ). keptOctets t c q ++ m) (kept-together t c l) ∙ sym (octets-append (keptOf t c q) (flatMap (keptOf t c) l))
+  where
+    octets-append : (k m : List Target) → flatMap targetOctets (k ++ m) ≡ flatMap targetOctets k ++ flatMap targetOctets m
+    octets-append [] m = refl
+    octets-append (x ∷ k) m =
+        ap (λ (o : List ℕ). targetOctets x ++ o) (octets-append k m) ∙ sym (append-assoc (targetOctets x) (flatMap targetOctets k) (flatMap targetOctets m))
+
+module _ (t : List ℕ) (c : ℕ) (part out₀ : List ℕ) (at n : ℕ) (ne : n ≡ length part / 11) where
+  kept-octets-among : flatMap (keptOctets t c) (each (targetAt part) 0 n) ≡ flatMap targetOctets (keptAmong t c part)
+  unfolding keptAmong
+  kept-octets-among = ap (λ (m : ℕ). flatMap (keptOctets t c) (each (targetAt part) 0 m)) ne ∙ kept-together t c (each (targetAt part) 0 (length part / 11))
+
+  module _ (i place : ℕ) (out : List ℕ) (so-far : Keeping t c part out₀ at n i place out) (l : n ≤ i) where
+    pub all-counted : place ≡ at + 11 * length (keptAmong t c part)
+    all-counted =
+        listing-counted (keptOctets t c) (targetAt part) n 11 out₀ at i place out so-far l
+        ∙ ap (λ (m : ℕ). at + m) (ap length kept-octets-among ∙ targets-length (keptAmong t c part))
+
+    pub all-written : out ≡ over out₀ at (flatMap targetOctets (keptAmong t c part))
+    all-written = listing-written (keptOctets t c) (targetAt part) n 11 out₀ at i place out so-far l ∙ ap (over out₀ at) kept-octets-among
+
+-- a kept destination has its address
+pub kept-address : (t : List ℕ) (c : ℕ) (q : Target) → All (λ (k : Target). k .address ≡ q .address) (keptOf t c q)
+unfolding keptOf All withDO
+kept-address t c q =
+    cond-cases Same (same (q .address) (own t)) (λ _. tt)
+    (λ _. cond-cases Same (same (q .address) allOnes) (λ _. (refl, tt)) (λ _. by-answer (answeringRow t c q)))
+  where
+    Same : List Target → Type 0
+    Same l = All (λ (k : Target). k .address ≡ q .address) l
+
+    by-answer : (o : Option Row) → Same (keptBy q o)
+    by-answer none = (refl, tt)
+    by-answer (some r) = cond-cases Same (hasRF q) (λ _. (refl, tt)) (λ _. tt)
+
+-- no more are kept than there are
+pub kept-few : (t : List ℕ) (c : ℕ) (part : List ℕ) → length (keptAmong t c part) ≤ length part / 11
+unfolding keptAmong keptOctets flatMap
+kept-few t c part = omega (arith, few (targetsIn part), each-length (targetAt part) 0 (length part / 11))
+  where
+    few : (l : List Target) → length (flatMap (keptOf t c) l) ≤ length l
+    few [] = omega arith
+    few (q ∷ l) =
+        omega (arith, length-append (keptOf t c q) (flatMap (keptOf t c) l), targets-length (keptOf t c q), kept-short t c q, few l)
+
 -- ---- they are the kept ones of `allAnswered`
 
 module _ (t : List ℕ) (a : Arrival) (p : PathInfo) where
@@ -152,7 +203,11 @@ module _ (t : List ℕ) (a : Arrival) (p : PathInfo) where
       ∙ branch-kept (same (q .address) (own t)) (same (q .address) allOnes) n q
 
   -- all of them
-  pub all-kept-are : (n : SequenceNumber) (targets : List Target) → allAnswered t a p n targets .kept ≡ flatMap (keptOf t (a .clock)) targets
+  all-kept-are : (n : SequenceNumber) (targets : List Target) → allAnswered t a p n targets .kept ≡ flatMap (keptOf t (a .clock)) targets
   unfolding allAnswered flatMap
   all-kept-are n [] = refl
   all-kept-are n (q ∷ targets) = ap₂ _++_ (kept-is n q) (all-kept-are (answered t a p n q .number) targets)
+
+  pub answered-among : (n : SequenceNumber) (part : List ℕ) → allAnswered t a p n (targetsIn part) .kept ≡ keptAmong t (a .clock) part
+  unfolding keptAmong
+  answered-among n part = all-kept-are n (targetsIn part)

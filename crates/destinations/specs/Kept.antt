@@ -8,7 +8,7 @@ use Rattle.table.specs.declared.row.Row.{Row}
 use Rattle.table.specs.Address.{same}
 use Rattle.table.specs.Table.{own}
 use Rattle.element.specs.declared.Target.{Target}
-use Rattle.element.specs.Entries.{targetOctets}
+use Rattle.element.specs.Entries.{targetOctets, targetsIn}
 use Rattle.element.specs.Lists.{allOnes}
 use Rattle.rules.specs.Destinations.{keptAfterReply}
 use Rattle.destinations.specs.declared.kept.Kept.{Kept}
@@ -30,3 +30,7 @@ keptOf t c q = cond (same (q .address) (own t)) [] (cond (same (q .address) allO
 -- as octets
 unfoldable pub keptOctets : List ℕ → ℕ → Target → List ℕ
 keptOctets t c q = flatMap targetOctets (keptOf t c q)
+
+-- the destinations of part that are kept
+unfoldable pub keptAmong : List ℕ → ℕ → List ℕ → List Target
+keptAmong t c part = flatMap (keptOf t c) (targetsIn part)

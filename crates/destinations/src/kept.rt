@@ -8,11 +8,11 @@ use element::write;
 use table::row;
 ghost use mathlib.Core.Path.{_≡_};
 ghost use mathlib.Core.List.{flatMap};
-ghost use Prim.Native.Nat.{_+_, _≤_};
+ghost use Prim.Native.Nat.{_+_, _*_, _≤_};
 ghost use lib.ListN.{length};
 ghost use Rattle.octets.specs.LittleEndian.{over};
-ghost use Rattle.element.specs.Entries.{targetsIn};
-ghost use Rattle.destinations.specs.Kept.{keptIn, keptOctets, keptOf};
+ghost use Rattle.element.specs.Entries.{targetOctets};
+ghost use Rattle.destinations.specs.Kept.{keptAmong, keptIn, keptOctets, keptOf};
 
 // What becomes of a destination in the RREQ that goes on.
 pub enum Kept {
@@ -57,8 +57,8 @@ fn write_if_kept(output: &mut [u8], at: usize, table: &[u8], clock: u64, q: Targ
 pub fn write_kept(output: &mut [u8], at: usize, table: &[u8], clock: u64, part: &[u8]) -> usize
     requires { ⌜ 32 ≤ length (now table) ⌝ }
     requires { ⌜ at + length (now part) ≤ length (now output) ⌝ }
-    ensures { λ r. ⌜ r ≡ at + length (flatMap (keptOctets (now (table .entry)) clock) (targetsIn (now (part .entry)))) ⌝ }
-    ensures { λ _. ⌜ now (output .exit) ≡ over (now (output .entry)) at (flatMap (keptOctets (now (table .entry)) clock) (targetsIn (now (part .entry)))) ⌝ }
+    ensures { λ r. ⌜ r ≡ at + 11 * length (keptAmong (now (table .entry)) clock (now (part .entry))) ⌝ }
+    ensures { λ _. ⌜ now (output .exit) ≡ over (now (output .entry)) at (flatMap targetOctets (keptAmong (now (table .entry)) clock (now (part .entry)))) ⌝ }
 {
     let n = part.len() / 11;
     let mut place = at;

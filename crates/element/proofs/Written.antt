@@ -6,7 +6,7 @@ use lib.ListN.{length}
 use native.Mathlib.Omega.{arith}
 use native.Mathlib.Nat.{add-zero, sub-zero}
 use Rattle.octets.specs.LittleEndian.{numberOctets, over, withNumber, fieldOctets, withFields, total, Octets}
-use Rattle.octets.proofs.OctetLists.{over-append, length-number-octets, length-field-octets, octet-itself, field-octets-cons, field-octets-append, fields-over}
+use Rattle.octets.proofs.OctetLists.{over-append, over-before, length-number-octets, length-field-octets, octet-itself, field-octets-cons, field-octets-append, fields-over}
 use Rattle.table.specs.declared.address.Address.{Address}
 use Rattle.element.specs.declared.Kind.{Kind}
 use Rattle.element.specs.declared.Kind.the-variants.{Rann, Rreq, Rrep, Rerr}
@@ -108,6 +108,16 @@ module _ (to : Address) (s t u : List ℕ) (at at′ : ℕ) where
       let start : List ℕ = frameStart to (kindOf e) n (fieldNumbers e) in
       ue ∙ ap₂ (λ (l : List ℕ) (k : ℕ). over l k (listOctets e)) te (ae ∙ ap (λ (k : ℕ). at + k) (sym (start-length to e n)))
       ∙ sym (over-append s at start (listOctets e))
+      ∙ ap (λ (m : ℕ). over s at (frameStart to (kindOf e) m (fieldNumbers e) ++ listOctets e)) ne
+      ∙ ap (over s at) (sym (frame-parts to e))
+
+  -- so does the start that is written after its list, when the entries are counted
+  pub started-last : (e : Element) (n : ℕ) → n ≡ countOf e → t ≡ over s at′ (listOctets e) → at′ ≡ at + (8 + lengthWith (kindOf e) 0)
+      → u ≡ over t at (frameStart to (kindOf e) n (fieldNumbers e)) → u ≡ over s at (writeFrame to e)
+  started-last e n ne te ae ue =
+      let start : List ℕ = frameStart to (kindOf e) n (fieldNumbers e) in
+      ue ∙ ap (λ (l : List ℕ). over l at start) (te ∙ ap (λ (k : ℕ). over s k (listOctets e)) (ae ∙ ap (λ (k : ℕ). at + k) (sym (start-length to e n))))
+      ∙ over-before s at start (listOctets e)
       ∙ ap (λ (m : ℕ). over s at (frameStart to (kindOf e) m (fieldNumbers e) ++ listOctets e)) ne
       ∙ ap (over s at) (sym (frame-parts to e))
 

@@ -4,8 +4,8 @@ use mathlib.Core.Path.{_≡_}
 use lib.ListN.{length}
 use native.Mathlib.Omega.{arith}
 use borrow.Author.Needs.{needs}
-use Rattle.element.proofs.Listing.{listing-start, listing-counted, listing-written}
-use Rattle.destinations.proofs.KeptOnes.{Keeping, keeping-room, keeping-more}
+use Rattle.element.proofs.Listing.{listing-start}
+use Rattle.destinations.proofs.KeptOnes.{Keeping, keeping-room, keeping-more, all-counted, all-written}
 use Rattle.destinations.proofs.kept.write_kept.Statement.{statement}
 use Rattle.destinations.proofs.kept.write_kept.Tie as tie
 
@@ -29,4 +29,4 @@ write-kept-spec =
     (λ c. search needs)
     (λ c. search (needs, keeping-more))
     (λ c. search needs)
-    (λ c. (search listing-counted, search listing-written)))
+    (λ c. (search all-counted, search all-written)))
