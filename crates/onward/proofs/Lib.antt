@@ -1,0 +1,2 @@
+mod Going
+mod Requests

@@ -1,0 +1,11 @@
+-- `onward::request::fields_onward` meets its contract: by what it calls. Assumes nothing.
+use borrow.Author.Needs.{needs}
+use Rattle.onward.proofs.request.fields_onward.Statement.{statement}
+use Rattle.onward.proofs.request.fields_onward.Tie as tie
+
+pub fields-onward-spec : {M : Type 1} → statement M
+fields-onward-spec =
+    tie.close
+    (tie.spec
+    (λ c κs. search needs)
+    (λ c. cc))

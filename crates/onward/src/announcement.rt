@@ -1,0 +1,30 @@
+// A RANN goes on to all ones.
+use element::PathInfo;
+use element::list;
+use element::write;
+use point::Emitted;
+use rules::Arrival;
+use table::address::Address;
+ghost use mathlib.Core.Path.{_≡_};
+ghost use Prim.Native.Nat.{_+_, _<_, _≤_};
+ghost use lib.ListN.{length};
+ghost use Rattle.octets.specs.LittleEndian.{over};
+ghost use Rattle.rules.specs.Onward.{rannOnward};
+ghost use Rattle.rules.specs.Outcome.{frameOctets};
+ghost use Rattle.point.specs.Answers.{emitted};
+
+// If TTL is at least 2.
+pub fn send_on(output: &mut [u8], a: Arrival, p: PathInfo) -> Emitted
+    requires { ⌜ p .metric .0 + a .link .0 ≤ 4294967294 ⌝ }
+    requires { ⌜ p .hops .0 < 255 ⌝ }
+    requires { ⌜ 1560 ≤ length (now output) ⌝ }
+    ensures { λ r. ⌜ r ≡ emitted (rannOnward a p) ⌝ }
+    ensures { λ _. ⌜ now (output .exit) ≡ over (now (output .entry)) 0 (frameOctets (rannOnward a p)) ⌝ }
+{
+    if p.ttl < 2 {
+        return crate::nothing();
+    }
+    let path = crate::onward(a, p);
+    let octets = write::write_rann(output, 0, Address(list::ALL_ONES), path);
+    crate::one_frame(octets)
+}

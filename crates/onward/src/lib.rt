@@ -1,0 +1,58 @@
+// What goes on of a received RANN, RREQ or RREP, and to whom. The table is that after steps 1 and 2.
+pub mod announcement;
+mod receiver;
+pub mod reply;
+pub mod request;
+
+use element::PathInfo;
+use learn::here;
+use point::Emitted;
+use rules::Arrival;
+ghost use mathlib.Core.Path.{_≡_};
+ghost use mathlib.Core.List.{[]};
+ghost use Prim.Native.Nat.{_+_, _<_, _≤_};
+ghost use Rattle.rules.specs.Onward.{onward};
+ghost use Rattle.point.specs.Answers.{emitted};
+
+// The three changes: hop count + 1, TTL - 1, metric + link.
+fn onward(a: Arrival, p: PathInfo) -> PathInfo
+    requires { ⌜ p .metric .0 + a .link .0 ≤ 4294967294 ⌝ }
+    requires { ⌜ p .hops .0 < 255 ⌝ }
+    requires { ⌜ 1 ≤ p .ttl ⌝ }
+    ensures { λ r. ⌜ r ≡ onward a p ⌝ }
+{
+    let hops = here::hops_here(p);
+    let metric = here::metric_here(a, p);
+    let subject = p.subject;
+    let number = p.number;
+    PathInfo {
+        flags: p.flags,
+        hops,
+        ttl: p.ttl - 1,
+        subject,
+        number,
+        lifetime: p.lifetime,
+        metric,
+    }
+}
+
+// Where nothing goes on.
+fn nothing() -> Emitted
+    ensures { λ r. ⌜ r ≡ emitted [] ⌝ }
+{
+    Emitted {
+        frames: 0,
+        octets: 0,
+    }
+}
+
+// Where one frame of so many octets goes on.
+fn one_frame(octets: usize) -> Emitted
+    requires { ⌜ octets ≤ 1560 ⌝ }
+    ensures { λ r. ⌜ r ≡ record { frames = 1; octets = octets } ⌝ }
+{
+    Emitted {
+        frames: 1,
+        octets: octets as u32,
+    }
+}

@@ -1,0 +1,25 @@
+// To whom an element goes on.
+use point::next_hop;
+use point::next_hop::Hop;
+use table::address::Address;
+ghost use mathlib.Core.Path.{_≡_};
+ghost use Prim.Native.Nat.{_≤_};
+ghost use lib.ListN.{length};
+ghost use Rattle.table.specs.Table.{rowFor};
+ghost use Rattle.onward.specs.Sent.{activeHop};
+
+pub enum Receiver {
+    To(Address),
+    Nobody,
+}
+
+// The active next hop of a destination.
+pub fn active_hop(table: &[u8], clock: u64, destination: Address) -> Receiver
+    requires { ⌜ 32 ≤ length (now table) ⌝ }
+    ensures { λ r. ⌜ r ≡ activeHop clock (rowFor (now (table .entry)) destination) ⌝ }
+{
+    match next_hop::along_row(table, clock, destination) {
+        Hop::Via(next) => Receiver::To(next),
+        Hop::Refused(_) => Receiver::Nobody,
+    }
+}

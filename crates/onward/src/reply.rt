@@ -1,0 +1,71 @@
+// A RREP goes on towards its source, with its dependents unread.
+use crate::receiver;
+use crate::receiver::Receiver;
+use element::RrepFields;
+use element::write;
+use point::Emitted;
+use rules::Arrival;
+use table::address::Address;
+use table::row;
+ghost use mathlib.Core.Path.{_≡_};
+ghost use Prim.Native.Nat.{_+_, _%_, _<_, _≤_};
+ghost use lib.ListN.{length};
+ghost use Rattle.octets.specs.LittleEndian.{over};
+ghost use Rattle.element.specs.Entries.{numberedIn};
+ghost use Rattle.element.specs.Element.{rrep};
+ghost use Rattle.rules.specs.Onward.{rrepOnward};
+ghost use Rattle.rules.specs.Outcome.{frameOctets};
+ghost use Rattle.point.specs.Answers.{emitted};
+ghost use Rattle.onward.specs.Sent.{replyHop, rrepForward, sentTo};
+
+// To nobody if the source is this point.
+fn hop_of(table: &[u8], clock: u64, source: Address) -> Receiver
+    requires { ⌜ 32 ≤ length (now table) ⌝ }
+    ensures { λ r. ⌜ r ≡ replyHop (now (table .entry)) clock source ⌝ }
+{
+    if source.0 == row::read_head(table).own.0 {
+        return Receiver::Nobody;
+    }
+    receiver::active_hop(table, clock, source)
+}
+
+fn fields_onward(a: Arrival, f: RrepFields) -> RrepFields
+    requires { ⌜ f .path .metric .0 + a .link .0 ≤ 4294967294 ⌝ }
+    requires { ⌜ f .path .hops .0 < 255 ⌝ }
+    requires { ⌜ 1 ≤ f .path .ttl ⌝ }
+    ensures { λ r. ⌜ r ≡ rrepForward a f ⌝ }
+{
+    let path = crate::onward(a, f.path);
+    let source = f.source;
+    RrepFields { path, source }
+}
+
+// A RREP to this receiver, if there is one.
+fn send_to(output: &mut [u8], receiver: Receiver, f: RrepFields, part: &[u8]) -> Emitted
+    requires { ⌜ length (now part) ≤ 220 ⌝ }
+    requires { ⌜ length (now part) % 10 ≡ 0 ⌝ }
+    requires { ⌜ 1560 ≤ length (now output) ⌝ }
+    ensures { λ r. ⌜ r ≡ emitted (sentTo (rrep f (numberedIn (now (part .entry)))) receiver) ⌝ }
+    ensures { λ _. ⌜ now (output .exit) ≡ over (now (output .entry)) 0 (frameOctets (sentTo (rrep f (numberedIn (now (part .entry)))) receiver)) ⌝ }
+{
+    let Receiver::To(next) = receiver else {
+        return crate::nothing();
+    };
+    let octets = write::write_rrep(output, 0, next, f, part);
+    crate::one_frame(octets)
+}
+
+pub fn send_on(output: &mut [u8], table: &[u8], a: Arrival, f: RrepFields, part: &[u8]) -> Emitted
+    requires { ⌜ 32 ≤ length (now table) ⌝ }
+    requires { ⌜ f .path .metric .0 + a .link .0 ≤ 4294967294 ⌝ }
+    requires { ⌜ f .path .hops .0 < 255 ⌝ }
+    requires { ⌜ 1 ≤ f .path .ttl ⌝ }
+    requires { ⌜ length (now part) ≤ 220 ⌝ }
+    requires { ⌜ length (now part) % 10 ≡ 0 ⌝ }
+    requires { ⌜ 1560 ≤ length (now output) ⌝ }
+    ensures { λ r. ⌜ r ≡ emitted (rrepOnward (now (table .entry)) a f (numberedIn (now (part .entry)))) ⌝ }
+    ensures { λ _. ⌜ now (output .exit) ≡ over (now (output .entry)) 0 (frameOctets (rrepOnward (now (table .entry)) a f (numberedIn (now (part .entry))))) ⌝ }
+{
+    let receiver = hop_of(table, a.clock, f.source.address);
+    send_to(output, receiver, fields_onward(a, f), part)
+}

@@ -1,0 +1,118 @@
+// A RREQ goes on with the destinations that are kept.
+use crate::receiver;
+use crate::receiver::Receiver;
+use destinations::flags;
+use destinations::kept;
+use element::PathInfo;
+use element::RreqFields;
+use element::list;
+use element::write;
+use point::Emitted;
+use rules::Arrival;
+use table::address::Address;
+ghost use mathlib.Core.Path.{_≡_};
+ghost use mathlib.Core.Bool.{false};
+ghost use Prim.Native.Nat.{_+_, _<_, _≤_};
+ghost use lib.ListN.{length};
+ghost use Rattle.octets.specs.LittleEndian.{over};
+ghost use Rattle.rules.specs.Onward.{rreqOnward};
+ghost use Rattle.rules.specs.Outcome.{frameOctets};
+ghost use Rattle.point.specs.Answers.{emitted};
+ghost use Rattle.destinations.specs.Kept.{keptAmong};
+ghost use Rattle.onward.specs.Sent.{requestHop, requestSent, rreqForward, sentWith, unicastToSeveral};
+
+// All ones, or if unicast the active next hop of its destination.
+fn hop_of(table: &[u8], clock: u64, p: PathInfo, part: &[u8]) -> Receiver
+    requires { ⌜ 32 ≤ length (now table) ⌝ }
+    requires { ⌜ 11 ≤ length (now part) ⌝ }
+    ensures { λ r. ⌜ r ≡ requestHop (now (table .entry)) clock p (now (part .entry)) ⌝ }
+{
+    if !flags::is_unicast(p) {
+        return Receiver::To(Address(list::ALL_ONES));
+    }
+    receiver::active_hop(table, clock, list::target_at(part, 0).address)
+}
+
+fn fields_onward(a: Arrival, f: RreqFields) -> RreqFields
+    requires { ⌜ f .path .metric .0 + a .link .0 ≤ 4294967294 ⌝ }
+    requires { ⌜ f .path .hops .0 < 255 ⌝ }
+    requires { ⌜ 1 ≤ f .path .ttl ⌝ }
+    ensures { λ r. ⌜ r ≡ rreqForward a f ⌝ }
+{
+    let request = f.request;
+    let path = crate::onward(a, f.path);
+    RreqFields { request, path }
+}
+
+// The kept destinations from place at on, if there are any, as a RREQ. These are written first, since the start of a RREQ
+// has their count.
+fn send_kept(
+    output: &mut [u8],
+    at: usize,
+    to: Address,
+    f: RreqFields,
+    table: &[u8],
+    clock: u64,
+    part: &[u8],
+) -> Emitted
+    requires { ⌜ 32 ≤ length (now table) ⌝ }
+    requires { ⌜ length (now part) ≤ 220 ⌝ }
+    requires { ⌜ at + 254 ≤ length (now output) ⌝ }
+    ensures { λ r. ⌜ r ≡ emitted (sentWith to f (keptAmong (now (table .entry)) clock (now (part .entry)))) ⌝ }
+    ensures { λ _. ⌜ now (output .exit) ≡ over (now (output .entry)) at (frameOctets (sentWith to f (keptAmong (now (table .entry)) clock (now (part .entry))))) ⌝ }
+{
+    let list = at + 34;
+    let end = kept::write_kept(output, list, table, clock, part);
+    if end == list {
+        return crate::nothing();
+    }
+    write::start_rreq(output, at, to, f, (end - list) / 11);
+    crate::one_frame(end - at)
+}
+
+// The same to the receiver of the RREQ, if there is one.
+fn send(
+    output: &mut [u8],
+    at: usize,
+    f: RreqFields,
+    table: &[u8],
+    clock: u64,
+    part: &[u8],
+) -> Emitted
+    requires { ⌜ 32 ≤ length (now table) ⌝ }
+    requires { ⌜ at + 254 ≤ length (now output) ⌝ }
+    requires { ⌜ 11 ≤ length (now part) ⌝ }
+    requires { ⌜ length (now part) ≤ 220 ⌝ }
+    ensures { λ r. ⌜ r ≡ emitted (requestSent (now (table .entry)) clock f (now (part .entry))) ⌝ }
+    ensures { λ _. ⌜ now (output .exit) ≡ over (now (output .entry)) at (frameOctets (requestSent (now (table .entry)) clock f (now (part .entry)))) ⌝ }
+{
+    match hop_of(table, clock, f.path, part) {
+        Receiver::To(to) => send_kept(output, at, to, f, table, clock, part),
+        Receiver::Nobody => crate::nothing(),
+    }
+}
+
+// From place at on, after the replies; if TTL is at least 2.
+pub fn send_on(
+    output: &mut [u8],
+    at: usize,
+    table: &[u8],
+    a: Arrival,
+    f: RreqFields,
+    part: &[u8],
+) -> Emitted
+    requires { ⌜ 32 ≤ length (now table) ⌝ }
+    requires { ⌜ at + 254 ≤ length (now output) ⌝ }
+    requires { ⌜ 11 ≤ length (now part) ⌝ }
+    requires { ⌜ length (now part) ≤ 220 ⌝ }
+    requires { ⌜ unicastToSeveral (f .path) (now part) ≡ false ⌝ }
+    requires { ⌜ f .path .metric .0 + a .link .0 ≤ 4294967294 ⌝ }
+    requires { ⌜ f .path .hops .0 < 255 ⌝ }
+    ensures { λ r. ⌜ r ≡ emitted (rreqOnward (now (table .entry)) a f (keptAmong (now (table .entry)) (a .clock) (now (part .entry)))) ⌝ }
+    ensures { λ _. ⌜ now (output .exit) ≡ over (now (output .entry)) at (frameOctets (rreqOnward (now (table .entry)) a f (keptAmong (now (table .entry)) (a .clock) (now (part .entry))))) ⌝ }
+{
+    if f.path.ttl < 2 {
+        return crate::nothing();
+    }
+    send(output, at, fields_onward(a, f), table, a.clock, part)
+}
