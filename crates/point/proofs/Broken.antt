@@ -1,11 +1,10 @@
 -- Break: the rows that are lost, and what it leaves, as the code asks it. Assumes nothing.
 use Prim.Native.Nat.{ℕ, _+_, _-_, _<_, _≤_}
-use mathlib.Core.Path.{_≡_, refl, sym, ap, ap₂, _∙_}
+use mathlib.Core.Path.{_≡_, sym, ap, ap₂, _∙_}
 use mathlib.Core.Bool.{Bool, true, false, not, _&&_}
 use mathlib.Core.List.{List, [], _∷_, _++_, flatMap}
 use lib.ListN.{length, length-append}
 use native.Mathlib.Nat.{zero-add, add-zero, sub-zero, le-refl}
-use native.Mathlib.Numerals.{add-one}
 use native.Mathlib.Omega.{arith}
 use borrow.Author.Tests.{eq-eqb, ne-eqb, not-true, not-false}
 use Rattle.octets.specs.LittleEndian.{over}
@@ -17,7 +16,7 @@ use Rattle.table.specs.Address.{same}
 use Rattle.table.specs.Row.{headWith, active, invalidated, raised}
 use Rattle.table.specs.Layout.{headAt, putHead, rows, place, rowAt, putRow}
 use Rattle.table.specs.Table.{number, changeAt, changeBelow, changeWhere}
-use Rattle.table.proofs.Changes.{below-other}
+use Rattle.table.proofs.Changes.{below-other, row-stays, row-changed, below-start, below-more, below-ended, below-all}
 use Rattle.counters.specs.declared.SequenceNumber.{SequenceNumber}
 use Rattle.counters.specs.Numbers.{nextNumber}
 use Rattle.element.specs.declared.NumberedAddress.{NumberedAddress}
@@ -63,7 +62,7 @@ module _ (t : List ℕ) (i c : ℕ) (neighbour : Address) (r : Row) (re : r ≡ 
     not-through = through ∙ not-true b stays
 
     pub no-row : t ≡ changeAt (isThrough c neighbour) broken i t
-    no-row = rw not-through
+    no-row = row-stays (isThrough c neighbour) broken t i r re (sym be ∙ not-true b stays)
 
     none-lost : brokenEntry c neighbour (rowAt t i) ≡ []
     unfolding brokenEntry
@@ -81,7 +80,7 @@ module _ (t : List ℕ) (i c : ℕ) (neighbour : Address) (r : Row) (re : r ≡ 
     is-through = through ∙ not-false b falls
 
     pub one-row : (u : List ℕ) → u ≡ putRow t i fallen → u ≡ changeAt (isThrough c neighbour) broken i t
-    one-row u ue = rw (is-through, ← re, ← fe) ue
+    one-row = row-changed (isThrough c neighbour) broken t i r re (sym be ∙ not-false b falls) fallen fe
 
     one-lost : brokenEntry c neighbour (rowAt t i) ≡ record { address = r .destination; number = fallen .number } ∷ []
     unfolding brokenEntry
@@ -114,12 +113,11 @@ module _ (t₀ out₀ : List ℕ) (c : ℕ) (neighbour : Address) (n : ℕ) wher
     pub written : over out (octetsFor lost) (begunAfter lost (lostFrom t₀ c neighbour n i)) ≡ over out₀ 0 (begunAfter 0 (allLost t₀ c neighbour n))
 
   pub breaking-start : Breaking 0 0 t₀ out₀
-  unfolding changeBelow
   breaking-start =
       record {
         below = omega arith;
         few = omega arith;
-        rows = refl;
+        rows = below-start (isThrough c neighbour) broken t₀;
         counted = rw (sub-zero n, zero-add (length (allLost t₀ c neighbour n)));
         written = rw (sub-zero n);
       }
@@ -143,7 +141,7 @@ module _ (t₀ out₀ : List ℕ) (c : ℕ) (neighbour : Address) (n : ℕ) wher
           → (lost′ : ℕ) → lost′ ≡ lost + length (brokenEntry c neighbour (rowAt t i))
           → (out′ : List ℕ) → out′ ≡ over out (octetsFor lost) (begunAfter lost (brokenEntry c neighbour (rowAt t i)))
           → Breaking (i + 1) lost′ t′ out′
-      unfolding changeBelow flatMap
+      unfolding flatMap
       breaking-more t′ te lost′ le out′ oe =
           let entry : List NumberedAddress = brokenEntry c neighbour (rowAt t i) in
           let rest : List NumberedAddress = lostFrom t₀ c neighbour n (i + 1) in
@@ -153,9 +151,7 @@ module _ (t₀ out₀ : List ℕ) (c : ℕ) (neighbour : Address) (n : ℕ) wher
           record {
             below = omega arith;
             few = omega (arith, so-far .few, le, entry-one c neighbour (rowAt t i));
-            rows =
-                te ∙ ap (changeAt (isThrough c neighbour) broken i) (so-far .rows)
-                ∙ ap (λ (k : ℕ). changeBelow (isThrough c neighbour) broken k t₀) (sym (add-one i));
+            rows = below-more (isThrough c neighbour) broken t₀ t i (so-far .rows) t′ te;
             counted = omega (arith, so-far .counted, le, ap length left, length-append entry rest);
             written =
                 ap₂ (λ (u : List ℕ) (p : ℕ). over u p (begunAfter lost′ rest)) oe place-after
@@ -167,9 +163,6 @@ module _ (t₀ out₀ : List ℕ) (c : ℕ) (neighbour : Address) (n : ℕ) wher
           }
 
     module _ (l : n ≤ i) where
-      ended : i ≡ n
-      ended = omega (arith, so-far .below)
-
       none-left : lostFrom t₀ c neighbour n i ≡ []
       unfolding flatMap
       none-left = ap (flatMap (brokenEntry c neighbour)) (each-end (rowAt t₀) i n l)
@@ -178,7 +171,7 @@ module _ (t₀ out₀ : List ℕ) (c : ℕ) (neighbour : Address) (n : ℕ) wher
       all-counted = omega (arith, so-far .counted, ap length none-left)
 
       pub all-broken : t ≡ changeBelow (isThrough c neighbour) broken n t₀
-      all-broken = so-far .rows ∙ ap (λ (k : ℕ). changeBelow (isThrough c neighbour) broken k t₀) ended
+      all-broken = below-ended (isThrough c neighbour) broken t₀ t i (so-far .rows) n (so-far .below) l
 
       pub all-written : out ≡ over out₀ 0 (begunAfter 0 (allLost t₀ c neighbour n))
       unfolding over begunAfter
@@ -198,8 +191,7 @@ module _ (t output : List ℕ) (c : ℕ) (neighbour : Address) (n : ℕ) (ne : n
   lost-counted = le ∙ ap length lost-are
 
   pub rows-lost : (u : List ℕ) → u ≡ changeBelow (isThrough c neighbour) broken n t → u ≡ changeWhere (isThrough c neighbour) broken t
-  unfolding changeWhere
-  rows-lost u ue = ue ∙ ap (λ (k : ℕ). changeBelow (isThrough c neighbour) broken k t) ne
+  rows-lost u ue = below-all (isThrough c neighbour) broken t u n ue ne
 
   pub errors-closed : length t ≤ 4128 → (w v : List ℕ) → w ≡ over output 0 (begunAfter 0 (allLost t c neighbour n)) → v ≡ closed w 0 lost
       → v ≡ over output 0 (frameOctets (errorsFor (brokenEntries t c neighbour)))

@@ -9,6 +9,7 @@ use mathlib.Core.Logic.{⊎-elim}
 use lib.ListN.{length}
 use lib.Dec.{eqb}
 use native.Mathlib.Nat.{eq-or-lt-of-le, le-of-suc-le-suc, not-suc-le-zero}
+use native.Mathlib.Numerals.{add-one}
 use native.Mathlib.Omega.{arith}
 use Rattle.octets.specs.LittleEndian.{Octets}
 use Rattle.table.specs.declared.address.Address.{Address}
@@ -78,6 +79,31 @@ module _ (p : Row → Bool) (f : Row → Row) where
       either (λ v. rowAt v k ≡ rowAt t k) (p (rowAt u n))
       (row-other u n k _ (λ q. omega arith) ∙ below-other n k t (omega arith))
       (below-other n k t (omega arith))
+
+  -- as code asks it that goes from row to row: row i stays, or is changed
+  module _ (t : List ℕ) (i : ℕ) (r : Row) (re : r ≡ rowAt t i) where
+    pub row-stays : p r ≡ false → t ≡ changeAt p f i t
+    row-stays e = rw (← re, e)
+
+    pub row-changed : p r ≡ true → (s : Row) → s ≡ f r → (u : List ℕ) → u ≡ putRow t i s → u ≡ changeAt p f i t
+    row-changed e s se u ue = rw (← re, e, ← se) ue
+
+  -- the rows below i are done; then row i is, and in the end all of them
+  pub below-start : (t : List ℕ) → t ≡ changeBelow p f 0 t
+  unfolding changeBelow
+  below-start t = refl
+
+  module _ (t u : List ℕ) (i : ℕ) (so-far : u ≡ changeBelow p f i t) where
+    pub below-more : (v : List ℕ) → v ≡ changeAt p f i u → v ≡ changeBelow p f (i + 1) t
+    unfolding changeBelow
+    below-more v ve = ve ∙ ap (changeAt p f i) so-far ∙ ap (λ (k : ℕ). changeBelow p f k t) (sym (add-one i))
+
+    pub below-ended : (n : ℕ) → i ≤ n → n ≤ i → u ≡ changeBelow p f n t
+    below-ended n l h = let e : i ≡ n = omega arith in so-far ∙ ap (λ (k : ℕ). changeBelow p f k t) e
+
+    pub below-all : i ≡ rows t → u ≡ changeWhere p f t
+    unfolding changeWhere
+    below-all e = so-far ∙ ap (λ (k : ℕ). changeBelow p f k t) e
 
   pub change-length : (t : List ℕ) → length (changeWhere p f t) ≡ length t
   unfolding changeWhere
