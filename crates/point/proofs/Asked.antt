@@ -1,11 +1,10 @@
 -- Ask: its items looked through, its destinations written, and what it leaves, as the code asks it. Assumes nothing.
 use Prim.Native.Nat.{ℕ, _+_, _-_, _*_, _/_, _%_, _<_, _≤_}
 use mathlib.Core.Path.{_≡_, refl, sym, ap, _∙_}
-use mathlib.Core.Bool.{Bool, true, false, _&&_, and-eq-true-iff}
+use mathlib.Core.Bool.{Bool, true, _&&_, and-eq-true-iff}
 use mathlib.Core.List.{List, [], _∷_, _++_, flatMap, map}
 use lib.Dec.{eqb, leb}
 use lib.ListN.{length, length-map}
-use native.Mathlib.Omega.{arith}
 use native.Mathlib.Nat.{sub-zero}
 use borrow.Author.Tests.{lt-ltb, le-ltb, leb-true, eq-eqb, ne-eqb, not-false}
 use Rattle.octets.specs.LittleEndian.{over}
@@ -23,12 +22,13 @@ use Rattle.element.specs.Element.{rreq, rreqNumbers}
 use Rattle.element.specs.Entries.{each, itemAt, itemsIn, targetOctets}
 use Rattle.element.specs.Lists.{allOnes, among}
 use Rattle.element.specs.Octets.{frameStart, writeFrame}
-use Rattle.element.proofs.Scans.{each-length, scan-found, scan-more, scan-ended}
+use Rattle.element.proofs.Scans.{each-length}
 use Rattle.element.proofs.Written.{entries-more, target-length}
 use Rattle.rules.specs.Decision.{accepted, Check}
 use Rattle.rules.specs.Lists.{any}
 use Rattle.rules.specs.Outcome.{Exit, atExit}
 use Rattle.rules.specs.Originate.{rreqNumbered, ownRequest, requested, itemsFit, hasHighFlags, knownNumber, askedFor, asking, ask}
+use Rattle.rules.proofs.AnyOf.{any-found, any-more}
 use Rattle.rules.proofs.Rulings.{Passed, passed-check}
 use Rattle.point.specs.declared.Answer.{Answer}
 use Rattle.point.specs.declared.Answer.the-variants.{Accepted, Refused}
@@ -40,24 +40,12 @@ use Rattle.point.proofs.Originated.{request-finished, requested-exit}
 
 -- ---- the flags of its items, of which g says whether some are above 3
 
-module _ (s : List ℕ) (n : ℕ) where
-  pub high-start : any hasHighFlags (each (itemAt s) 0 (n - 0)) ≡ any hasHighFlags (each (itemAt s) 0 n)
-  high-start = rw (sub-zero n)
+module _ (s : List ℕ) (n i : ℕ) (g : Bool) (l : i < n) (x : Item) (xe : x ≡ itemAt s i) where
+  pub high-found : 3 < x .flags → any hasHighFlags (each (itemAt s) i (n - i)) ≡ g → true ≡ g
+  high-found high = any-found hasHighFlags (itemAt s) n i g l x xe (lt-ltb 3 (x .flags) high)
 
-  module _ (i : ℕ) (g : Bool) (l : i < n) (x : Item) (xe : x ≡ itemAt s i) where
-    pub high-found : 3 < x .flags → any hasHighFlags (each (itemAt s) i (n - i)) ≡ g → true ≡ g
-    unfolding any
-    high-found high =
-        scan-found (any hasHighFlags) (λ y _. hasHighFlags y) refl (λ _ _. refl) (itemAt s) n i g l (ap hasHighFlags (sym xe) ∙ lt-ltb 3 (x .flags) high)
-
-    pub high-more : x .flags ≤ 3 → any hasHighFlags (each (itemAt s) i (n - i)) ≡ g → any hasHighFlags (each (itemAt s) (i + 1) (n - (i + 1))) ≡ g
-    unfolding any
-    high-more low =
-        scan-more (any hasHighFlags) (λ y _. hasHighFlags y) refl (λ _ _. refl) (itemAt s) n i g l (ap hasHighFlags (sym xe) ∙ le-ltb 3 (x .flags) low)
-
-  pub high-ended : (i : ℕ) (g : Bool) → n ≤ i → any hasHighFlags (each (itemAt s) i (n - i)) ≡ g → false ≡ g
-  unfolding any
-  high-ended i g = scan-ended (any hasHighFlags) (λ y _. hasHighFlags y) refl (λ _ _. refl) (itemAt s) n i g
+  pub high-more : x .flags ≤ 3 → any hasHighFlags (each (itemAt s) i (n - i)) ≡ g → any hasHighFlags (each (itemAt s) (i + 1) (n - (i + 1))) ≡ g
+  high-more low = any-more hasHighFlags (itemAt s) n i g l x xe (le-ltb 3 (x .flags) low)
 
 -- ---- a destination's number
 

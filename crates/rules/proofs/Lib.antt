@@ -3,6 +3,7 @@ pub mod Branches
 pub mod AsGood
 pub mod Rulings
 pub mod Alls
+pub mod AnyOf
 pub mod Tables
 pub mod Learning
 pub mod Falling

@@ -5,7 +5,8 @@ use borrow.Author.Needs.{needs}
 use Rattle.element.specs.Entries.{each, itemAt}
 use Rattle.rules.specs.Lists.{any}
 use Rattle.rules.specs.Originate.{hasHighFlags}
-use Rattle.point.proofs.Asked.{high-start, high-found, high-more, high-ended}
+use Rattle.rules.proofs.AnyOf.{any-start, any-ended}
+use Rattle.point.proofs.Asked.{high-found, high-more}
 use Rattle.point.proofs.ask.has_high_flags.Statement.{statement}
 use Rattle.point.proofs.ask.has_high_flags.Tie as tie
 
@@ -21,10 +22,10 @@ has-high-flags-spec =
     (tie.spec
     Inv-loop
     μ-loop
-    (λ c. search (needs, high-start))
+    (λ c. search (needs, any-start))
     (λ c κs. search needs)
     (λ c. search high-found)
     (λ c. search needs)
     (λ c. search needs)
     (λ c. search (needs, high-more))
-    (λ c. search high-ended))
+    (λ c. search any-ended))
