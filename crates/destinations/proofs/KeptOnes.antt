@@ -6,7 +6,6 @@ use mathlib.Core.List.{List, [], _∷_, _++_, append-nil, append-assoc, flatMap}
 use mathlib.Core.Option.{Option, none, some}
 use lib.ListN.{length, length-append}
 use native.Mathlib.Omega.{arith}
-use native.Mathlib.Nat.{add-zero}
 use borrow.Author.Tests.{eq-eqb, ne-eqb, not-true, not-false}
 use Rattle.octets.specs.LittleEndian.{over}
 use Rattle.counters.specs.declared.SequenceNumber.{SequenceNumber}
@@ -23,7 +22,7 @@ use Rattle.element.specs.Lists.{allOnes}
 use Rattle.element.proofs.ListParts.{targets-length}
 use Rattle.element.proofs.Scans.{each-length}
 use Rattle.element.proofs.Written.{target-length}
-use Rattle.element.proofs.Listing.{Listing, listing-more, listing-counted, listing-written}
+use Rattle.element.proofs.Listing.{Listing, listing-more, listing-counted, listing-written, skipped-place, skipped-written}
 use Rattle.rules.specs.declared.Arrival.{Arrival}
 use Rattle.rules.specs.Flags.{hasRF, withDO, replyWanted}
 use Rattle.rules.specs.Destinations.{Answered, keptAfterReply, forOneself, forAllOnes, answered, allAnswered}
@@ -90,11 +89,10 @@ module _ (t : List ℕ) (c : ℕ) (q : Target) where
       none-kept = ap (λ (j : Kept). flatMap targetOctets (keptIn j)) (sym struck) ∙ kept-octets
 
       pub struck-place : at ≡ at + length (keptOctets t c q)
-      struck-place = sym (add-zero at) ∙ ap (λ (l : List ℕ). at + length l) none-kept
+      struck-place = skipped-place s at (keptOctets t c q) none-kept
 
       pub struck-written : s ≡ over s at (keptOctets t c q)
-      unfolding over
-      struck-written = ap (over s at) none-kept
+      struck-written = skipped-written s at (keptOctets t c q) none-kept
 
   kept-short : length (keptOctets t c q) ≤ 11
   unfolding keptOctets keptOf

@@ -1,11 +1,11 @@
 -- Entries written one after another, where some may write nothing: what stands before entry i, and with what is left the
 -- whole. Assumes nothing.
 use Prim.Native.Nat.{ℕ, _+_, _-_, _*_, _<_, _≤_}
-use mathlib.Core.Path.{_≡_, ap, _∙_}
-use mathlib.Core.List.{List, _++_, flatMap}
+use mathlib.Core.Path.{_≡_, sym, ap, _∙_}
+use mathlib.Core.List.{List, [], _++_, flatMap}
 use lib.ListN.{length, length-append}
 use native.Mathlib.Omega.{arith}
-use native.Mathlib.Nat.{sub-zero, mul-zero, mul-suc}
+use native.Mathlib.Nat.{add-zero, sub-zero, mul-zero, mul-suc}
 use native.Mathlib.Numerals.{add-one}
 use Rattle.octets.specs.LittleEndian.{over}
 use Rattle.element.specs.Entries.{each}
@@ -52,3 +52,12 @@ module _ {A : Type 0} (write : A → List ℕ) (entry : ℕ → A) (n size : ℕ
 
       pub listing-written : out ≡ over out₀ at wholeList
       listing-written = entries-ended write entry n out (over out₀ at wholeList) i place l (so-far .written)
+
+-- one that writes nothing
+module _ (s : List ℕ) (at : ℕ) (p : List ℕ) (none : [] ≡ p) where
+  pub skipped-place : at ≡ at + length p
+  skipped-place = sym (add-zero at) ∙ ap (λ (l : List ℕ). at + length l) none
+
+  pub skipped-written : s ≡ over s at p
+  unfolding over
+  skipped-written = ap (over s at) none

@@ -100,26 +100,31 @@ module _ (s t ys : List ℕ) (at : ℕ) where
 
 -- ---- a list after the start
 
--- what is written after the start makes the frame
 module _ (to : Address) (s t u : List ℕ) (at at′ : ℕ) where
+  both-parts : (e : Element) (n : ℕ) → n ≡ countOf e
+      → over s at (frameStart to (kindOf e) n (fieldNumbers e) ++ listOctets e) ≡ over s at (writeFrame to e)
+  both-parts e n ne =
+      ap (λ (m : ℕ). over s at (frameStart to (kindOf e) m (fieldNumbers e) ++ listOctets e)) ne ∙ ap (over s at) (sym (frame-parts to e))
+
+  list-place : (e : Element) (n : ℕ) → at′ ≡ at + (8 + lengthWith (kindOf e) 0) → at′ ≡ at + length (frameStart to (kindOf e) n (fieldNumbers e))
+  list-place e n ae = ae ∙ ap (λ (k : ℕ). at + k) (sym (start-length to e n))
+
+  -- what is written after the start makes the frame
   pub finished : (e : Element) (n : ℕ) → n ≡ countOf e → t ≡ over s at (frameStart to (kindOf e) n (fieldNumbers e)) → at′ ≡ at + (8 + lengthWith (kindOf e) 0)
       → u ≡ over t at′ (listOctets e) → u ≡ over s at (writeFrame to e)
   finished e n ne te ae ue =
-      let start : List ℕ = frameStart to (kindOf e) n (fieldNumbers e) in
-      ue ∙ ap₂ (λ (l : List ℕ) (k : ℕ). over l k (listOctets e)) te (ae ∙ ap (λ (k : ℕ). at + k) (sym (start-length to e n)))
-      ∙ sym (over-append s at start (listOctets e))
-      ∙ ap (λ (m : ℕ). over s at (frameStart to (kindOf e) m (fieldNumbers e) ++ listOctets e)) ne
-      ∙ ap (over s at) (sym (frame-parts to e))
+      ue ∙ ap₂ (λ (l : List ℕ) (k : ℕ). over l k (listOctets e)) te (list-place e n ae)
+      ∙ sym (over-append s at (frameStart to (kindOf e) n (fieldNumbers e)) (listOctets e))
+      ∙ both-parts e n ne
 
-  -- so does the start that is written after its list, when the entries are counted
-  pub started-last : (e : Element) (n : ℕ) → n ≡ countOf e → t ≡ over s at′ (listOctets e) → at′ ≡ at + (8 + lengthWith (kindOf e) 0)
+  -- and so does the start, where the list is written before it
+  pub started-last : (e : Element) (n : ℕ) → n ≡ countOf e → at′ ≡ at + (8 + lengthWith (kindOf e) 0) → t ≡ over s at′ (listOctets e)
       → u ≡ over t at (frameStart to (kindOf e) n (fieldNumbers e)) → u ≡ over s at (writeFrame to e)
-  started-last e n ne te ae ue =
+  started-last e n ne ae te ue =
       let start : List ℕ = frameStart to (kindOf e) n (fieldNumbers e) in
-      ue ∙ ap (λ (l : List ℕ). over l at start) (te ∙ ap (λ (k : ℕ). over s k (listOctets e)) (ae ∙ ap (λ (k : ℕ). at + k) (sym (start-length to e n))))
+      ue ∙ ap (λ (l : List ℕ). over l at start) (te ∙ ap (λ (k : ℕ). over s k (listOctets e)) (list-place e n ae))
       ∙ over-before s at start (listOctets e)
-      ∙ ap (λ (m : ℕ). over s at (frameStart to (kindOf e) m (fieldNumbers e) ++ listOctets e)) ne
-      ∙ ap (over s at) (sym (frame-parts to e))
+      ∙ both-parts e n ne
 
   module _ (part : List ℕ) (n : ℕ) where
     targets-counted : n ≡ length part / 11 → n ≡ length (targetsIn part)

@@ -100,7 +100,7 @@ module _ (t : List ℕ) (c : ℕ) (part : List ℕ) (to : Address) (f : RreqFiel
         → w ≡ over out at (frameOctets (sentWith to f (keptAmong t c part)))
     kept-sent w we =
         one-written (sentWith to f (keptAmong t c part)) to (rreq f (keptAmong t c part)) sent-one out w at
-        (started-last to out v w at (at + 34) (rreq f (keptAmong t c part)) ((end - (at + 34)) / 11) (omega (arith, ee)) ve refl we)
+        (started-last to out v w at (at + 34) (rreq f (keptAmong t c part)) ((end - (at + 34)) / 11) (omega (arith, ee)) refl ve we)
 
 -- ---- to its receiver, if there is one
 
