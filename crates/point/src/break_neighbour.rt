@@ -33,7 +33,7 @@ fn check(table: &[u8], output: &[u8], clock: u64, neighbour: Address) -> Answer
 }
 
 // Whether the row is active, with this next hop.
-fn is_through(r: Row, clock: u64, hop: Address) -> bool
+pub fn is_through(r: Row, clock: u64, hop: Address) -> bool
     ensures { λ b. ⌜ b ≡ isThrough clock hop r ⌝ }
 {
     r.is_active(clock) & (r.next.0 == hop.0)

@@ -1,0 +1,2 @@
+// What a received RERR does: which of its destinations match.
+pub mod matching;

@@ -1,0 +1,49 @@
+// The matches of a RERR: destinations that this point reaches through its transmitter.
+use element::NumberedAddress;
+use element::list;
+use point::break_neighbour;
+use rules::Arrival;
+use table::row;
+use table::row::Row;
+use table::search;
+use table::search::Found;
+ghost use mathlib.Core.Path.{_≡_};
+ghost use mathlib.Core.Bool.{not};
+ghost use Prim.Native.Nat.{_≤_};
+ghost use lib.ListN.{length};
+ghost use Rattle.element.specs.Entries.{numberedIn};
+ghost use Rattle.rules.specs.Errors.{isLostBy, matches};
+ghost use Rattle.rules.specs.Lists.{any};
+
+// Whether the row is active, of known number, with the transmitter as next hop: an error of another's path is none of ours.
+pub fn is_lost_by(a: Arrival, r: Row) -> bool
+    ensures { λ b. ⌜ b ≡ isLostBy (a .clock) (a .transmitter) r ⌝ }
+{
+    break_neighbour::is_through(r, a.clock, a.transmitter) & (r.known == 1)
+}
+
+pub fn is_match(table: &[u8], a: Arrival, m: NumberedAddress) -> bool
+    requires { ⌜ 32 ≤ length (now table) ⌝ }
+    ensures { λ b. ⌜ b ≡ matches (now (table .entry)) (a .clock) (a .transmitter) m ⌝ }
+{
+    let Found::At(i) = search::find_row(table, m.address) else {
+        return false;
+    };
+    is_lost_by(a, row::read_row(table, i))
+}
+
+// Refusal 26.
+pub fn matches_nothing(table: &[u8], a: Arrival, part: &[u8]) -> bool
+    requires { ⌜ 32 ≤ length (now table) ⌝ }
+    ensures { λ b. ⌜ b ≡ not (any (matches (now (table .entry)) (a .clock) (a .transmitter)) (numberedIn (now (part .entry)))) ⌝ }
+{
+    let n = part.len() / 10;
+    let mut i = 0;
+    while i < n {
+        if is_match(table, a, list::numbered_at(part, i)) {
+            return false;
+        }
+        i += 1;
+    }
+    true
+}
