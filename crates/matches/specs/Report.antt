@@ -1,0 +1,12 @@
+-- What the RERR that goes on has of a destination. For the code's own functions: `matches-octets` says that all of these are
+-- the octets of those that match. Assumes nothing.
+use Prim.Native.Nat.{ℕ}
+use mathlib.Core.Bool.{cond}
+use mathlib.Core.List.{List, []}
+use Rattle.element.specs.declared.NumberedAddress.{NumberedAddress}
+use Rattle.element.specs.Entries.{numberedOctets}
+use Rattle.rules.specs.declared.Arrival.{Arrival}
+use Rattle.rules.specs.Errors.{matches}
+
+unfoldable pub matchOctets : List ℕ → Arrival → NumberedAddress → List ℕ
+matchOctets t a m = cond (matches t (a .clock) (a .transmitter) m) (numberedOctets m) []
