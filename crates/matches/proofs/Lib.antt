@@ -1,2 +1,3 @@
 mod Listed
 mod LostBy
+mod LostRows

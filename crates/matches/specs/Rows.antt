@@ -1,0 +1,9 @@
+-- The number beside a destination. For the code's own functions. Assumes nothing.
+use mathlib.Core.Option.{Option, none, some}
+use Rattle.counters.specs.declared.SequenceNumber.{SequenceNumber}
+use Rattle.matches.specs.declared.rows.Beside.{Beside}
+use Rattle.matches.specs.declared.rows.Beside.the-variants.{Number, Nothing}
+
+abbrev pub numberIn : Beside → Option SequenceNumber
+numberIn (Number n) = some n
+numberIn Nothing = none

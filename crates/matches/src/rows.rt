@@ -1,0 +1,88 @@
+// What a RERR makes of the rows of its matches.
+use crate::matching;
+use counters::SequenceNumber;
+use element::list;
+use rules::Arrival;
+use table::address::Address;
+use table::row;
+use table::row::Row;
+use table::search;
+ghost use mathlib.Core.Path.{_≡_};
+ghost use mathlib.Core.Option.{some};
+ghost use Prim.Native.Nat.{_+_, _≤_};
+ghost use lib.ListN.{length};
+ghost use Rattle.table.specs.Layout.{place};
+ghost use Rattle.table.specs.Table.{changeAt, changeBelow, changeWhere};
+ghost use Rattle.element.specs.Entries.{numberedIn};
+ghost use Rattle.rules.specs.Errors.{erred, erredWith, isMatch, numberBeside};
+ghost use Rattle.matches.specs.Rows.{numberIn};
+
+// The number beside a destination that the RERR names, if it does.
+pub enum Beside {
+    Number(SequenceNumber),
+    Nothing,
+}
+
+fn number_beside(part: &[u8], d: Address) -> Beside
+    ensures { λ r. ⌜ numberIn r ≡ numberBeside d (numberedIn (now (part .entry))) ⌝ }
+{
+    let n = part.len() / 10;
+    let mut i = 0;
+    while i < n {
+        let m = list::numbered_at(part, i);
+        if m.address.0 == d.0 {
+            let number = m.number;
+            return Beside::Number(number);
+        }
+        i += 1;
+    }
+    Beside::Nothing
+}
+
+// The row stays held; a received number that is newer is taken, so that what was learnt under the old one is stale.
+fn erred(number: SequenceNumber, r: Row) -> Row
+    ensures { λ s. ⌜ s ≡ erredWith (some number) r ⌝ }
+{
+    let stored = r.number;
+    let lost = r.invalidated();
+    if !number.is_newer(stored) {
+        return lost;
+    }
+    lost.raised(number)
+}
+
+// Row i, if it is that of a match.
+fn lose_row(table: &mut [u8], i: usize, a: Arrival, part: &[u8])
+    requires { ⌜ place i + 32 ≤ length (now table) ⌝ }
+    ensures { λ _. ⌜ now (table .exit) ≡ changeAt (isMatch (a .clock) (a .transmitter) (numberedIn (now (part .entry)))) (erred (numberedIn (now (part .entry)))) i (now (table .entry)) ⌝ }
+{
+    let r = row::read_row(table, i);
+    if !matching::is_lost_by(a, r) {
+        return;
+    }
+    let Beside::Number(number) = number_beside(part, r.destination) else {
+        return;
+    };
+    row::write_row(table, i, erred(number, r));
+}
+
+// Those of the n first rows.
+fn lose_rows(table: &mut [u8], n: usize, a: Arrival, part: &[u8])
+    requires { ⌜ place n ≤ length (now table) ⌝ }
+    ensures { λ _. ⌜ now (table .exit) ≡ changeBelow (isMatch (a .clock) (a .transmitter) (numberedIn (now (part .entry)))) (erred (numberedIn (now (part .entry)))) n (now (table .entry)) ⌝ }
+{
+    let mut i = 0;
+    while i < n {
+        lose_row(table, i, a, part);
+        i += 1;
+    }
+}
+
+// Invalidates the row of each match.
+pub fn lose_matches(table: &mut [u8], a: Arrival, part: &[u8])
+    requires { ⌜ 32 ≤ length (now table) ⌝ }
+    ensures { λ _. ⌜ now (table .exit) ≡ changeWhere (isMatch (a .clock) (a .transmitter) (numberedIn (now (part .entry)))) (erred (numberedIn (now (part .entry)))) (now (table .entry)) ⌝ }
+{
+    let n = search::rows_of(table);
+    lose_rows(table, n, a, part);
+}
