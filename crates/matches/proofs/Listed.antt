@@ -25,7 +25,7 @@ use Rattle.rules.specs.Onward.{toAll}
 use Rattle.rules.specs.Outcome.{frameOctets}
 use Rattle.rules.proofs.Alls.{those-fewer, those-some}
 use Rattle.rules.proofs.Branches.{cond-cases}
-use Rattle.rules.proofs.Frames.{one-frame}
+use Rattle.rules.proofs.FrameOctets.{one-frame}
 use Rattle.matches.specs.Report.{matchOctets}
 
 -- those of these destinations that match
