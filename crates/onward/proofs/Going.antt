@@ -43,9 +43,6 @@ use Rattle.onward.specs.Sent.{sentTo, activeHop, replyHop, rrepForward}
 
 -- ---- no frame, or one
 
-pub nothing-emitted : _≡_ {A = Emitted} (record { frames = 0; octets = 0 }) (emitted [])
-nothing-emitted = rw no-frame
-
 -- frames that are none
 module _ (frames : List Frame) (none-sent : frames ≡ []) where
   pub none-counted : (e : Emitted) → e ≡ emitted [] → e ≡ emitted frames

@@ -22,9 +22,9 @@ pub fn send_on(output: &mut [u8], a: Arrival, p: PathInfo) -> Emitted
     ensures { λ _. ⌜ now (output .exit) ≡ over (now (output .entry)) 0 (frameOctets (rannOnward a p)) ⌝ }
 {
     if p.ttl < 2 {
-        return crate::nothing();
+        return Emitted::nothing();
     }
     let path = crate::onward(a, p);
     let octets = write::write_rann(output, 0, Address(list::ALL_ONES), path);
-    crate::one_frame(octets)
+    Emitted::one_frame(octets)
 }

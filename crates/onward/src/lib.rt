@@ -6,13 +6,10 @@ pub mod request;
 
 use element::PathInfo;
 use learn::here;
-use point::Emitted;
 use rules::Arrival;
 ghost use mathlib.Core.Path.{_≡_};
-ghost use mathlib.Core.List.{[]};
 ghost use Prim.Native.Nat.{_+_, _<_, _≤_};
 ghost use Rattle.rules.specs.Onward.{onward};
-ghost use Rattle.point.specs.Answers.{emitted};
 
 // The three changes: hop count + 1, TTL - 1, metric + link.
 fn onward(a: Arrival, p: PathInfo) -> PathInfo
@@ -33,26 +30,5 @@ fn onward(a: Arrival, p: PathInfo) -> PathInfo
         number,
         lifetime: p.lifetime,
         metric,
-    }
-}
-
-// Where nothing goes on.
-fn nothing() -> Emitted
-    ensures { λ r. ⌜ r ≡ emitted [] ⌝ }
-{
-    Emitted {
-        frames: 0,
-        octets: 0,
-    }
-}
-
-// Where one frame of so many octets goes on.
-fn one_frame(octets: usize) -> Emitted
-    requires { ⌜ octets ≤ 1560 ⌝ }
-    ensures { λ r. ⌜ r ≡ record { frames = 1; octets = octets } ⌝ }
-{
-    Emitted {
-        frames: 1,
-        octets: octets as u32,
     }
 }

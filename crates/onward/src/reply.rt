@@ -49,10 +49,10 @@ fn send_to(output: &mut [u8], receiver: Receiver, f: RrepFields, part: &[u8]) ->
     ensures { λ _. ⌜ now (output .exit) ≡ over (now (output .entry)) 0 (frameOctets (sentTo (rrep f (numberedIn (now (part .entry)))) receiver)) ⌝ }
 {
     let Receiver::To(next) = receiver else {
-        return crate::nothing();
+        return Emitted::nothing();
     };
     let octets = write::write_rrep(output, 0, next, f, part);
-    crate::one_frame(octets)
+    Emitted::one_frame(octets)
 }
 
 pub fn send_on(output: &mut [u8], table: &[u8], a: Arrival, f: RrepFields, part: &[u8]) -> Emitted

@@ -64,10 +64,10 @@ fn send_kept(
     let list = at + 34;
     let end = kept::write_kept(output, list, table, clock, part);
     if end == list {
-        return crate::nothing();
+        return Emitted::nothing();
     }
     write::start_rreq(output, at, to, f, (end - list) / 11);
-    crate::one_frame(end - at)
+    Emitted::one_frame(end - at)
 }
 
 // The same to the receiver of the RREQ, if there is one.
@@ -88,7 +88,7 @@ fn send(
 {
     match hop_of(table, clock, f.path, part) {
         Receiver::To(to) => send_kept(output, at, to, f, table, clock, part),
-        Receiver::Nobody => crate::nothing(),
+        Receiver::Nobody => Emitted::nothing(),
     }
 }
 
@@ -112,7 +112,7 @@ pub fn send_on(
     ensures { λ _. ⌜ now (output .exit) ≡ over (now (output .entry)) at (frameOctets (rreqOnward (now (table .entry)) a f (keptAmong (now (table .entry)) (a .clock) (now (part .entry))))) ⌝ }
 {
     if f.path.ttl < 2 {
-        return crate::nothing();
+        return Emitted::nothing();
     }
     send(output, at, fields_onward(a, f), table, a.clock, part)
 }

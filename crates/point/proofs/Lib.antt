@@ -1,7 +1,7 @@
 mod Asked
 mod Broken
 mod Cases
-mod Checks
-mod Neighbours
+pub mod Checks
+pub mod Neighbours
 mod Originated
 mod Reported

@@ -11,7 +11,9 @@ mod originate;
 pub mod root_request;
 
 ghost use mathlib.Core.Path.{_≡_};
-ghost use Rattle.point.specs.Answers.{answerOf};
+ghost use mathlib.Core.List.{[]};
+ghost use Prim.Native.Nat.{_≤_};
+ghost use Rattle.point.specs.Answers.{answerOf, emitted};
 
 // Octets of an output that holds the frames of any call.
 pub const LEAST_OUTPUT: usize = 1560;
@@ -26,6 +28,27 @@ pub enum Answer {
 pub struct Emitted {
     pub frames: u32,
     pub octets: u32,
+}
+
+impl Emitted {
+    pub fn nothing() -> Self
+        ensures { λ r. ⌜ r ≡ emitted [] ⌝ }
+    {
+        Emitted {
+            frames: 0,
+            octets: 0,
+        }
+    }
+
+    pub fn one_frame(octets: usize) -> Self
+        requires { ⌜ octets ≤ 1560 ⌝ }
+        ensures { λ r. ⌜ r ≡ record { frames = 1; octets = octets } ⌝ }
+    {
+        Emitted {
+            frames: 1,
+            octets: octets as u32,
+        }
+    }
 }
 
 // The answer of a call that may emit frames.
