@@ -122,6 +122,10 @@ module _ (t : List ℕ) (a : Arrival) (part : List ℕ) (place : ℕ) (pe : plac
         started-last allOnes output w v 0 10 (rerr flags (matched t a (numberedIn part))) n counted refl we ve
         ∙ ap (over output 0) (sym (one-frame (record { receiver = allOnes; element = rerr flags (matched t a (numberedIn part)) })))
 
+  pub error-short : length part ≤ 250 → place ≤ 260
+  error-short l =
+      omega (arith, many, those-fewer (matches t (a .clock) (a .transmitter)) (numberedIn part), each-length (numberedAt part) 0 (length part / 10))
+
   pub error-place : (flags : ℕ) → place ≡ length (frameOctets (toAll (rerr flags (matched t a (numberedIn part)))))
   error-place flags =
       let error = rerr flags (matched t a (numberedIn part)) in

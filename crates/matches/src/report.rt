@@ -62,6 +62,7 @@ pub fn write_error(output: &mut [u8], table: &[u8], a: Arrival, flags: u8, part:
     requires { ⌜ length (now part) ≤ 250 ⌝ }
     requires { ⌜ 1560 ≤ length (now output) ⌝ }
     requires { ⌜ any (matches (now table) (a .clock) (a .transmitter)) (numberedIn (now part)) ≡ Bool.true ⌝ }
+    ensures { λ r. ⌜ r ≤ 260 ⌝ }
     ensures { λ r. ⌜ r ≡ length (frameOctets (toAll (rerr flags (those (matches (now (table .entry)) (a .clock) (a .transmitter)) (numberedIn (now (part .entry))))))) ⌝ }
     ensures { λ _. ⌜ now (output .exit) ≡ over (now (output .entry)) 0 (frameOctets (toAll (rerr flags (those (matches (now (table .entry)) (a .clock) (a .transmitter)) (numberedIn (now (part .entry))))))) ⌝ }
 {

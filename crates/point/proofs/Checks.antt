@@ -56,6 +56,16 @@ part-passed (k ∷ part) checks e = by (k .applies) e (part-passed part checks)
     by true e rest = let z : _≡_ {A = ℕ} 0 1 = cc in absurd (omega arith)
     by false e rest = rest e
 
+pub part-decided : {A : Type 0} (x : A) (part checks : List Check) → Accepted ≡ answerTo part → judged checks x ≡ judged (part ++ checks) x
+unfolding answerTo
+part-decided x [] checks e = refl
+part-decided x (k ∷ part) checks e = by (k .applies) e (part-decided x part checks)
+  where
+    by : (b : Bool) → Accepted ≡ cond b (Refused (k .number)) (answerTo part) → (Accepted ≡ answerTo part → judged checks x ≡ judged (part ++ checks) x)
+        → judged checks x ≡ cond b (refused (k .number)) (judged (part ++ checks) x)
+    by true e rest = let z : _≡_ {A = ℕ} 0 1 = cc in absurd (omega arith)
+    by false e rest = rest e
+
 -- the test of a check, by that of the code
 module _ (a b : Bool) (e : a ≡ b) (v : Bool) where
   pub as-tested : a ≡ v → b ≡ v

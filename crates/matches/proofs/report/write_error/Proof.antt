@@ -1,6 +1,6 @@
 -- `matches::report::write_error` meets its contract: the matches, and the start before them. Assumes nothing.
 use borrow.Author.Needs.{needs}
-use Rattle.matches.proofs.Listed.{error-some, error-few, error-place, error-written}
+use Rattle.matches.proofs.Listed.{error-some, error-few, error-short, error-place, error-written}
 use Rattle.matches.proofs.report.write_error.Statement.{statement}
 use Rattle.matches.proofs.report.write_error.Tie as tie
 
@@ -12,4 +12,4 @@ write-error-spec =
     (λ c. search needs)
     (λ c κs. (search error-some, (search error-few, search needs)))
     (λ c. search needs)
-    (λ c. (search error-place, search error-written)))
+    (λ c. (search error-short, (search error-place, search error-written))))

@@ -1,0 +1,124 @@
+-- Receive by its first checks, by what is read, and by type, as the code asks it. Assumes nothing.
+use Prim.Native.Nat.{ℕ, _-_, _^_, _≤_}
+use mathlib.Core.Path.{_≡_, refl, sym, ap, _∙_}
+use mathlib.Core.Bool.{Bool, true, false, cond, false≢true}
+use mathlib.Core.List.{List, _++_}
+use lib.ListN.{length}
+use native.Mathlib.Omega.{arith}
+use borrow.Author.Tests.{ltb-false, not-false}
+use Rattle.table.specs.Layout.{sized}
+use Rattle.table.proofs.Cases.{sized-long, sized-short}
+use Rattle.element.specs.declared.PathInfo.{PathInfo}
+use Rattle.element.specs.declared.RreqFields.{RreqFields}
+use Rattle.element.specs.declared.RrepFields.{RrepFields}
+use Rattle.element.specs.declared.read.Reading.{Reading}
+use Rattle.element.specs.declared.read.Reading.the-variants.{Announcement, Request, Reply, Error, Refused as Unread}
+use Rattle.element.specs.Element.{Element, rann, rreq, rrep, rerr}
+use Rattle.element.specs.Entries.{numberedIn, targetsIn}
+use Rattle.element.specs.Octets.{wrongLength, otherId, misfit, readElement, fixedFields, reading, listPart}
+use Rattle.element.proofs.Readings.{announcement-element, request-element, reply-element, error-element}
+use Rattle.rules.specs.declared.Arrival.{Arrival}
+use Rattle.rules.specs.Decision.{refused}
+use Rattle.rules.specs.Outcome.{Exit, atExit}
+use Rattle.rules.specs.Receive.{receiving, receive}
+use Rattle.rules.proofs.Rulings.{passed-check}
+use Rattle.point.specs.declared.Answer.{Answer}
+use Rattle.point.specs.declared.Answer.the-variants.{Accepted, Refused}
+use Rattle.point.specs.declared.Outcome.the-variants.{Refused as NotDone}
+use Rattle.point.specs.Answers.{answerTo, exits}
+use Rattle.point.proofs.Checks.{answer-passed, part-refused, part-decided, refusal, table-long, table-short, output-long}
+use Rattle.receive.specs.Checks.{arrivalChecks}
+use Rattle.receive.specs.Judged.{judged, readingIn, read}
+
+-- ---- the first checks
+
+module _ (t output : List ℕ) (a : Arrival) (r : Answer) (re : r ≡ answerTo (arrivalChecks t (length output) a)) where
+  pub arrival-refused : (s : List ℕ) (n : ℕ) → r ≡ Refused n → exits (NotDone n) t output ≡ atExit t output (receive t (length output) a s)
+  unfolding receive arrivalChecks
+  arrival-refused s n e =
+      refusal t output (receiving t (length output) a s) (Refused n)
+      (part-refused (arrivalChecks t (length output) a) (readingIn t a s .checks) n (sym e ∙ re)) n refl
+
+  module _ (ok : r ≡ Accepted) where
+    pub arrival-accepted : (s : List ℕ) (x : Exit) → x ≡ atExit t output (read t a s) → x ≡ atExit t output (receive t (length output) a s)
+    unfolding receive read arrivalChecks
+    arrival-accepted s x xe =
+        xe ∙ ap (atExit t output) (part-decided (readingIn t a s .otherwise) (arrivalChecks t (length output) a) (readingIn t a s .checks) (sym ok ∙ re))
+
+    pub arrival-table-long : 32 ≤ length t
+    unfolding arrivalChecks
+    arrival-table-long = table-long t output _ r re ok
+
+    pub arrival-table-short : length t ≤ 4128
+    unfolding arrivalChecks
+    arrival-table-short = table-short t output _ r re ok
+
+    pub arrival-output-long : 1560 ≤ length output
+    unfolding arrivalChecks
+    arrival-output-long = output-long t output _ r re ok
+
+    pub arrival-clock : a .clock ≤ 281474976710655
+    unfolding arrivalChecks
+    arrival-clock =
+        ltb-false 281474976710655 (a .clock)
+        (passed-check 3 (arrivalChecks t (length output) a) (answer-passed (arrivalChecks t (length output) a) (sym ok ∙ re)))
+
+-- ---- what is read
+
+module _ (t : List ℕ) (a : Arrival) (s : List ℕ) (r : Reading) (re : r ≡ reading s) where
+  never-unread : (e : Element) (n : ℕ) → Unread n ≡ fixedFields e → ⊥
+  never-unread (rann p) n h = let z : _≡_ {A = ℕ} 0 1 = cc in omega arith
+  never-unread (rreq f targets) n h = let z : _≡_ {A = ℕ} 0 1 = cc in omega arith
+  never-unread (rrep f dependents) n h = let z : _≡_ {A = ℕ} 0 1 = cc in omega arith
+  never-unread (rerr flags destinations) n h = let z : _≡_ {A = ℕ} 0 1 = cc in omega arith
+
+  unread : (n : ℕ) → r ≡ Unread n → refused n ≡ read t a s
+  unfolding reading read judged
+  unread n e = by (wrongLength s) (otherId s) (misfit s) (sym e ∙ re)
+    where
+      by : (x y z : Bool) → Unread n ≡ cond x (Unread 6) (cond y (Unread 7) (cond z (Unread 8) (fixedFields (readElement s))))
+          → refused n ≡ cond x (refused 6) (cond y (refused 7) (cond z (refused 8) (judged t a (readElement s))))
+      by true y z h = cc
+      by false true z h = cc
+      by false false true h = cc
+      by false false false h = absurd (never-unread (readElement s) n h)
+
+  pub read-refused : (output : List ℕ) (n : ℕ) → r ≡ Unread n → exits (NotDone n) t output ≡ atExit t output (read t a s)
+  unfolding atExit
+  read-refused output n e = ap (atExit t output) (unread n e)
+
+  abbrev isUnread : Reading → Bool
+  isUnread (Announcement p) = false
+  isUnread (Request f) = false
+  isUnread (Reply f) = false
+  isUnread (Error flags) = false
+  isUnread (Unread n) = true
+
+  read-so : isUnread r ≡ false → judged t a (readElement s) ≡ read t a s
+  unfolding reading read judged
+  read-so e = by (wrongLength s) (otherId s) (misfit s) re
+    where
+      by : (x y z : Bool) → r ≡ cond x (Unread 6) (cond y (Unread 7) (cond z (Unread 8) (fixedFields (readElement s))))
+          → judged t a (readElement s) ≡ cond x (refused 6) (cond y (refused 7) (cond z (refused 8) (judged t a (readElement s))))
+      by true y z h = absurd (false≢true (sym e ∙ ap isUnread h))
+      by false true z h = absurd (false≢true (sym e ∙ ap isUnread h))
+      by false false true h = absurd (false≢true (sym e ∙ ap isUnread h))
+      by false false false h = refl
+
+  module _ (output : List ℕ) (x : Exit) where
+    read-as : (q : Reading) → r ≡ q → isUnread q ≡ false → (e : Element) → readElement s ≡ e → x ≡ atExit t output (judged t a e) → x ≡ atExit t output (read t a s)
+    read-as q rq so e ee xe =
+        xe ∙ ap (λ (y : Element). atExit t output (judged t a y)) (sym ee) ∙ ap (atExit t output) (read-so (ap isUnread rq ∙ so))
+
+    pub rann-read : (p : PathInfo) → r ≡ Announcement p → x ≡ atExit t output (judged t a (rann p)) → x ≡ atExit t output (read t a s)
+    rann-read p e = read-as (Announcement p) e refl (rann p) (announcement-element s r re p e)
+
+    module _ (part : List ℕ) (pe : part ≡ listPart s) where
+      pub rreq-read : (f : RreqFields) → r ≡ Request f → x ≡ atExit t output (judged t a (rreq f (targetsIn part))) → x ≡ atExit t output (read t a s)
+      rreq-read f e = read-as (Request f) e refl (rreq f (targetsIn part)) (request-element s r re f e part pe)
+
+      pub rrep-read : (f : RrepFields) → r ≡ Reply f → x ≡ atExit t output (judged t a (rrep f (numberedIn part))) → x ≡ atExit t output (read t a s)
+      rrep-read f e = read-as (Reply f) e refl (rrep f (numberedIn part)) (reply-element s r re f e part pe)
+
+      pub rerr-read : (flags : ℕ) → r ≡ Error flags → x ≡ atExit t output (judged t a (rerr flags (numberedIn part))) → x ≡ atExit t output (read t a s)
+      rerr-read flags e = read-as (Error flags) e refl (rerr flags (numberedIn part)) (error-element s r re flags e part pe)

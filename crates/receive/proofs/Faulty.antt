@@ -1,0 +1,77 @@
+-- What is wrong with a RREQ's destinations, as the code asks it; and one part of the checks after another. Assumes nothing.
+use Prim.Native.Nat.{ℕ, _-_}
+use mathlib.Core.Path.{_≡_, refl, sym, ap, ap₂, _∙_}
+use mathlib.Core.Bool.{Bool, true, false, not, _&&_, _||_}
+use mathlib.Core.List.{List, _++_}
+use lib.Dec.{ltb}
+use lib.ListN.{length}
+use native.Mathlib.Nat.{sub-zero}
+use Rattle.table.specs.declared.address.Address.{Address}
+use Rattle.table.specs.Address.{individual}
+use Rattle.element.specs.declared.RreqFields.{RreqFields}
+use Rattle.element.specs.declared.list.ListKind.the-variants.{Targets}
+use Rattle.element.specs.Element.{rreq}
+use Rattle.element.specs.Entries.{targetsIn}
+use Rattle.element.specs.Lists.{addressIn, entriesIn, addressesFrom, addressesIn, anyForbidden, allOnes, among, twice, onesBesideOthers}
+use Rattle.element.proofs.Scans.{each-length, target-addresses}
+use Rattle.rules.specs.Decision.{Check}
+use Rattle.rules.specs.Flags.{unicast}
+use Rattle.rules.specs.Receive.{hasBadAddress, hasBadList, severalOrAll}
+use Rattle.point.specs.declared.Answer.{Answer}
+use Rattle.point.specs.declared.Answer.the-variants.{Accepted, Refused}
+use Rattle.point.specs.Answers.{answerTo}
+use Rattle.point.proofs.Checks.{part-refused, part-passed}
+
+-- ---- one part of the checks after another
+
+module _ (part : List Check) (r : Answer) (re : r ≡ answerTo part) (checks : List Check) where
+  pub refused-first : (n : ℕ) → r ≡ Refused n → Refused n ≡ answerTo (part ++ checks)
+  refused-first n e = part-refused part checks n (sym e ∙ re)
+
+  pub passed-first : r ≡ Accepted → (x : Answer) → x ≡ answerTo checks → x ≡ answerTo (part ++ checks)
+  passed-first e x xe = xe ∙ part-passed part checks (sym e ∙ re)
+
+-- ---- the destinations of a RREQ
+
+module _ (part : List ℕ) where
+  pub several-is : (n : ℕ) → n ≡ entriesIn Targets part → (o : Bool) → o ≡ among allOnes (addressesIn Targets part)
+      → (ltb 1 n || o) ≡ severalOrAll (addressesIn Targets part)
+  unfolding severalOrAll addressesFrom
+  several-is n ne o oe =
+      let many : n ≡ length (addressesIn Targets part) =
+      ne ∙ sym (each-length (addressIn Targets part) 0 (entriesIn Targets part - 0) ∙ sub-zero (entriesIn Targets part)) in
+      ap₂ (λ (k : ℕ) (b : Bool). ltb 1 k || b) many oe
+
+  module _ (f : RreqFields) where
+    pub bad-address-is : (b : Bool) → b ≡ individual (f .path .subject) → (x : Bool) → x ≡ anyForbidden Targets (addressesIn Targets part)
+        → (not b || x) ≡ hasBadAddress (rreq f (targetsIn part))
+    unfolding hasBadAddress
+    bad-address-is b be x xe = ap₂ (λ (c d : Bool). not c || d) be (xe ∙ ap (anyForbidden Targets) (sym (target-addresses part)))
+
+    listFaults : List Address → Bool
+    listFaults l = twice l || onesBesideOthers l || among (f .path .subject) l || (unicast (f .path) && severalOrAll l)
+
+    bad-list : listFaults (addressesIn Targets part) ≡ hasBadList (rreq f (targetsIn part))
+    unfolding hasBadList listFaults
+    bad-list = ap listFaults (sym (target-addresses part))
+
+    -- the first fault decides
+    module _ (a : Bool) (ae : a ≡ twice (addressesIn Targets part)) where
+      pub named-twice : a ≡ true → true ≡ hasBadList (rreq f (targetsIn part))
+      unfolding listFaults
+      named-twice e = rw (sym ae ∙ e) at bad-list
+
+      module _ (no-a : a ≡ false) (b : Bool) (be : b ≡ onesBesideOthers (addressesIn Targets part)) where
+        pub ones-beside : b ≡ true → true ≡ hasBadList (rreq f (targetsIn part))
+        unfolding listFaults
+        ones-beside e = rw (sym ae ∙ no-a, sym be ∙ e) at bad-list
+
+        module _ (no-b : b ≡ false) (c : Bool) (ce : c ≡ among (f .path .subject) (addressesIn Targets part)) where
+          pub originator-named : c ≡ true → true ≡ hasBadList (rreq f (targetsIn part))
+          unfolding listFaults
+          originator-named e = rw (sym ae ∙ no-a, sym be ∙ no-b, sym ce ∙ e) at bad-list
+
+          pub unicast-to-many : c ≡ false → (u : Bool) → u ≡ unicast (f .path) → (m : Bool) → m ≡ severalOrAll (addressesIn Targets part)
+              → (u && m) ≡ hasBadList (rreq f (targetsIn part))
+          unfolding listFaults
+          unicast-to-many e u ue m me = ap₂ _&&_ ue me ∙ rw (sym ae ∙ no-a, sym be ∙ no-b, sym ce ∙ e) at bad-list

@@ -1,0 +1,4 @@
+mod Faulty
+mod Judging
+mod Calling
+mod Taken

@@ -1,0 +1,170 @@
+-- What an accepted element leaves, type by type, as the code asks it. Assumes nothing.
+use Prim.Native.Nat.{ℕ, _+_, _*_, _/_, _≤_}
+use mathlib.Core.Path.{_≡_, refl, sym, ap, ap₂, _∙_}
+use mathlib.Core.List.{List, [], _∷_, _++_}
+use lib.ListN.{length, length-append}
+use native.Mathlib.Omega.{arith}
+use Rattle.octets.specs.LittleEndian.{over}
+use Rattle.octets.proofs.OctetLists.{over-append}
+use Rattle.counters.specs.declared.SequenceNumber.{SequenceNumber}
+use Rattle.table.specs.declared.row.Head.{Head}
+use Rattle.table.specs.Layout.{headAt, putHead}
+use Rattle.table.specs.Row.{headWith}
+use Rattle.table.specs.Table.{number, changeWhere}
+use Rattle.element.specs.declared.PathInfo.{PathInfo}
+use Rattle.element.specs.declared.RreqFields.{RreqFields}
+use Rattle.element.specs.declared.RrepFields.{RrepFields}
+use Rattle.element.specs.declared.Target.{Target}
+use Rattle.element.specs.Element.{Element, rann, rreq, rrep, rerr, kindOf, countOf}
+use Rattle.element.specs.Entries.{All, numberedIn, targetAt, targetsIn}
+use Rattle.element.specs.Layout.{lengthWith}
+use Rattle.element.proofs.Scans.{each-length}
+use Rattle.element.proofs.Sizes.{frame-length}
+use Rattle.rules.specs.declared.Arrival.{Arrival}
+use Rattle.rules.specs.Decision.{accepted}
+use Rattle.rules.specs.Destinations.{Answered, allAnswered}
+use Rattle.rules.specs.Errors.{matches, isMatch, erred}
+use Rattle.rules.specs.Learn.{learnt}
+use Rattle.rules.specs.Lists.{those}
+use Rattle.rules.specs.Onward.{toAll, rannOnward, rreqOnward, rrepOnward}
+use Rattle.rules.specs.Outcome.{Frame, Exit, frameOctets, underHead, atExit}
+use Rattle.rules.specs.Receive.{rannReceived, rrepReceived, rreqReceived, rerrReceived, received}
+use Rattle.rules.proofs.Emitting.{Emits, rreq-emitted}
+use Rattle.rules.proofs.FrameOctets.{no-frame, one-frame, frames-append}
+use Rattle.point.specs.declared.Emitted.{Emitted}
+use Rattle.point.specs.declared.Outcome.the-variants.{Accepted as Done}
+use Rattle.point.specs.Answers.{emitted, exits}
+use Rattle.point.proofs.Checks.{accepted-exit}
+use Rattle.destinations.specs.declared.replies.Replied.{Replied}
+use Rattle.destinations.specs.Kept.{keptAmong}
+use Rattle.destinations.specs.Replies.{repliedFrom}
+use Rattle.destinations.proofs.KeptOnes.{answered-among, kept-few}
+use Rattle.destinations.proofs.Replying.{replies-long}
+use Rattle.receive.specs.declared.request.Sent.{Sent}
+use Rattle.receive.specs.Sent.{together, framesAfter, sentFor}
+
+-- the head that the table had is stored over these rows
+head-under : (t u : List ℕ) (n : SequenceNumber) (c : ℕ) (h : Head) → h ≡ headAt t → (w : List ℕ) → w ≡ putHead u (headWith n (h .request) c h) → w ≡ underHead t n c u
+head-under t u n c h he w we = we ∙ ap (λ (k : Head). putHead u (headWith n (k .request) c k)) he
+
+module _ (t output : List ℕ) (a : Arrival) (h : Head) (he : h ≡ headAt t) where
+  -- under the own number that it had
+  same-number : (u v w : List ℕ) → u ≡ v → w ≡ putHead u (headWith (h .number) (h .request) (a .clock) h) → w ≡ underHead t (number t) (a .clock) v
+  same-number u v w e we =
+      head-under t u (h .number) (a .clock) h he w we ∙ ap₂ (λ (k : Head) (x : List ℕ). underHead t (k .number) (a .clock) x) he e
+
+  -- ---- a RANN and a RREP
+
+  pub rann-exit : (p : PathInfo) (u : List ℕ) → u ≡ learnt a p t → (e : Emitted) → e ≡ emitted (rannOnward a p)
+      → (v : List ℕ) → v ≡ over output 0 (frameOctets (rannOnward a p))
+      → (w : List ℕ) → w ≡ putHead u (headWith (h .number) (h .request) (a .clock) h) → exits (Done e) w v ≡ atExit t output (accepted (received t a (rann p)))
+  unfolding received rannReceived
+  rann-exit p u ue e ee v ve w we = accepted-exit t output (received t a (rann p)) w v e (same-number u (learnt a p t) w ue we) ve ee
+
+  pub rrep-exit : (f : RrepFields) (part u : List ℕ) → u ≡ learnt a (f .path) t → (e : Emitted) → e ≡ emitted (rrepOnward u a f (numberedIn part))
+      → (v : List ℕ) → v ≡ over output 0 (frameOctets (rrepOnward u a f (numberedIn part)))
+      → (w : List ℕ) → w ≡ putHead u (headWith (h .number) (h .request) (a .clock) h)
+      → exits (Done e) w v ≡ atExit t output (accepted (received t a (rrep f (numberedIn part))))
+  unfolding received rrepReceived
+  rrep-exit f part u ue e ee v ve w we =
+      accepted-exit t output (received t a (rrep f (numberedIn part))) w v e (same-number u (learnt a (f .path) t) w ue we)
+      (ve ∙ ap (λ (x : List ℕ). over output 0 (frameOctets (rrepOnward x a f (numberedIn part)))) ue)
+      (ee ∙ ap (λ (x : List ℕ). emitted (rrepOnward x a f (numberedIn part))) ue)
+
+  -- ---- a RERR
+
+  pub rerr-exit : (flags : ℕ) (part u : List ℕ) → u ≡ changeWhere (isMatch (a .clock) (a .transmitter) (numberedIn part)) (erred (numberedIn part)) t
+      → (octets : ℕ) → octets ≡ length (frameOctets (toAll (rerr flags (those (matches t (a .clock) (a .transmitter)) (numberedIn part)))))
+      → (e : Emitted) → e ≡ record { frames = 1; octets = octets }
+      → (v : List ℕ) → v ≡ over output 0 (frameOctets (toAll (rerr flags (those (matches t (a .clock) (a .transmitter)) (numberedIn part)))))
+      → (w : List ℕ) → w ≡ putHead u (headWith (h .number) (h .request) (a .clock) h)
+      → exits (Done e) w v ≡ atExit t output (accepted (received t a (rerr flags (numberedIn part))))
+  unfolding received rerrReceived
+  rerr-exit flags part u ue octets oe e ee v ve w we =
+      accepted-exit t output (received t a (rerr flags (numberedIn part))) w v e (same-number u _ w ue we) ve
+      (ee ∙ ap (λ (k : ℕ). record { frames = 1; octets = k }) oe)
+
+  -- ---- a RREQ
+
+  pub rreq-exit : (f : RreqFields) (part u : List ℕ) → u ≡ learnt a (f .path) t
+      → (s : Sent) → s ≡ sentFor u a f (allAnswered u a (f .path) (h .number) (targetsIn part))
+      → (v : List ℕ) → v ≡ over output 0 (frameOctets (framesAfter u a f (allAnswered u a (f .path) (h .number) (targetsIn part))))
+      → (w : List ℕ) → w ≡ putHead u (headWith (s .number) (h .request) (a .clock) h)
+      → exits (Done (s .emitted)) w v ≡ atExit t output (accepted (received t a (rreq f (targetsIn part))))
+  unfolding received rreqReceived framesAfter
+  rreq-exit f part u ue s se v ve w we =
+      let done : List ℕ → SequenceNumber → Answered = λ x n. allAnswered x a (f .path) n (targetsIn part) in
+      let own-number : h .number ≡ number t = ap (λ (k : Head). k .number) he in
+      let so : s ≡ sentFor (learnt a (f .path) t) a f (done (learnt a (f .path) t) (number t)) =
+      se ∙ ap₂ (λ (x : List ℕ) (n : SequenceNumber). sentFor x a f (done x n)) ue own-number in
+      accepted-exit t output (received t a (rreq f (targetsIn part))) w v (s .emitted)
+      (head-under t u (s .number) (a .clock) h he w we ∙ ap₂ (λ (x : List ℕ) (k : Sent). underHead t (k .number) (a .clock) x) ue so)
+      (ve ∙ ap₂ (λ (x : List ℕ) (n : SequenceNumber). over output 0 (frameOctets (framesAfter x a f (done x n)))) ue own-number)
+      (ap (λ (k : Sent). k .emitted) so)
+
+-- the replies, and after them what goes on
+module _ (u : List ℕ) (a : Arrival) (f : RreqFields) (n : SequenceNumber) (part : List ℕ) (replied : Replied)
+    (re : replied ≡ repliedFrom 0 (allAnswered u a (f .path) n (targetsIn part))) where
+  abbrev x : Answered
+  x = allAnswered u a (f .path) n (targetsIn part)
+
+  abbrev kept : List Target
+  kept = keptAmong u (a .clock) part
+
+  all-kept : x .kept ≡ kept
+  all-kept = answered-among u a (f .path) n part
+
+  place-is : replied .place ≡ 40 * length (x .replies)
+  place-is = omega (arith, ap (λ (k : Replied). k .place) re, replies-long u a (f .path) n (targetsIn part) .0)
+
+  pub replies-few : length part ≤ 220 → replied .place ≤ 800
+  replies-few l = omega (arith, place-is, replies-long u a (f .path) n (targetsIn part) .1, each-length (targetAt part) 0 (length part / 11))
+
+  pub replies-room : length part ≤ 220 → (out₀ out : List ℕ) → 1560 ≤ length out₀ → length out ≡ length out₀ → replied .place + 254 ≤ length out
+  replies-room l out₀ out room same-length = omega (arith, replies-few l)
+
+  module _ (onward : Emitted) (oe : onward ≡ emitted (rreqOnward u a f kept)) where
+    -- a RREQ with so many destinations is at most so long
+    abbrev Short : Element → Type 0
+    Short e = lengthWith (kindOf e) (countOf e) ≤ 26 + 11 * (length part / 11)
+
+    goes-on : Emits Short 1 (rreqOnward u a f kept)
+    goes-on = rreq-emitted Short u a f kept (λ _. omega (arith, kept-few u (a .clock) part))
+
+    pub onward-few : onward .frames ≤ 1
+    onward-few = rw oe (goes-on .few)
+
+    pub onward-short : length part ≤ 220 → onward .octets ≤ 254
+    unfolding All
+    onward-short l = rw oe (by (rreqOnward u a f kept) goes-on)
+      where
+        by : (frames : List Frame) → Emits Short 1 frames → length (frameOctets frames) ≤ 254
+        by [] m = omega (arith, ap length no-frame)
+        by (f₁ ∷ []) m = omega (arith, l, ap length (one-frame f₁), frame-length (f₁ .receiver) (f₁ .element), m .each .0)
+        by (f₁ ∷ f₂ ∷ frames) m = absurd (omega (arith, m .few))
+
+    pub answer-counted : (s : Sent) → s ≡ together replied onward → s ≡ sentFor u a f x
+    unfolding framesAfter
+    answer-counted s se =
+        let frames : List Frame = x .replies ++ rreqOnward u a f (x .kept) in
+        let going : onward ≡ emitted (rreqOnward u a f (x .kept)) = oe ∙ ap (λ (k : List Target). emitted (rreqOnward u a f k)) (sym all-kept) in
+        let many : replied .place / 40 + onward .frames ≡ length frames =
+        omega (arith, place-is, ap (λ (k : Emitted). k .frames) going, length-append (x .replies) (rreqOnward u a f (x .kept))) in
+        let long : replied .place + onward .octets ≡ length (frameOctets frames) =
+        omega (
+          arith,
+          ap (λ (k : Replied). k .place) re,
+          ap (λ (k : Emitted). k .octets) going,
+          ap length (frames-append (x .replies) (rreqOnward u a f (x .kept))),
+          length-append (frameOctets (x .replies)) (frameOctets (rreqOnward u a f (x .kept))),
+        ) in
+        se ∙ rw (many, long, ap (λ (k : Replied). k .number) re)
+
+    pub answer-written : (out w v : List ℕ) → w ≡ over out 0 (frameOctets (x .replies)) → v ≡ over w (replied .place) (frameOctets (rreqOnward u a f kept))
+        → v ≡ over out 0 (frameOctets (framesAfter u a f x))
+    unfolding framesAfter
+    answer-written out w v we ve =
+        ve ∙ ap₂ (λ (l : List ℕ) (k : ℕ). over l k (frameOctets (rreqOnward u a f kept))) we (ap (λ (k : Replied). k .place) re)
+        ∙ sym (over-append out 0 (frameOctets (x .replies)) (frameOctets (rreqOnward u a f kept)))
+        ∙ ap (over out 0) (sym (frames-append (x .replies) (rreqOnward u a f kept)))
+        ∙ ap (λ (k : List Target). over out 0 (frameOctets (x .replies ++ rreqOnward u a f k))) (sym all-kept)

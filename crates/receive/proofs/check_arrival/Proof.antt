@@ -1,0 +1,19 @@
+-- `receive::check_arrival` meets its contract: the checks of the operands, then of the link. Assumes nothing.
+use borrow.Author.Needs.{needs}
+use Rattle.receive.specs.Checks.{arrivalChecks}
+use Rattle.point.proofs.Checks.{checking}
+use Rattle.point.proofs.Neighbours.{operands-refused, operands-passed}
+use Rattle.receive.proofs.check_arrival.Statement.{statement}
+use Rattle.receive.proofs.check_arrival.Tie as tie
+
+pub check-arrival-spec : {M : Type 1} → statement M
+unfolding arrivalChecks
+check-arrival-spec =
+    tie.close
+    (tie.spec
+    (λ c κs. search needs)
+    (λ c. search needs)
+    (λ c. search operands-refused)
+    (λ c. search needs)
+    (λ c. search (checking, operands-passed) depth 40)
+    (λ c. search (checking, operands-passed) depth 40))

@@ -1,0 +1,19 @@
+-- `receive::error::receive` meets its contract: by its check, and by what an accepted one does. Assumes nothing.
+use borrow.Author.Needs.{needs}
+use Rattle.receive.proofs.Judging.{element-refused, element-accepted, some-match}
+use Rattle.receive.proofs.error.receive.Statement.{statement}
+use Rattle.receive.proofs.error.receive.Tie as tie
+
+pub receive-spec : {M : Type 1} → statement M
+receive-spec =
+    tie.close
+    (tie.spec
+    (λ c κs. search needs)
+    (λ c. search needs)
+    (λ c κs. (search needs, (search needs, (search needs, search some-match))))
+    (λ c. search needs)
+    (λ c. search needs)
+    (λ c. search needs)
+    (λ c. search element-accepted)
+    (λ c. search needs)
+    (λ c. search element-refused))

@@ -1,0 +1,19 @@
+-- `receive::faults::rreq_has_bad_list` meets its contract: the first fault decides. Assumes nothing.
+use borrow.Author.Needs.{needs}
+use Rattle.receive.proofs.Faulty.{named-twice, ones-beside, originator-named, unicast-to-many}
+use Rattle.receive.proofs.faults.rreq_has_bad_list.Statement.{statement}
+use Rattle.receive.proofs.faults.rreq_has_bad_list.Tie as tie
+
+pub rreq-has-bad-list-spec : {M : Type 1} → statement M
+rreq-has-bad-list-spec =
+    tie.close
+    (tie.spec
+    (λ c κs. search needs)
+    (λ c. search named-twice)
+    (λ c κs. search needs)
+    (λ c. search ones-beside)
+    (λ c κs. search needs)
+    (λ c. search originator-named)
+    (λ c κs. search needs)
+    (λ c κs. search needs)
+    (λ c. search unicast-to-many))

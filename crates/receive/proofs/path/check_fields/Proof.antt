@@ -1,0 +1,18 @@
+-- `receive::path::check_fields` meets its contract: one check of the list after another. Assumes nothing.
+use borrow.Author.Needs.{needs}
+use Rattle.point.proofs.Checks.{checking}
+use Rattle.receive.proofs.path.check_fields.Statement.{statement}
+use Rattle.receive.proofs.path.check_fields.Tie as tie
+
+pub check-fields-spec : {M : Type 1} → statement M
+check-fields-spec =
+    tie.close
+    (tie.spec
+    (λ c. search checking depth 40)
+    (λ c. search checking depth 40)
+    (λ c. search checking depth 40)
+    (λ c. search checking depth 40)
+    (λ c κs. search needs)
+    (λ c. search checking depth 40)
+    (λ c. search checking depth 40)
+    (λ c. search checking depth 40))

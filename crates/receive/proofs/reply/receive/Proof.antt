@@ -1,0 +1,19 @@
+-- `receive::reply::receive` meets its contract: by its check, and by what an accepted one does. Assumes nothing.
+use borrow.Author.Needs.{needs}
+use Rattle.receive.proofs.Judging.{element-refused, element-accepted, metric-small, hops-small, ttl-left}
+use Rattle.receive.proofs.reply.receive.Statement.{statement}
+use Rattle.receive.proofs.reply.receive.Tie as tie
+
+pub receive-spec : {M : Type 1} → statement M
+receive-spec =
+    tie.close
+    (tie.spec
+    (λ c κs. search needs)
+    (λ c. search needs)
+    (λ c κs. (search needs, (search needs, (search needs, (search metric-small, (search (hops-small, needs, c .before .before .before .before .before .before .before .before .before .good .1 .1 .1 .0), (search ttl-left, (search needs, search needs))))))))
+    (λ c. search needs)
+    (λ c. search needs)
+    (λ c. search needs)
+    (λ c. search element-accepted)
+    (λ c. search needs)
+    (λ c. search element-refused))

@@ -1,0 +1,13 @@
+-- `receive::request::check` meets its contract: by its faults and its path. Assumes nothing.
+use borrow.Author.Needs.{needs}
+use Rattle.receive.proofs.Judging.{rreq-checked}
+use Rattle.receive.proofs.request.check.Statement.{statement}
+use Rattle.receive.proofs.request.check.Tie as tie
+
+pub check-spec : {M : Type 1} → statement M
+check-spec =
+    tie.close
+    (tie.spec
+    (λ c κs. search needs)
+    (λ c κs. search needs)
+    (λ c. search rreq-checked))

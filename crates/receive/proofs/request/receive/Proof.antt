@@ -1,0 +1,19 @@
+-- `receive::request::receive` meets its contract: by its check, and by what an accepted one does. Assumes nothing.
+use borrow.Author.Needs.{needs}
+use Rattle.receive.proofs.Judging.{element-refused, element-accepted, metric-small, hops-small, one-destination}
+use Rattle.receive.proofs.request.receive.Statement.{statement}
+use Rattle.receive.proofs.request.receive.Tie as tie
+
+pub receive-spec : {M : Type 1} → statement M
+receive-spec =
+    tie.close
+    (tie.spec
+    (λ c κs. search needs)
+    (λ c. search needs)
+    (λ c κs. (search needs, (search needs, (search needs, (search needs, (search one-destination, (search needs, (search metric-small, search (hops-small, needs)))))))))
+    (λ c. search needs)
+    (λ c. search needs)
+    (λ c. search needs)
+    (λ c. search element-accepted)
+    (λ c. search needs)
+    (λ c. search element-refused))

@@ -1,0 +1,28 @@
+-- What a RREQ is answered with, while it is written. For the code's own functions: the frames are those of `rreqReceived`.
+-- Assumes nothing.
+use Prim.Native.Nat.{ℕ, _+_, _/_}
+use mathlib.Core.List.{List, _++_}
+use Rattle.element.specs.declared.RreqFields.{RreqFields}
+use Rattle.rules.specs.declared.Arrival.{Arrival}
+use Rattle.rules.specs.Destinations.{Answered}
+use Rattle.rules.specs.Onward.{rreqOnward}
+use Rattle.rules.specs.Outcome.{Frame}
+use Rattle.point.specs.declared.Emitted.{Emitted}
+use Rattle.point.specs.Answers.{emitted}
+use Rattle.destinations.specs.declared.replies.Replied.{Replied}
+use Rattle.receive.specs.declared.request.Sent.{Sent}
+
+-- replies, each of 40 octets, and what goes on after them
+abbrev pub together : Replied → Emitted → Sent
+together replied onward =
+    record {
+      number = replied .number;
+      emitted = record { frames = replied .place / 40 + onward .frames; octets = replied .place + onward .octets };
+    }
+
+-- the replies, and after them the RREQ with the destinations that are kept
+unfoldable pub framesAfter : List ℕ → Arrival → RreqFields → Answered → List Frame
+framesAfter t a f x = x .replies ++ rreqOnward t a f (x .kept)
+
+abbrev pub sentFor : List ℕ → Arrival → RreqFields → Answered → Sent
+sentFor t a f x = record { number = x .number; emitted = emitted (framesAfter t a f x) }

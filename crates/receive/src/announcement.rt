@@ -1,0 +1,57 @@
+// A received RANN.
+use crate::faults;
+use crate::path;
+use element::PathInfo;
+use learn::steps;
+use onward::announcement;
+use point::Answer;
+use point::Outcome;
+use point::clocked;
+use rules::Arrival;
+use table::row;
+ghost use mathlib.Core.Path.{_≡_};
+ghost use Prim.Native.Nat.{_+_, _<_, _≤_};
+ghost use lib.ListN.{length};
+ghost use Rattle.element.specs.Element.{rann};
+ghost use Rattle.rules.specs.Decision.{accepted};
+ghost use Rattle.rules.specs.Outcome.{atExit};
+ghost use Rattle.rules.specs.Receive.{received};
+ghost use Rattle.point.specs.Answers.{answerTo, exits};
+ghost use Rattle.receive.specs.Judged.{elementChecks, judged};
+
+fn check(table: &[u8], a: Arrival, p: PathInfo) -> Answer
+    requires { ⌜ 32 ≤ length (now table) ⌝ }
+    requires { ⌜ length (now table) ≤ 4128 ⌝ }
+    ensures { λ r. ⌜ r ≡ answerTo (elementChecks (now (table .entry)) a (rann p)) ⌝ }
+{
+    path::check(table, a, p, faults::of_rann(p))
+}
+
+// Steps 1 and 2, and it goes on.
+fn take(table: &mut [u8], output: &mut [u8], a: Arrival, p: PathInfo) -> Outcome
+    requires { ⌜ 32 ≤ length (now table) ⌝ }
+    requires { ⌜ 1560 ≤ length (now output) ⌝ }
+    requires { ⌜ a .clock ≤ 281474976710655 ⌝ }
+    requires { ⌜ p .metric .0 + a .link .0 ≤ 4294967294 ⌝ }
+    requires { ⌜ p .hops .0 < 255 ⌝ }
+    ensures { λ r. ⌜ exits r (now (table .exit)) (now (output .exit)) ≡ atExit (now (table .entry)) (now (output .entry)) (accepted (received (now (table .entry)) a (rann p))) ⌝ }
+{
+    let head = row::read_head(table);
+    steps::learn(table, a, p);
+    let emitted = announcement::send_on(output, a, p);
+    clocked::store_head(table, head, head.number, a.clock);
+    Outcome::Accepted(emitted)
+}
+
+pub fn receive(table: &mut [u8], output: &mut [u8], a: Arrival, p: PathInfo) -> Outcome
+    requires { ⌜ 32 ≤ length (now table) ⌝ }
+    requires { ⌜ length (now table) ≤ 4128 ⌝ }
+    requires { ⌜ 1560 ≤ length (now output) ⌝ }
+    requires { ⌜ a .clock ≤ 281474976710655 ⌝ }
+    ensures { λ r. ⌜ exits r (now (table .exit)) (now (output .exit)) ≡ atExit (now (table .entry)) (now (output .entry)) (judged (now (table .entry)) a (rann p)) ⌝ }
+{
+    match check(table, a, p) {
+        Answer::Accepted => take(table, output, a, p),
+        Answer::Refused(n) => Outcome::Refused(n),
+    }
+}

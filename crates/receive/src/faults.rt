@@ -1,0 +1,89 @@
+// Refusals 9, 10 and 14 of an element with a path: what is wrong with it beside the fields of the path.
+use destinations::flags;
+use element::PathInfo;
+use element::RrepFields;
+use element::RreqFields;
+use element::list;
+use element::list::ListKind;
+use table::address::Address;
+ghost use mathlib.Core.Path.{_≡_};
+ghost use mathlib.Core.List.{[]};
+ghost use Rattle.element.specs.Element.{rann, rrep, rreq};
+ghost use Rattle.element.specs.Entries.{targetsIn};
+ghost use Rattle.element.specs.Lists.{addressesIn};
+ghost use Rattle.element.specs.declared.list.ListKind.{ListKind};
+ghost use Rattle.rules.specs.Receive.{hasBadAddress, hasBadList, severalOrAll};
+ghost use Rattle.receive.specs.Checks.{faultsOf};
+
+// In its addresses (9), in its list or in how they go together (10), in its TTL (14).
+pub struct Faults {
+    pub address: bool,
+    pub list: bool,
+    pub ttl: bool,
+}
+
+pub fn of_rann(p: PathInfo) -> Faults
+    ensures { λ r. ⌜ r ≡ faultsOf (rann p) ⌝ }
+{
+    let subject = p.subject;
+    Faults {
+        address: !subject.is_individual(),
+        list: false,
+        ttl: false,
+    }
+}
+
+// An originator or a destination that isn't individual; as a destination all ones is allowed too.
+fn rreq_has_bad_address(f: RreqFields, part: &[u8]) -> bool
+    ensures { λ r. ⌜ r ≡ hasBadAddress (rreq f (targetsIn (now (part .entry)))) ⌝ }
+{
+    let subject = f.path.subject;
+    !subject.is_individual() | list::has_forbidden(part, ListKind::Targets)
+}
+
+// Several destinations or all ones.
+fn is_several_or_all(part: &[u8]) -> bool
+    ensures { λ r. ⌜ r ≡ severalOrAll (addressesIn ListKind.Targets (now (part .entry))) ⌝ }
+{
+    (1 < list::entries_in(part, ListKind::Targets))
+        | list::is_among(part, ListKind::Targets, Address(list::ALL_ONES))
+}
+
+// A destination twice; all ones beside others; the originator among them; a unicast RREQ with several or all ones.
+fn rreq_has_bad_list(f: RreqFields, part: &[u8]) -> bool
+    ensures { λ r. ⌜ r ≡ hasBadList (rreq f (targetsIn (now (part .entry)))) ⌝ }
+{
+    if list::has_twice(part, ListKind::Targets) {
+        return true;
+    }
+    if list::has_ones_beside_others(part, ListKind::Targets) {
+        return true;
+    }
+    if list::is_among(part, ListKind::Targets, f.path.subject) {
+        return true;
+    }
+    flags::is_unicast(f.path) & is_several_or_all(part)
+}
+
+pub fn of_rreq(f: RreqFields, part: &[u8]) -> Faults
+    ensures { λ r. ⌜ r ≡ faultsOf (rreq f (targetsIn (now (part .entry)))) ⌝ }
+{
+    Faults {
+        address: rreq_has_bad_address(f, part),
+        list: rreq_has_bad_list(f, part),
+        ttl: false,
+    }
+}
+
+// Dependents are not looked at.
+pub fn of_rrep(f: RrepFields) -> Faults
+    ensures { λ r. ⌜ r ≡ faultsOf (rrep f []) ⌝ }
+{
+    let subject = f.path.subject;
+    let source = f.source.address;
+    Faults {
+        address: !subject.is_individual() | !source.is_individual(),
+        list: subject.0 == source.0,
+        ttl: f.path.ttl < 2,
+    }
+}

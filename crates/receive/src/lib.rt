@@ -1,0 +1,63 @@
+// Receive an element: its refusals in order, and what each type does.
+mod announcement;
+mod error;
+mod faults;
+mod path;
+mod reply;
+mod request;
+
+use element::read;
+use element::read::Reading;
+use point::Answer;
+use point::Outcome;
+use point::clocked;
+use rules::Arrival;
+ghost use mathlib.Core.Path.{_≡_};
+ghost use Prim.Native.Nat.{_≤_};
+ghost use lib.ListN.{length};
+ghost use Rattle.element.specs.Octets.{reading};
+ghost use Rattle.rules.specs.Outcome.{atExit};
+ghost use Rattle.rules.specs.Receive.{receive};
+ghost use Rattle.point.specs.Answers.{answerTo, exits};
+ghost use Rattle.receive.specs.Checks.{arrivalChecks};
+ghost use Rattle.receive.specs.Judged.{read};
+
+// The refusals 1 to 5.
+fn check_arrival(table: &[u8], output: &[u8], a: Arrival) -> Answer
+    ensures { λ r. ⌜ r ≡ answerTo (arrivalChecks (now (table .entry)) (length (now (output .entry))) a) ⌝ }
+{
+    if let Answer::Refused(n) = clocked::check_operands(table, output, a.clock, a.transmitter) {
+        return Answer::Refused(n);
+    }
+    if a.link.0 == 0 {
+        return Answer::Refused(5);
+    }
+    Answer::Accepted
+}
+
+// By type, after the refusals 1 to 5.
+fn receive_element(table: &mut [u8], output: &mut [u8], a: Arrival, element: &[u8]) -> Outcome
+    requires { ⌜ 32 ≤ length (now table) ⌝ }
+    requires { ⌜ length (now table) ≤ 4128 ⌝ }
+    requires { ⌜ 1560 ≤ length (now output) ⌝ }
+    requires { ⌜ a .clock ≤ 281474976710655 ⌝ }
+    ensures { λ r. ⌜ exits r (now (table .exit)) (now (output .exit)) ≡ atExit (now (table .entry)) (now (output .entry)) (read (now (table .entry)) a (now (element .entry))) ⌝ }
+{
+    let part = read::list_part(element);
+    match read::read(element) {
+        Reading::Announcement(p) => announcement::receive(table, output, a, p),
+        Reading::Request(f) => request::receive(table, output, a, f, part),
+        Reading::Reply(f) => reply::receive(table, output, a, f, part),
+        Reading::Error(flags) => error::receive(table, output, a, flags, part),
+        Reading::Refused(n) => Outcome::Refused(n),
+    }
+}
+
+pub fn receive(table: &mut [u8], output: &mut [u8], a: Arrival, element: &[u8]) -> Outcome
+    ensures { λ r. ⌜ exits r (now (table .exit)) (now (output .exit)) ≡ atExit (now (table .entry)) (now (output .entry)) (receive (now (table .entry)) (length (now (output .entry))) a (now (element .entry))) ⌝ }
+{
+    match check_arrival(table, output, a) {
+        Answer::Accepted => receive_element(table, output, a, element),
+        Answer::Refused(n) => Outcome::Refused(n),
+    }
+}

@@ -1,0 +1,91 @@
+// The refusals of an element with a path: a RANN, a RREQ or a RREP.
+use crate::faults::Faults;
+use element::PathInfo;
+use learn::room;
+use learn::stale;
+use point::Answer;
+use point::clocked;
+use rules::Arrival;
+use table::row;
+ghost use mathlib.Core.Path.{_≡_};
+ghost use mathlib.Core.List.{_++_};
+ghost use Prim.Native.Nat.{_≤_};
+ghost use lib.Dec.{ltb};
+ghost use lib.ListN.{length};
+ghost use Rattle.rules.specs.Learn.{metricHere};
+ghost use Rattle.point.specs.Answers.{answerTo};
+ghost use Rattle.point.specs.Checks.{stateChecks};
+ghost use Rattle.receive.specs.Checks.{fieldChecks, pathChecks, rowChecks};
+
+// Received metric + link metric above 4,294,967,294.
+fn is_too_far(a: Arrival, p: PathInfo) -> bool
+    ensures { λ r. ⌜ r ≡ ltb 4294967294 (metricHere a p .0) ⌝ }
+{
+    4294967294 < p.metric.0 as u64 + a.link.0 as u64
+}
+
+// By the element alone: 9 to 14.
+fn check_fields(a: Arrival, p: PathInfo, faults: Faults) -> Answer
+    ensures { λ r. ⌜ r ≡ answerTo (fieldChecks faults a p) ⌝ }
+{
+    if faults.address {
+        return Answer::Refused(9);
+    }
+    if faults.list {
+        return Answer::Refused(10);
+    }
+    if p.lifetime == 0 {
+        return Answer::Refused(11);
+    }
+    if p.hops.0 == 255 {
+        return Answer::Refused(12);
+    }
+    if is_too_far(a, p) {
+        return Answer::Refused(13);
+    }
+    if faults.ttl {
+        return Answer::Refused(14);
+    }
+    Answer::Accepted
+}
+
+// By the rows: 24, 25 and 27.
+fn check_rows(table: &[u8], a: Arrival, p: PathInfo) -> Answer
+    requires { ⌜ 32 ≤ length (now table) ⌝ }
+    requires { ⌜ length (now table) ≤ 4128 ⌝ }
+    ensures { λ r. ⌜ r ≡ answerTo (rowChecks (now (table .entry)) a p) ⌝ }
+{
+    if p.subject.0 == row::read_head(table).own.0 {
+        return Answer::Refused(24);
+    }
+    if stale::is_stale(table, a, p) {
+        return Answer::Refused(25);
+    }
+    if room::lacks_rows(table, a, p) {
+        return Answer::Refused(27);
+    }
+    Answer::Accepted
+}
+
+// By the state: 21 to 27.
+fn check_state(table: &[u8], a: Arrival, p: PathInfo) -> Answer
+    requires { ⌜ 32 ≤ length (now table) ⌝ }
+    requires { ⌜ length (now table) ≤ 4128 ⌝ }
+    ensures { λ r. ⌜ r ≡ answerTo (stateChecks (now (table .entry)) (a .clock) (a .transmitter) ++ rowChecks (now (table .entry)) a p) ⌝ }
+{
+    if let Answer::Refused(n) = clocked::check_state(table, a.clock, a.transmitter) {
+        return Answer::Refused(n);
+    }
+    check_rows(table, a, p)
+}
+
+pub fn check(table: &[u8], a: Arrival, p: PathInfo, faults: Faults) -> Answer
+    requires { ⌜ 32 ≤ length (now table) ⌝ }
+    requires { ⌜ length (now table) ≤ 4128 ⌝ }
+    ensures { λ r. ⌜ r ≡ answerTo (pathChecks faults (now (table .entry)) a p) ⌝ }
+{
+    if let Answer::Refused(n) = check_fields(a, p, faults) {
+        return Answer::Refused(n);
+    }
+    check_state(table, a, p)
+}

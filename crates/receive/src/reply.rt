@@ -1,0 +1,69 @@
+// A received RREP.
+use crate::faults;
+use crate::path;
+use element::RrepFields;
+use learn::steps;
+use onward::reply;
+use point::Answer;
+use point::Outcome;
+use point::clocked;
+use rules::Arrival;
+use table::row;
+ghost use mathlib.Core.Path.{_≡_};
+ghost use Prim.Native.Nat.{_+_, _%_, _<_, _≤_};
+ghost use lib.ListN.{length};
+ghost use Rattle.element.specs.Element.{rrep};
+ghost use Rattle.element.specs.Entries.{numberedIn};
+ghost use Rattle.rules.specs.Decision.{accepted};
+ghost use Rattle.rules.specs.Outcome.{atExit};
+ghost use Rattle.rules.specs.Receive.{received};
+ghost use Rattle.point.specs.Answers.{answerTo, exits};
+ghost use Rattle.receive.specs.Judged.{elementChecks, judged};
+
+fn check(table: &[u8], a: Arrival, f: RrepFields, part: &[u8]) -> Answer
+    requires { ⌜ 32 ≤ length (now table) ⌝ }
+    requires { ⌜ length (now table) ≤ 4128 ⌝ }
+    ensures { λ r. ⌜ r ≡ answerTo (elementChecks (now (table .entry)) a (rrep f (numberedIn (now (part .entry))))) ⌝ }
+{
+    path::check(table, a, f.path, faults::of_rrep(f))
+}
+
+// Steps 1 and 2, and it goes on.
+fn take(table: &mut [u8], output: &mut [u8], a: Arrival, f: RrepFields, part: &[u8]) -> Outcome
+    requires { ⌜ 32 ≤ length (now table) ⌝ }
+    requires { ⌜ 1560 ≤ length (now output) ⌝ }
+    requires { ⌜ a .clock ≤ 281474976710655 ⌝ }
+    requires { ⌜ f .path .metric .0 + a .link .0 ≤ 4294967294 ⌝ }
+    requires { ⌜ f .path .hops .0 < 255 ⌝ }
+    requires { ⌜ 2 ≤ f .path .ttl ⌝ }
+    requires { ⌜ length (now part) ≤ 220 ⌝ }
+    requires { ⌜ length (now part) % 10 ≡ 0 ⌝ }
+    ensures { λ r. ⌜ exits r (now (table .exit)) (now (output .exit)) ≡ atExit (now (table .entry)) (now (output .entry)) (accepted (received (now (table .entry)) a (rrep f (numberedIn (now (part .entry)))))) ⌝ }
+{
+    let head = row::read_head(table);
+    steps::learn(table, a, f.path);
+    let emitted = reply::send_on(output, table, a, f, part);
+    clocked::store_head(table, head, head.number, a.clock);
+    Outcome::Accepted(emitted)
+}
+
+pub fn receive(
+    table: &mut [u8],
+    output: &mut [u8],
+    a: Arrival,
+    f: RrepFields,
+    part: &[u8],
+) -> Outcome
+    requires { ⌜ 32 ≤ length (now table) ⌝ }
+    requires { ⌜ length (now table) ≤ 4128 ⌝ }
+    requires { ⌜ 1560 ≤ length (now output) ⌝ }
+    requires { ⌜ a .clock ≤ 281474976710655 ⌝ }
+    requires { ⌜ length (now part) ≤ 220 ⌝ }
+    requires { ⌜ length (now part) % 10 ≡ 0 ⌝ }
+    ensures { λ r. ⌜ exits r (now (table .exit)) (now (output .exit)) ≡ atExit (now (table .entry)) (now (output .entry)) (judged (now (table .entry)) a (rrep f (numberedIn (now (part .entry))))) ⌝ }
+{
+    match check(table, a, f, part) {
+        Answer::Accepted => take(table, output, a, f, part),
+        Answer::Refused(n) => Outcome::Refused(n),
+    }
+}

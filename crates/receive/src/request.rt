@@ -1,0 +1,125 @@
+// A received RREQ.
+use crate::faults;
+use crate::path;
+use counters::SequenceNumber;
+use destinations::replies;
+use destinations::replies::Replied;
+use element::RreqFields;
+use learn::steps;
+use onward::request;
+use point::Answer;
+use point::Emitted;
+use point::Outcome;
+use point::clocked;
+use rules::Arrival;
+use table::row;
+ghost use mathlib.Core.Bool.{false};
+ghost use mathlib.Core.Path.{_≡_};
+ghost use Prim.Native.Nat.{_+_, _<_, _≤_};
+ghost use lib.ListN.{length};
+ghost use Rattle.octets.specs.LittleEndian.{over};
+ghost use Rattle.element.specs.Element.{rreq};
+ghost use Rattle.element.specs.Entries.{targetsIn};
+ghost use Rattle.rules.specs.Decision.{accepted};
+ghost use Rattle.rules.specs.Destinations.{allAnswered};
+ghost use Rattle.rules.specs.Outcome.{atExit, frameOctets};
+ghost use Rattle.rules.specs.Receive.{received};
+ghost use Rattle.point.specs.Answers.{answerTo, exits};
+ghost use Rattle.onward.specs.Sent.{unicastToSeveral};
+ghost use Rattle.receive.specs.Judged.{elementChecks, judged};
+ghost use Rattle.receive.specs.Sent.{framesAfter, sentFor, together};
+
+// What a RREQ was answered with: the own number after it, and what was written.
+pub struct Sent {
+    pub number: SequenceNumber,
+    pub emitted: Emitted,
+}
+
+fn check(table: &[u8], a: Arrival, f: RreqFields, part: &[u8]) -> Answer
+    requires { ⌜ 32 ≤ length (now table) ⌝ }
+    requires { ⌜ length (now table) ≤ 4128 ⌝ }
+    ensures { λ r. ⌜ r ≡ answerTo (elementChecks (now (table .entry)) a (rreq f (targetsIn (now (part .entry))))) ⌝ }
+{
+    path::check(table, a, f.path, faults::of_rreq(f, part))
+}
+
+// Replies, each of 40 octets, and what goes on after them.
+fn in_all(replied: Replied, onward: Emitted) -> Sent
+    requires { ⌜ replied .place ≤ 800 ⌝ }
+    requires { ⌜ onward .frames ≤ 1 ⌝ }
+    requires { ⌜ onward .octets ≤ 254 ⌝ }
+    ensures { λ r. ⌜ r ≡ together replied onward ⌝ }
+{
+    let number = replied.number;
+    let emitted = Emitted {
+        frames: (replied.place / 40) as u32 + onward.frames,
+        octets: replied.place as u32 + onward.octets,
+    };
+    Sent { number, emitted }
+}
+
+// The replies to its destinations, and after them it goes on with those that are kept.
+fn answer(
+    output: &mut [u8],
+    table: &[u8],
+    a: Arrival,
+    f: RreqFields,
+    number: SequenceNumber,
+    part: &[u8],
+) -> Sent
+    requires { ⌜ 32 ≤ length (now table) ⌝ }
+    requires { ⌜ 1560 ≤ length (now output) ⌝ }
+    requires { ⌜ 11 ≤ length (now part) ⌝ }
+    requires { ⌜ length (now part) ≤ 220 ⌝ }
+    requires { ⌜ unicastToSeveral (f .path) (now part) ≡ false ⌝ }
+    requires { ⌜ f .path .metric .0 + a .link .0 ≤ 4294967294 ⌝ }
+    requires { ⌜ f .path .hops .0 < 255 ⌝ }
+    ensures { λ r. ⌜ r ≡ sentFor (now (table .entry)) a f (allAnswered (now (table .entry)) a (f .path) number (targetsIn (now (part .entry)))) ⌝ }
+    ensures { λ _. ⌜ now (output .exit) ≡ over (now (output .entry)) 0 (frameOctets (framesAfter (now (table .entry)) a f (allAnswered (now (table .entry)) a (f .path) number (targetsIn (now (part .entry)))))) ⌝ }
+{
+    let replied = replies::write_replies(output, table, a, f.path, number, part);
+    let onward = request::send_on(output, replied.place, table, a, f, part);
+    in_all(replied, onward)
+}
+
+// Steps 1 and 2, the replies, and it goes on.
+fn take(table: &mut [u8], output: &mut [u8], a: Arrival, f: RreqFields, part: &[u8]) -> Outcome
+    requires { ⌜ 32 ≤ length (now table) ⌝ }
+    requires { ⌜ 1560 ≤ length (now output) ⌝ }
+    requires { ⌜ 11 ≤ length (now part) ⌝ }
+    requires { ⌜ length (now part) ≤ 220 ⌝ }
+    requires { ⌜ unicastToSeveral (f .path) (now part) ≡ false ⌝ }
+    requires { ⌜ a .clock ≤ 281474976710655 ⌝ }
+    requires { ⌜ f .path .metric .0 + a .link .0 ≤ 4294967294 ⌝ }
+    requires { ⌜ f .path .hops .0 < 255 ⌝ }
+    ensures { λ r. ⌜ exits r (now (table .exit)) (now (output .exit)) ≡ atExit (now (table .entry)) (now (output .entry)) (accepted (received (now (table .entry)) a (rreq f (targetsIn (now (part .entry)))))) ⌝ }
+{
+    let head = row::read_head(table);
+    steps::learn(table, a, f.path);
+    let sent = answer(output, table, a, f, head.number, part);
+    let number = sent.number;
+    clocked::store_head(table, head, number, a.clock);
+    let emitted = sent.emitted;
+    Outcome::Accepted(emitted)
+}
+
+pub fn receive(
+    table: &mut [u8],
+    output: &mut [u8],
+    a: Arrival,
+    f: RreqFields,
+    part: &[u8],
+) -> Outcome
+    requires { ⌜ 32 ≤ length (now table) ⌝ }
+    requires { ⌜ length (now table) ≤ 4128 ⌝ }
+    requires { ⌜ 1560 ≤ length (now output) ⌝ }
+    requires { ⌜ a .clock ≤ 281474976710655 ⌝ }
+    requires { ⌜ 11 ≤ length (now part) ⌝ }
+    requires { ⌜ length (now part) ≤ 220 ⌝ }
+    ensures { λ r. ⌜ exits r (now (table .exit)) (now (output .exit)) ≡ atExit (now (table .entry)) (now (output .entry)) (judged (now (table .entry)) a (rreq f (targetsIn (now (part .entry))))) ⌝ }
+{
+    match check(table, a, f, part) {
+        Answer::Accepted => take(table, output, a, f, part),
+        Answer::Refused(n) => Outcome::Refused(n),
+    }
+}
