@@ -2,10 +2,13 @@
 use Prim.Native.Nat.{ℕ}
 use mathlib.Core.Path.{_≡_, ap, _∙_}
 use mathlib.Core.List.{List}
+use Rattle.counters.specs.declared.Metric.{Metric}
 use Rattle.table.specs.declared.address.Address.{Address}
 use Rattle.table.specs.Address.{addressOf}
-use Rattle.rules.specs.Outcome.{Exit, atExit}
+use Rattle.rules.specs.Decision.{Decision}
+use Rattle.rules.specs.Outcome.{Effect, Exit, atExit}
 use Rattle.rules.specs.Break.{breakNeighbour}
+use Rattle.rules.specs.Receive.{receive}
 use Rattle.point.specs.declared.Outcome.{Outcome}
 use Rattle.point.specs.declared.Outcome.the-variants.{Accepted, Refused}
 use Rattle.point.specs.Answers.{exits}
@@ -16,8 +19,16 @@ pub handed-on : (o : Outcome) (r : HwmpOutcome) → r ≡ outcomeFor o → (t ou
 handed-on (Accepted e) r re t output x h = ap (λ (q : HwmpOutcome). leaving q t output) re ∙ h
 handed-on (Refused n) r re t output x h = ap (λ (q : HwmpOutcome). leaving q t output) re ∙ h
 
--- of a break by the neighbour's octets
-pub break-handed-on : (o : Outcome) (r : HwmpOutcome) → r ≡ outcomeFor o → (t output t₀ output₀ s : List ℕ) (n c : ℕ) (a : Address) → a ≡ addressOf s
-    → exits o t output ≡ atExit t₀ output₀ (breakNeighbour t₀ n c a) → leaving r t output ≡ atExit t₀ output₀ (breakNeighbour t₀ n c (addressOf s))
-break-handed-on o r re t output t₀ output₀ s n c a ae h =
-    handed-on o r re t output _ (h ∙ ap (λ (b : Address). atExit t₀ output₀ (breakNeighbour t₀ n c b)) ae)
+-- of a call with a neighbour or a transmitter, by the octets of its address
+module _ (o : Outcome) (r : HwmpOutcome) (re : r ≡ outcomeFor o) (t output t₀ output₀ s : List ℕ) (a : Address) (ae : a ≡ addressOf s) where
+  by-address : (call : Address → Decision Effect) → exits o t output ≡ atExit t₀ output₀ (call a) → leaving r t output ≡ atExit t₀ output₀ (call (addressOf s))
+  by-address call h = handed-on o r re t output _ (h ∙ ap (λ (b : Address). atExit t₀ output₀ (call b)) ae)
+
+  pub break-handed-on : (n c : ℕ) → exits o t output ≡ atExit t₀ output₀ (breakNeighbour t₀ n c a)
+      → leaving r t output ≡ atExit t₀ output₀ (breakNeighbour t₀ n c (addressOf s))
+  break-handed-on n c = by-address (breakNeighbour t₀ n c)
+
+  pub receive-handed-on : (n c : ℕ) (link : Metric) (e : List ℕ)
+      → exits o t output ≡ atExit t₀ output₀ (receive t₀ n (record { clock = c; transmitter = a; link = link }) e)
+      → leaving r t output ≡ atExit t₀ output₀ (receive t₀ n (record { clock = c; transmitter = addressOf s; link = link }) e)
+  receive-handed-on n c link e = by-address (λ (b : Address). receive t₀ n (record { clock = c; transmitter = b; link = link }) e)

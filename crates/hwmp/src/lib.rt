@@ -1,4 +1,5 @@
 // The calls for C, on numbers and octet buffers: include/hwmp.h declares them.
+use counters::Metric;
 use counters::SequenceNumber;
 use point::Outcome;
 use point::announce;
@@ -9,6 +10,7 @@ use point::fresh;
 use point::next_hop;
 use point::next_hop::Hop;
 use point::root_request;
+use rules::Arrival;
 use table::address;
 ghost use mathlib.Core.Path.{_≡_};
 ghost use lib.ListN.{length};
@@ -18,6 +20,7 @@ ghost use Rattle.rules.specs.Outcome.{atExit};
 ghost use Rattle.rules.specs.Fresh.{makeFresh};
 ghost use Rattle.rules.specs.Forget.{forget};
 ghost use Rattle.rules.specs.NextHop.{nextHop};
+ghost use Rattle.rules.specs.Receive.{receive};
 ghost use Rattle.rules.specs.Originate.{announce, ask, rootRequest};
 ghost use Rattle.rules.specs.Break.{breakNeighbour};
 ghost use Rattle.point.specs.Answers.{decisionOf};
@@ -89,6 +92,25 @@ pub extern "C" fn hwmp_next_hop(table: &[u8], clock: u64, destination: &[u8; 6])
     ensures { λ r. ⌜ r ≡ hopFor (nextHop (now (table .entry)) clock (addressOf (now (destination .entry)))) ⌝ }
 {
     hop_for(next_hop::next_hop(table, clock, address::read(destination)))
+}
+
+#[no_mangle]
+pub extern "C" fn hwmp_receive(
+    table: &mut [u8],
+    output: &mut [u8],
+    clock: u64,
+    transmitter: &[u8; 6],
+    link: u32,
+    element: &[u8],
+) -> HwmpOutcome
+    ensures { λ r. ⌜ leaving r (now (table .exit)) (now (output .exit)) ≡ atExit (now (table .entry)) (now (output .entry)) (receive (now (table .entry)) (length (now (output .entry))) (record { clock = clock; transmitter = addressOf (now (transmitter .entry)); link = record { 0 = link } }) (now (element .entry))) ⌝ }
+{
+    let arrival = Arrival {
+        clock,
+        transmitter: address::read(transmitter),
+        link: Metric(link),
+    };
+    outcome_for(receive::receive(table, output, arrival, element))
 }
 
 #[no_mangle]

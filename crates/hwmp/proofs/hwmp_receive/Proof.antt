@@ -1,0 +1,16 @@
+-- `hwmp::hwmp_receive` meets its contract: by what it calls. Assumes nothing.
+use borrow.Author.Needs.{needs}
+use Rattle.hwmp.proofs.Outcomes.{receive-handed-on}
+use Rattle.hwmp.proofs.hwmp_receive.Statement.{statement}
+use Rattle.hwmp.proofs.hwmp_receive.Tie as tie
+
+pub hwmp-receive-spec : {M : Type 1} → statement M
+hwmp-receive-spec =
+    tie.close
+    (tie.spec
+    (λ c κs. search needs)
+    (λ c κs. search needs)
+    (λ c κs. search needs)
+    (λ c. search needs)
+    (λ c. search needs)
+    (λ c. search receive-handed-on))
