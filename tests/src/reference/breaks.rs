@@ -3,8 +3,7 @@
 use super::element::list::Entries;
 use super::element::{Element, NumberedAddress, Rerr};
 use super::frames::{Emitted, Frames};
-use super::refusal::ensure;
-use super::table::{Head, MAX_ROWS, ROW_OCTETS, Row, rows_mut, write_head};
+use super::table::{MAX_ROWS, ROW_OCTETS, Row, rows_mut, write_head};
 use super::{Address, Refusal, checks};
 
 type Lost = Entries<{ NumberedAddress::OCTETS }, MAX_ROWS>;
@@ -18,15 +17,8 @@ pub fn report_break(
     let table = checks::table_length(octets)?;
     let mut frames = Frames::start(output)?;
     checks::clock(clock)?;
-    ensure(neighbour.is_individual(), Refusal::NeighbourNotIndividual)?;
-    checks::is_table(&table)?;
-    checks::clock_not_behind(clock, &table)?;
-    let head = table.head();
-    ensure(neighbour != head.own, Refusal::NeighbourIsOwn)?;
-    let head = Head {
-        latest_clock: clock,
-        ..head
-    };
+    checks::neighbour(neighbour)?;
+    let head = checks::head_at(clock, neighbour, &table)?;
     write_head(octets, &head);
     let mut lost = Lost::new();
     lose_rows(rows_mut(octets), clock, neighbour, &mut lost);

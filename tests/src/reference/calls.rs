@@ -25,8 +25,7 @@ pub fn next_hop(octets: &[u8], clock: u64, destination: Address) -> Result<Addre
     checks::is_table(&table)?;
     checks::clock_not_behind(clock, &table)?;
     let (_, row) = table
-        .row_for(destination)
-        .filter(|(_, row)| row.is_active(clock))
+        .active_row_for(destination, clock)
         .ok_or(Refusal::NoActiveRow)?;
     Ok(row.next_hop)
 }

@@ -1,9 +1,9 @@
 //! Checks that several calls make, so that each call is a list of them in document 01's
 //! order.
 
-use super::Refusal;
 use super::refusal::ensure;
-use super::table::{CLOCK_MAX, Table};
+use super::table::{CLOCK_MAX, Head, Table};
+use super::{Address, Refusal};
 
 pub fn table_length(octets: &[u8]) -> Result<Table<'_>, Refusal> {
     Table::cut(octets).ok_or(Refusal::TableLength)
@@ -11,6 +11,11 @@ pub fn table_length(octets: &[u8]) -> Result<Table<'_>, Refusal> {
 
 pub fn clock(clock: u64) -> Result<(), Refusal> {
     ensure(clock <= CLOCK_MAX, Refusal::Clock)
+}
+
+/// The transmitter of what is received, or the neighbour that broke.
+pub fn neighbour(neighbour: Address) -> Result<(), Refusal> {
+    ensure(neighbour.is_individual(), Refusal::NeighbourNotIndividual)
 }
 
 pub fn lifetime(lifetime: u32) -> Result<(), Refusal> {
@@ -23,4 +28,17 @@ pub fn is_table(table: &Table) -> Result<(), Refusal> {
 
 pub fn clock_not_behind(clock: u64, table: &Table) -> Result<(), Refusal> {
     ensure(clock >= table.head().latest_clock, Refusal::ClockBehind)
+}
+
+/// The state's part in a call that brings a clock and a neighbour, and stores the clock if it
+/// is accepted: the head as it then will be.
+pub fn head_at(clock: u64, neighbour: Address, table: &Table) -> Result<Head, Refusal> {
+    is_table(table)?;
+    clock_not_behind(clock, table)?;
+    let head = table.head();
+    ensure(neighbour != head.own, Refusal::NeighbourIsOwn)?;
+    Ok(Head {
+        latest_clock: clock,
+        ..head
+    })
 }

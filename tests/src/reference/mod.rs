@@ -11,6 +11,7 @@ mod frames;
 mod items;
 mod octets;
 pub mod originate;
+pub mod receive;
 mod refusal;
 pub mod table;
 

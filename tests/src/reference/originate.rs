@@ -9,7 +9,7 @@ use super::table::{Head, write_head};
 use super::{Address, HopCount, Metric, Refusal, SequenceNumber, checks};
 
 /// The hops that a new element may take.
-const TTL: u8 = 31;
+pub(super) const TTL: u8 = 31;
 
 pub fn ask(
     octets: &mut [u8],

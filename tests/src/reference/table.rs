@@ -168,19 +168,32 @@ impl Row {
         self.status == VALID && clock < self.expiry
     }
 
+    pub fn has_known_number(&self) -> bool {
+        self.number_known == 1
+    }
+
     /// The row after its next hop was lost.
     pub fn broken(self) -> Row {
-        let invalidated = Row {
+        if self.has_known_number() {
+            self.invalidated().raised(self.number.next())
+        } else {
+            self.invalidated()
+        }
+    }
+
+    pub fn invalidated(self) -> Row {
+        Row {
             status: INVALIDATED,
             ..self
-        };
-        if self.number_known == 0 {
-            return invalidated;
         }
+    }
+
+    /// The row with a number from which on it is to be believed again.
+    pub fn raised(self, number: SequenceNumber) -> Row {
         Row {
-            number: self.number.next(),
+            number,
             metric: Metric::MAX,
-            ..invalidated
+            ..self
         }
     }
 
@@ -266,11 +279,24 @@ impl<'a> Table<'a> {
             .find(|(_, row)| row.is_held() && row.destination == destination)
     }
 
+    /// The row of a destination if it is active.
+    pub fn active_row_for(&self, destination: Address, clock: u64) -> Option<(usize, Row)> {
+        self.row_for(destination)
+            .filter(|(_, row)| row.is_active(clock))
+    }
+
     /// The number known of a destination, whatever the status of its row.
     pub fn known_number(&self, destination: Address) -> Option<SequenceNumber> {
         self.row_for(destination)
-            .filter(|(_, row)| row.number_known == 1)
+            .filter(|(_, row)| row.has_known_number())
             .map(|(_, row)| row.number)
+    }
+
+    /// The places of the free rows, lowest first.
+    pub fn free_places(&self) -> impl Iterator<Item = usize> {
+        let rows = self.rows.iter().enumerate();
+        rows.filter(|(_, row)| row[0] == FREE)
+            .map(|(place, _)| place)
     }
 }
 

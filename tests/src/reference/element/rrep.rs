@@ -15,7 +15,7 @@ pub struct Rrep<'a> {
     pub metric: Metric,
     pub source: Address,
     pub source_number: SequenceNumber,
-    dependents: &'a [[u8; NumberedAddress::OCTETS]],
+    pub(in crate::reference) dependents: &'a [[u8; NumberedAddress::OCTETS]],
 }
 
 /// The octets between Length and list, the count octet the last of them.

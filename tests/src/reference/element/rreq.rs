@@ -24,6 +24,11 @@ impl<'a> Rreq<'a> {
     pub const ID: u8 = 130;
     pub const MOST: usize = 20;
 
+    /// The flag 'unicast'.
+    pub const UNICAST: u8 = 2;
+    /// The flag 'reply wanted'.
+    pub const REPLY_WANTED: u8 = 4;
+
     pub(super) fn read(fields: &'a [u8]) -> Option<Rreq<'a>> {
         let (fields, list) = fields.split_first_chunk::<FIXED>()?;
         let count = fields[25];

@@ -1,0 +1,50 @@
+use super::Reception;
+use crate::reference::element::list::{Entries, has_twice};
+use crate::reference::element::{Element, NumberedAddress, Rerr};
+use crate::reference::refusal::ensure;
+use crate::reference::table::{Row, write_head, write_row};
+use crate::reference::{Address, Refusal, checks};
+
+impl Reception<'_> {
+    /// An error has no lifetime, hop count or metric to be judged, and makes no row.
+    pub(super) fn error(&mut self, rerr: &Rerr) -> Result<(), Refusal> {
+        let addresses = rerr.destinations().map(|entry| entry.address);
+        let individual = addresses.clone().all(Address::is_individual);
+        ensure(individual, Refusal::NotIndividual)?;
+        ensure(!has_twice(addresses), Refusal::ListOrFlags)?;
+        let head = checks::head_at(self.clock, self.transmitter, &self.table())?;
+        // Where nothing matches nothing is written, so 26 may be judged after the matches.
+        let mut hit = Entries::<{ NumberedAddress::OCTETS }, { Rerr::MOST }>::new();
+        for entry in rerr.destinations() {
+            if let Some((place, row)) = self.match_for(entry.address) {
+                write_row(self.octets, place, &after_error(row, &entry));
+                hit.push(entry.encode());
+            }
+        }
+        ensure(!hit.as_slice().is_empty(), Refusal::NoMatch)?;
+        write_head(self.octets, &head);
+        let onward = Rerr {
+            destinations: hit.as_slice(),
+            ..*rerr
+        };
+        self.frames.emit(Address::ALL_ONES, Element::Rerr(onward));
+        Ok(())
+    }
+
+    /// The row that an error from this transmitter tells about: a path by way of another
+    /// neighbour is not its concern.
+    fn match_for(&self, destination: Address) -> Option<(usize, Row)> {
+        self.table()
+            .active_row_for(destination, self.clock)
+            .filter(|(_, row)| row.has_known_number() && row.next_hop == self.transmitter)
+    }
+}
+
+/// An older or equal number invalidates the row all the same, and leaves its number.
+fn after_error(row: Row, entry: &NumberedAddress) -> Row {
+    if entry.number.is_newer_than(row.number) {
+        row.invalidated().raised(entry.number)
+    } else {
+        row.invalidated()
+    }
+}

@@ -1,0 +1,170 @@
+use super::path::Path;
+use super::{Reception, ttl_left};
+use crate::reference::element::list::{Entries, has_twice};
+use crate::reference::element::{Destination, Element, Rrep, Rreq};
+use crate::reference::originate::TTL;
+use crate::reference::refusal::ensure;
+use crate::reference::table::{Head, Row, write_head};
+use crate::reference::{Address, HopCount, Metric, Refusal, SequenceNumber};
+
+/// The destinations with which a request goes on.
+type Kept = Entries<{ Destination::OCTETS }, { Rreq::MOST }>;
+
+impl Reception<'_> {
+    pub(super) fn request(&mut self, rreq: &Rreq) -> Result<(), Refusal> {
+        ensure(has_fit_addresses(rreq), Refusal::NotIndividual)?;
+        ensure(has_fit_list(rreq), Refusal::ListOrFlags)?;
+        let path = path(rreq).over(self.link)?;
+        let mut head = self.learn(&path)?;
+        let mut kept = Kept::new();
+        for destination in rreq.destinations() {
+            if let Some(destination) = self.answer(rreq, &mut head, destination) {
+                kept.push(destination.encode());
+            }
+        }
+        write_head(self.octets, &head);
+        self.request_onward(rreq, &path, kept.as_slice());
+        Ok(())
+    }
+
+    /// Replies for a destination if this point can, and returns it as it is kept, if it is.
+    fn answer(
+        &mut self,
+        rreq: &Rreq,
+        head: &mut Head,
+        destination: Destination,
+    ) -> Option<Destination> {
+        if destination.address == head.own {
+            if destination.number.is_newer_than(head.number) {
+                head.number = destination.number;
+            }
+            self.reply_for_oneself(rreq, head);
+            None
+        } else if destination.address == Address::ALL_ONES {
+            if rreq.flags & Rreq::REPLY_WANTED != 0 {
+                self.reply_for_oneself(rreq, head);
+            }
+            Some(destination)
+        } else if let Some(row) = self.row_that_answers(&destination) {
+            self.reply_for_row(rreq, &row);
+            after_reply(destination)
+        } else {
+            Some(destination)
+        }
+    }
+
+    /// Each reply takes a number of its own.
+    fn reply_for_oneself(&mut self, rreq: &Rreq, head: &mut Head) {
+        *head = head.numbered();
+        self.emit_reply(rreq, head.own, head.number, HopCount(0), Metric(0));
+    }
+
+    fn reply_for_row(&mut self, rreq: &Rreq, row: &Row) {
+        self.emit_reply(rreq, row.destination, row.number, row.hop_count, row.metric);
+    }
+
+    fn emit_reply(
+        &mut self,
+        rreq: &Rreq,
+        destination: Address,
+        number: SequenceNumber,
+        hop_count: HopCount,
+        metric: Metric,
+    ) {
+        let reply = Rrep {
+            flags: 0,
+            hop_count,
+            ttl: TTL,
+            destination,
+            number,
+            lifetime: rreq.lifetime,
+            metric,
+            source: rreq.originator,
+            source_number: rreq.number,
+            dependents: &[],
+        };
+        self.frames.emit(self.transmitter, Element::Rrep(reply));
+    }
+
+    /// The row from which this point replies for another one, unless only the destination
+    /// itself may. Rows are those after steps 1 and 2, so the transmitter's may be fresh.
+    fn row_that_answers(&self, destination: &Destination) -> Option<Row> {
+        if destination.flags & Destination::DO != 0 {
+            return None;
+        }
+        let (_, row) = self
+            .table()
+            .active_row_for(destination.address, self.clock)?;
+        let fresh = row.has_known_number() && !row.number.is_older_than(destination.number);
+        fresh.then_some(row)
+    }
+
+    fn request_onward(
+        &mut self,
+        rreq: &Rreq,
+        path: &Path,
+        kept: &[[u8; Destination::OCTETS]],
+    ) -> Option<()> {
+        let first = Destination::decode(kept.first()?);
+        let ttl = ttl_left(rreq.ttl)?;
+        let to = if is_unicast(rreq) {
+            self.next_hop(first.address)?
+        } else {
+            Address::ALL_ONES
+        };
+        let onward = Rreq {
+            hop_count: path.hop_count,
+            ttl,
+            metric: path.metric,
+            destinations: kept,
+            ..*rreq
+        };
+        self.frames.emit(to, Element::Rreq(onward));
+        Some(())
+    }
+}
+
+fn path(rreq: &Rreq) -> Path {
+    Path {
+        end: rreq.originator,
+        number: rreq.number,
+        lifetime: rreq.lifetime,
+        hop_count: rreq.hop_count,
+        metric: rreq.metric,
+    }
+}
+
+fn is_unicast(rreq: &Rreq) -> bool {
+    rreq.flags & Rreq::UNICAST != 0
+}
+
+fn addresses(rreq: &Rreq) -> impl Iterator<Item = Address> + Clone {
+    rreq.destinations().map(|destination| destination.address)
+}
+
+fn has_fit_addresses(rreq: &Rreq) -> bool {
+    let fits = |address: Address| address.is_individual() || address == Address::ALL_ONES;
+    rreq.originator.is_individual() && addresses(rreq).all(fits)
+}
+
+/// Refusal 10, of a request. All ones stands alone, and so does the destination of a unicast,
+/// which all ones cannot be.
+fn has_fit_list(rreq: &Rreq) -> bool {
+    let alone = rreq.destinations.len() == 1;
+    let all_ones = addresses(rreq).any(|address| address == Address::ALL_ONES);
+    let itself = addresses(rreq).any(|address| address == rreq.originator);
+    (alone || !all_ones)
+        && (!is_unicast(rreq) || alone && !all_ones)
+        && !itself
+        && !has_twice(addresses(rreq))
+}
+
+/// A destination for which a point on the way has replied goes on only if it says so, and from
+/// then on asks the destination alone.
+fn after_reply(destination: Destination) -> Option<Destination> {
+    let goes_on = destination.flags & Destination::RF != 0;
+    goes_on.then_some(Destination {
+        flags: destination.flags | Destination::DO,
+        ..destination
+    })
+}
