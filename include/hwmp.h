@@ -14,15 +14,25 @@
  *    1  the table's length is not 32 + 32R with R from 1 to 128
  *    2  the output is shorter than HWMP_OUTPUT_OCTETS
  *    3  the clock is above HWMP_MAX_CLOCK
- *    4  the neighbour is not an individual address
- *    8  the items are not 1 to HWMP_MAX_ITEMS of 7 octets
+ *    4  the neighbour or transmitter is not an individual address
+ *    5  the link metric is 0
+ *    6  the element is under 2 octets, or its second octet does not count those after it
+ *    7  the element is of no type known here
+ *    8  the items are not 1 to HWMP_MAX_ITEMS of 7 octets, or the element's length does not
+ *       fit its type and count
  *    9  an address is not individual: lowest bit of its first octet set, or all zero
- *   10  an address stands twice, or flags are not allowed
+ *   10  an address stands twice or where it may not, or flags are not allowed
  *   11  the lifetime is 0
+ *   12  the element's hop count is 255
+ *   13  the element's metric and the link metric together are above 4294967294
+ *   14  a reply has no hop left (TTL 0 or 1)
  *   21  the octets are not a table
  *   22  the clock is below the latest clock stored in the table
- *   23  the neighbour is the point's own address
- *   24  an item names the point's own address
+ *   23  the neighbour or transmitter is the point's own address
+ *   24  an item names the point's own address, or what is received tells of a path to it
+ *   25  what is received is older than the row, or as old and no better
+ *   26  an error names no row that leads through its transmitter
+ *   27  there are too few free rows
  *   28  there is no active row for the destination
  *   29  there is no row for the destination
  *
@@ -141,6 +151,26 @@ struct hwmp_outcome hwmp_root_request(uint8_t *table, size_t table_len, uint8_t 
  */
 struct hwmp_outcome hwmp_break(uint8_t *table, size_t table_len, uint8_t *output,
                                size_t output_len, uint64_t clock, const uint8_t neighbour[6]);
+
+/*
+ * Receives an element that a neighbour, the transmitter, has sent over a link of that metric.
+ *
+ * A RREQ, RREP or RANN tells of a path through the transmitter to its originator (RREP: to its
+ * destination). The row for it is made or renewed, and so is the transmitter's own row if
+ * there is none or the link is better. A RREQ is answered with RREPs to the transmitter for
+ * the point itself and for destinations that it has fresh rows for; the RREQ goes on with
+ * the others. A RREP goes on towards its source, and a RANN to all.
+ *
+ * A RERR invalidates the active rows of known number that it names and that lead through
+ * the transmitter, and goes on to all with these.
+ *
+ * The clock is stored.
+ * Refusals: 1 to 14, 21 to 27; 11 to 14, 24, 25 and 27 never for a RERR, 26 only for it.
+ */
+struct hwmp_outcome hwmp_receive(uint8_t *table, size_t table_len, uint8_t *output,
+                                 size_t output_len, uint64_t clock,
+                                 const uint8_t transmitter[6], uint32_t link_metric,
+                                 const uint8_t *element, size_t element_len);
 
 #ifdef __cplusplus
 }

@@ -3,7 +3,7 @@
 
 use crate::library::{self, Hop, Outcome};
 use crate::reference::{
-    Address, Emitted, Refusal, SequenceNumber, answer, breaks, calls, originate,
+    Address, Emitted, Metric, Refusal, SequenceNumber, answer, breaks, calls, originate, receive,
 };
 
 pub struct Implementation {
@@ -15,6 +15,7 @@ pub struct Implementation {
     pub announce: Originate,
     pub root_request: Originate,
     pub report_break: Break,
+    pub receive: Receive,
 }
 
 /// On a table and an output, with lifetime and items.
@@ -26,6 +27,9 @@ pub type Originate = fn(&mut [u8], &mut [u8], u8, u32) -> Outcome;
 /// With clock and neighbour.
 pub type Break = fn(&mut [u8], &mut [u8], u64, &[u8; 6]) -> Outcome;
 
+/// With clock, transmitter, link metric and element.
+pub type Receive = fn(&mut [u8], &mut [u8], u64, &[u8; 6], u32, &[u8]) -> Outcome;
+
 pub const LIBRARY: Implementation = Implementation {
     name: "library",
     fresh: library::fresh,
@@ -35,6 +39,7 @@ pub const LIBRARY: Implementation = Implementation {
     announce: library::announce,
     root_request: library::root_request,
     report_break: library::report_break,
+    receive: library::receive,
 };
 
 pub const REFERENCE: Implementation = Implementation {
@@ -55,6 +60,16 @@ pub const REFERENCE: Implementation = Implementation {
             output,
             clock,
             Address(*neighbour),
+        ))
+    },
+    receive: |table, output, clock, transmitter, link_metric, element| {
+        outcome(receive::receive(
+            table,
+            output,
+            clock,
+            Address(*transmitter),
+            Metric(link_metric),
+            element,
         ))
     },
 };

@@ -62,6 +62,17 @@ pub mod raw {
             clock: u64,
             neighbour: *const u8,
         ) -> Outcome;
+        pub fn hwmp_receive(
+            table: *mut u8,
+            table_len: usize,
+            output: *mut u8,
+            output_len: usize,
+            clock: u64,
+            transmitter: *const u8,
+            link_metric: u32,
+            element: *const u8,
+            element_len: usize,
+        ) -> Outcome;
     }
 }
 
@@ -113,4 +124,31 @@ pub fn report_break(
     let (output, output_len) = (output.as_mut_ptr(), output.len());
     let neighbour = neighbour.as_ptr();
     unsafe { raw::hwmp_break(table, table_len, output, output_len, clock, neighbour) }
+}
+
+pub fn receive(
+    table: &mut [u8],
+    output: &mut [u8],
+    clock: u64,
+    transmitter: &[u8; 6],
+    link_metric: u32,
+    element: &[u8],
+) -> Outcome {
+    let (table, table_len) = (table.as_mut_ptr(), table.len());
+    let (output, output_len) = (output.as_mut_ptr(), output.len());
+    let transmitter = transmitter.as_ptr();
+    let (element, element_len) = (element.as_ptr(), element.len());
+    unsafe {
+        raw::hwmp_receive(
+            table,
+            table_len,
+            output,
+            output_len,
+            clock,
+            transmitter,
+            link_metric,
+            element,
+            element_len,
+        )
+    }
 }
