@@ -1,6 +1,8 @@
 //! What the tests and benchmarks share: the library behind safe functions, a separately
-//! written implementation of document 01 to compare it with, and random tables and elements.
+//! written implementation of document 01 to compare it with, random tables and elements, and
+//! what is asked of a call that was worked out by hand.
 
+pub mod comparing;
 pub mod elements;
 pub mod fence;
 pub mod implementation;
@@ -9,3 +11,4 @@ pub mod probe;
 pub mod random;
 pub mod reference;
 pub mod tables;
+pub mod worked;

@@ -1,12 +1,10 @@
 //! Ask, announce, root request and break.
 
+use hwmp_tests::comparing::{Listed, Point, Run, Tally};
 use hwmp_tests::random::Random;
 use hwmp_tests::reference::Address;
 use hwmp_tests::reference::table::{MAX_ROWS, Table, VALID};
 use hwmp_tests::tables;
-
-use crate::point::{Point, Run};
-use crate::tally::{Listed, Tally};
 
 const TABLES: usize = 200_000;
 const CALLS_PER_TABLE: usize = 8;

@@ -1,12 +1,10 @@
 //! Tables that live: made fresh over junk and filled up to some row, then learning and all
 //! calls by turns, each on what the calls before it left.
 
+use hwmp_tests::comparing::{Listed, Point, Run, Tally};
 use hwmp_tests::reference::Address;
 use hwmp_tests::reference::table::{HEAD_OCTETS, MAX_ROWS, ROW_OCTETS, write_row};
 use hwmp_tests::tables;
-
-use crate::point::{Point, Run};
-use crate::tally::{Listed, Tally};
 
 const LIVES_PER_LENGTH: usize = 60;
 const STEPS: usize = 60;

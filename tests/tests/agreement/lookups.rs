@@ -1,11 +1,9 @@
 //! Fresh, forget and next hop.
 
+use hwmp_tests::comparing::{Listed, Point, Run};
 use hwmp_tests::random::Random;
 use hwmp_tests::reference::table::MAX_ROWS;
 use hwmp_tests::tables;
-
-use crate::point::{Point, Run};
-use crate::tally::Listed;
 
 /// Tables drawn for each number of rows.
 const TABLES_PER_LENGTH: usize = 950;

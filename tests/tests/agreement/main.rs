@@ -4,6 +4,3 @@
 mod emitting;
 mod lives;
 mod lookups;
-mod pair;
-mod point;
-mod tally;

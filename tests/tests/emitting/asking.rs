@@ -2,8 +2,7 @@
 
 use hwmp_tests::implementation::Implementation;
 use hwmp_tests::library::Outcome;
-
-use crate::worked::{Address, FREE, Row, STEPS, accepted, refused_with_room, rreq, table};
+use hwmp_tests::worked::{Address, FREE, Row, STEPS, accepted, refused_with_room, rreq, table};
 
 pub const A: Address = [0x0A, 0, 0, 0, 0, 1];
 const B: Address = [0x0A, 0, 0, 0, 0, 2];

@@ -2,8 +2,7 @@
 
 use hwmp_tests::implementation::Implementation;
 use hwmp_tests::library::Outcome;
-
-use crate::worked::{Address, FREE, Row, STEPS, accepted, rerr, rreq, table};
+use hwmp_tests::worked::{Address, FREE, Row, STEPS, accepted, rerr, rreq, table};
 
 /// The neighbour that breaks, and another one.
 pub const BROKEN: Address = [0x0A, 0, 0, 0, 0, 1];

@@ -1,9 +1,10 @@
 //! The clock that a break brings and stores, and the neighbours that it may name.
 
-use crate::breaking::{BROKEN, OTHER, broken, destination, report_break, through};
-use crate::worked::{
+use hwmp_tests::worked::{
     ALL_ONES, FREE, GROUP, LAST_CLOCK, OWN, Row, ZERO, accepted, refused_with_room, rerr, table,
 };
+
+use crate::breaking::{BROKEN, OTHER, broken, destination, report_break, through};
 
 /// The clock is stored also if no row is lost; then there is no frame.
 #[test]

@@ -1,11 +1,11 @@
 //! The items of an ask: how many there may be, and the faults of each and of all together.
 
 use hwmp_tests::fence::{Fence, Side};
-
-use crate::asking::{A, ABSENT, ask, octets, rows};
-use crate::worked::{
+use hwmp_tests::worked::{
     ALL_ONES, Address, GROUP, OWN, ZERO, accepted, refused_with_room, rreq, table,
 };
+
+use crate::asking::{A, ABSENT, ask, octets, rows};
 
 /// Asks with own number 5 and request ID 7 for items of which no number is known.
 fn asked(what: &str, items: &[(u8, Address)]) {

@@ -9,4 +9,3 @@ mod originating;
 mod reading_back;
 mod refusals;
 mod splitting;
-mod worked;

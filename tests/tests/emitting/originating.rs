@@ -2,8 +2,7 @@
 
 use hwmp_tests::implementation::Implementation;
 use hwmp_tests::library::Outcome;
-
-use crate::worked::{
+use hwmp_tests::worked::{
     ALL_ONES, Address, FREE, Row, STEPS, accepted, rann, refused_with_room, rreq, table,
 };
 

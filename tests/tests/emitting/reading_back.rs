@@ -9,8 +9,7 @@ use hwmp_tests::reference::element::MOST_NUMBERS;
 use hwmp_tests::reference::table::{Head, MAX_ROWS, Row, Table};
 use hwmp_tests::reference::{Address, SequenceNumber};
 use hwmp_tests::tables;
-
-use crate::worked::{ALL_ONES, LEAST_OUTPUT};
+use hwmp_tests::worked::{ALL_ONES, LEAST_OUTPUT};
 
 const TABLES: usize = 60_000;
 

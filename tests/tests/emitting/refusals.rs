@@ -3,8 +3,7 @@
 use hwmp_tests::fence::{Fence, Side};
 use hwmp_tests::implementation::Implementation;
 use hwmp_tests::library::Outcome;
-
-use crate::worked::{
+use hwmp_tests::worked::{
     Address, BOTH, Call, FREE, GROUP, LAST_CLOCK, LEAST_OUTPUT, OWN, Row, refused,
     refused_with_room, table,
 };

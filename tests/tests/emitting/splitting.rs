@@ -1,7 +1,8 @@
 //! How many RERRs a break needs for the rows that it loses.
 
+use hwmp_tests::worked::{Address, FREE, Row, accepted, rerr, table};
+
 use crate::breaking::{BROKEN, OTHER, broken, destination, report_break, through};
-use crate::worked::{Address, FREE, Row, accepted, rerr, table};
 
 /// How many rows are lost; N of each RERR, and all octets: 6 + 2 + 2 + 10N for each.
 const SPLITS: [(usize, &[usize], usize); 13] = [

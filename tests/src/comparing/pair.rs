@@ -1,6 +1,6 @@
 use std::ops::Range;
 
-use hwmp_tests::random::Random;
+use crate::random::Random;
 
 /// Octets on both sides of the lent ones, which no call may touch.
 const GUARD: usize = 64;

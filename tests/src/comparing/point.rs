@@ -1,11 +1,11 @@
-use hwmp_tests::fence::{Fence, Side};
-use hwmp_tests::implementation::{Implementation, LIBRARY, REFERENCE};
-use hwmp_tests::library::Outcome;
-use hwmp_tests::random::Random;
-use hwmp_tests::tables;
+use crate::fence::{Fence, Side};
+use crate::implementation::{Implementation, LIBRARY, REFERENCE};
+use crate::library::Outcome;
+use crate::random::Random;
+use crate::tables;
 
-use crate::pair::Pair;
-use crate::tally::Tally;
+use super::pair::Pair;
+use super::tally::Tally;
 
 /// What the comparisons of one test share. Operands are lent beside the fence.
 pub struct Run {

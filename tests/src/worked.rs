@@ -1,9 +1,9 @@
 //! What the cases share: tables laid octet by octet, and calls that must leave just the
 //! table and the frames that were worked out.
 
-use hwmp_tests::fence::{Fence, Side};
-use hwmp_tests::implementation::{Implementation, LIBRARY, REFERENCE};
-use hwmp_tests::library::Outcome;
+use crate::fence::{Fence, Side};
+use crate::implementation::{Implementation, LIBRARY, REFERENCE};
+use crate::library::Outcome;
 
 pub type Address = [u8; 6];
 

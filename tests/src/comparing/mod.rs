@@ -1,0 +1,9 @@
+//! Calls made on the library and on the reference, with equal operands on equal tables, and
+//! held together octet by octet.
+
+mod pair;
+mod point;
+mod tally;
+
+pub use point::{Point, Run};
+pub use tally::{Listed, Tally};
