@@ -12,6 +12,7 @@ pub struct Run {
     pub random: Random,
     pub answers: Tally,
     fence: Fence,
+    element_fence: Fence,
 }
 
 impl Run {
@@ -20,6 +21,7 @@ impl Run {
             random: Random::announced(purpose, seed),
             answers: Tally::default(),
             fence: Fence::build(),
+            element_fence: Fence::build(),
         }
     }
 }
@@ -38,6 +40,17 @@ pub struct Point {
     table: Pair,
     /// The table before the last call.
     before: Vec<u8>,
+    /// What the last call that may emit has written.
+    emitted: Vec<u8>,
+}
+
+/// How an element comes in.
+#[derive(Clone, Debug)]
+pub struct Received {
+    pub clock: u64,
+    pub transmitter: [u8; 6],
+    pub link_metric: u32,
+    pub element: Vec<u8>,
 }
 
 impl Point {
@@ -45,6 +58,7 @@ impl Point {
         Point {
             table: Pair::new(table, random),
             before: Vec::with_capacity(table.len()),
+            emitted: Vec::new(),
         }
     }
 
@@ -55,6 +69,11 @@ impl Point {
     /// The table before the last call.
     pub fn before(&self) -> &[u8] {
         &self.before
+    }
+
+    /// The frames of the last call that may emit.
+    pub fn emitted(&self) -> &[u8] {
+        &self.emitted
     }
 
     fn keep_before(&mut self) {
@@ -116,6 +135,8 @@ impl Point {
             assert_eq!((found.frames, found.octets), (0, 0), "{}: no zeros", on());
             assert!(self.before == self.table(), "{}: refused but changed", on());
         }
+        self.emitted.clear();
+        self.emitted.extend(&output.octets()[..beyond]);
         found
     }
 
@@ -180,6 +201,25 @@ impl Point {
             &mut run.random,
         );
         run.answers.count("break", outcome.answer);
+        outcome
+    }
+
+    pub fn receive(&mut self, received: &Received, run: &mut Run) -> Outcome {
+        let &Received {
+            clock,
+            transmitter,
+            link_metric,
+            ref element,
+        } = received;
+        let transmitter = lend_address(transmitter, &mut run.fence, &mut run.random);
+        let lent = lend(element, &mut run.element_fence, &mut run.random);
+        let outcome = self.compare_emitting(
+            || format!("{received:?}"),
+            |by, table, output| (by.receive)(table, output, clock, transmitter, link_metric, lent),
+            &mut run.random,
+        );
+        assert_eq!(lent, element, "the element was changed");
+        run.answers.count("receive", outcome.answer);
         outcome
     }
 }

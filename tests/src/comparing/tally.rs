@@ -22,6 +22,12 @@ impl Tally {
         self.counts.values().sum()
     }
 
+    /// How often something was counted, however it came out.
+    pub fn total_of(&self, what: &'static str) -> u64 {
+        let all = self.counts.range((what, 0)..=(what, u32::MAX));
+        all.map(|(_, count)| count).sum()
+    }
+
     pub fn report(&self, listed: &[Listed]) {
         for &(what, outcomes) in listed {
             let counts: Vec<String> = outcomes

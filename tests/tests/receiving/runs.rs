@@ -1,0 +1,51 @@
+//! Many meshes, one after another.
+
+use hwmp_tests::comparing::{Listed, Run, Tally};
+
+use crate::mesh::{ACCEPTED, LOOPS, Mesh, WALKS};
+
+/// How many elements are delivered in all.
+const DELIVERIES: u64 = 3_000_000;
+
+/// What the calls of a mesh can answer, and how often each must have occurred.
+const LEAST_ANSWERED: u64 = 300;
+const ANSWERS: [Listed; 6] = [
+    ("fresh", &[0]),
+    ("ask", &[0, 2, 10, 24]),
+    ("announce", &[0, 2]),
+    ("root request", &[0, 2]),
+    ("break", &[0, 2, 4, 22, 23]),
+    ("receive", &[0, 2, 13, 22, 23, 24, 25, 26, 27]),
+];
+
+/// Loops that are met outside the premise show that a walk can fail.
+const LEAST_SEEN: u64 = 100;
+const SEEN: [Listed; 3] = [
+    (ACCEPTED, &[126, 130, 131, 132]),
+    (WALKS, &[0, 1]),
+    (LOOPS, &[0]),
+];
+
+/// How many walks must have been judged with the premise met.
+const LEAST_WALKS: u64 = 10_000_000;
+
+#[test]
+fn points_agree_and_no_walk_meets_a_point_twice() {
+    let run = &mut Run::announced("meshes", 0x0003_1778);
+    let seen = &mut Tally::default();
+    let mut meshes = 0;
+    while run.answers.total_of("receive") < DELIVERIES {
+        let mut mesh = Mesh::fresh(run);
+        for _ in 0..200 + run.random.below(600) {
+            mesh.step(run, seen);
+        }
+        mesh.check_all_walks(seen);
+        meshes += 1;
+    }
+    println!("meshes: {meshes}");
+    run.answers.report(&ANSWERS);
+    seen.report(&SEEN);
+    run.answers.check(&ANSWERS, LEAST_ANSWERED);
+    seen.check(&SEEN, LEAST_SEEN);
+    assert!(seen.of(WALKS, 1) >= LEAST_WALKS);
+}
