@@ -9,6 +9,7 @@ pub mod implementation;
 pub mod library;
 pub mod probe;
 pub mod random;
+pub mod received;
 pub mod reference;
 pub mod tables;
 pub mod worked;

@@ -5,5 +5,5 @@ mod pair;
 mod point;
 mod tally;
 
-pub use point::{Point, Received, Run};
+pub use point::{Point, Run};
 pub use tally::{Listed, Tally};

@@ -2,6 +2,7 @@ use crate::fence::{Fence, Side};
 use crate::implementation::{Implementation, LIBRARY, REFERENCE};
 use crate::library::Outcome;
 use crate::random::Random;
+use crate::received::Received;
 use crate::tables;
 
 use super::pair::Pair;
@@ -42,15 +43,6 @@ pub struct Point {
     before: Vec<u8>,
     /// What the last call that may emit has written.
     emitted: Vec<u8>,
-}
-
-/// How an element comes in.
-#[derive(Clone, Debug)]
-pub struct Received {
-    pub clock: u64,
-    pub transmitter: [u8; 6],
-    pub link_metric: u32,
-    pub element: Vec<u8>,
 }
 
 impl Point {

@@ -7,8 +7,9 @@ mod operands;
 use crate::random::Random;
 use crate::tables::{boundary32, individual, not_individual, one_bit_off};
 
+pub use damage::damaged;
 pub use kind::{KINDS, Kind};
-pub use operands::{Room, some_address, some_room};
+pub use operands::{Room, listed_places, some_address, some_room};
 
 use kind::Field;
 
@@ -52,6 +53,13 @@ fn push(octets: &mut Vec<u8>, field: Field, address: [u8; 6], random: &mut Rando
         Field::Number => octets.extend(any_number(random).to_le_bytes()),
         Field::Address => octets.extend(address),
     }
+}
+
+/// The element with these octets after ID and Length.
+pub fn framed(id: u8, fields: &[u8]) -> Vec<u8> {
+    let mut octets = [&[id, 0], fields].concat();
+    fit_length(&mut octets);
+    octets
 }
 
 /// The Length octet for what follows it; from 256 octets on it goes round.

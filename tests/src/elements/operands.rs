@@ -17,14 +17,23 @@ pub fn some_address(octets: &[u8], random: &mut Random) -> [u8; 6] {
 }
 
 fn some_listed_address(octets: &[u8], random: &mut Random) -> Option<[u8; 6]> {
-    let kind = Kind::of(octets)?;
-    let list = kind.list.as_ref()?;
-    let entries: Vec<&[u8]> = octets
-        .get(kind.list_at()..)?
-        .chunks_exact(list.entry_octets())
-        .collect();
-    let entry = *entries.get(random.below(entries.len().max(1)))?;
-    entry[list.address_at()..][..6].try_into().ok()
+    let places = listed_places(octets);
+    let at = *places.get(random.below(places.len().max(1)))?;
+    octets[at..at + 6].try_into().ok()
+}
+
+/// Where the addresses of the whole entries in the list stand, as far as the octets go.
+pub fn listed_places(octets: &[u8]) -> Vec<usize> {
+    let Some(kind) = Kind::of(octets) else {
+        return Vec::new();
+    };
+    let Some(list) = &kind.list else {
+        return Vec::new();
+    };
+    let (at, width) = (kind.list_at(), list.entry_octets());
+    let entries = octets.len().saturating_sub(at) / width;
+    let place = |entry| at + entry * width + list.address_at();
+    (0..entries).map(place).collect()
 }
 
 fn some_stretch(octets: &[u8], random: &mut Random) -> Option<[u8; 6]> {

@@ -1,9 +1,10 @@
 //! Points that send to each other. What was sent may be delivered at any later time, again,
 //! to anybody, or never.
 
-use hwmp_tests::comparing::{Point, Received, Run, Tally};
+use hwmp_tests::comparing::{Point, Run, Tally};
 use hwmp_tests::library::Outcome;
 use hwmp_tests::random::Random;
+use hwmp_tests::received::Received;
 use hwmp_tests::reference::element::{Element, Rerr};
 use hwmp_tests::reference::table::Table;
 use hwmp_tests::reference::{Address, SequenceNumber};

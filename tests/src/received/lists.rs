@@ -1,0 +1,124 @@
+use super::known::Known;
+use crate::elements;
+use crate::random::Random;
+use crate::reference::element::{Rerr, Rreq};
+use crate::tables::{individual, not_individual};
+
+/// The destinations of a request: all ones alone, or several, the own address among them,
+/// destinations of rows, the transmitter, and new ones.
+pub(super) fn destinations(
+    known: &Known,
+    transmitter: [u8; 6],
+    originator: [u8; 6],
+    random: &mut Random,
+) -> Vec<Vec<u8>> {
+    if random.one_in(10) {
+        return vec![destination([0xFF; 6], random.number() as u32, random)];
+    }
+    let any = 1 + random.below(Rreq::MOST);
+    let count = random.pick(&[1, 1, 2, any, Rreq::MOST, Rreq::MOST]);
+    let draw = |random: &mut Random| {
+        let row = known.some_row(random).destination.0;
+        let (own, new) = (known.head.own.0, individual(random).0);
+        random.pick(&[own, transmitter, row, row, row, row, row, new])
+    };
+    let addresses = distinct(count, &[originator], draw, random);
+    let listed = |address: &[u8; 6]| {
+        let number = known.number_for(*address, random);
+        destination(*address, number, random)
+    };
+    addresses.iter().map(listed).collect()
+}
+
+fn destination(address: [u8; 6], number: u32, random: &mut Random) -> Vec<u8> {
+    // Any reserved bits; DO and RF in each of their four ways.
+    let flags = random.octet() & random.pick(&[0x03, 0xFF]);
+    [&[flags][..], &address, &number.to_le_bytes()].concat()
+}
+
+/// Flags of a request with these destinations: unicast only if that is allowed.
+pub(super) fn request_flags(list: &[Vec<u8>], random: &mut Random) -> u8 {
+    let flags = random.octet();
+    let one = matches!(list, [only] if only[1..7] != [0xFF; 6]);
+    if one { flags } else { flags & !Rreq::UNICAST }
+}
+
+/// What an error names: rows through its transmitter, other rows, and new addresses.
+pub(super) fn errors(known: &Known, transmitter: [u8; 6], random: &mut Random) -> Vec<Vec<u8>> {
+    let any = 1 + random.below(Rerr::MOST);
+    let count = random.pick(&[1, 2, any, any, Rerr::MOST]);
+    let through: Vec<[u8; 6]> = known
+        .rows
+        .iter()
+        .filter(|row| row.next_hop.0 == transmitter)
+        .map(|row| row.destination.0)
+        .collect();
+    let draw = |random: &mut Random| {
+        let row = known.some_row(random).destination.0;
+        let hit = match through[..] {
+            [] => row,
+            _ => random.pick(&through),
+        };
+        let new = individual(random).0;
+        random.pick(&[hit, hit, hit, hit, hit, hit, row, new])
+    };
+    let addresses = distinct(count, &[], draw, random);
+    let listed = |address: &[u8; 6]| {
+        let number = known.number_for(*address, random);
+        [&address[..], &number.to_le_bytes()].concat()
+    };
+    addresses.iter().map(listed).collect()
+}
+
+/// So many individual addresses, none twice and none of those taken. If what is drawn does not
+/// suffice, new ones fill the list.
+fn distinct(
+    count: usize,
+    taken: &[[u8; 6]],
+    draw: impl Fn(&mut Random) -> [u8; 6],
+    random: &mut Random,
+) -> Vec<[u8; 6]> {
+    let mut addresses: Vec<[u8; 6]> = Vec::with_capacity(count);
+    for attempt in 0.. {
+        if addresses.len() == count {
+            break;
+        }
+        let address = if attempt < 4 * count {
+            draw(random)
+        } else {
+            individual(random).0
+        };
+        let individual = address[0] & 1 == 0 && address != [0; 6];
+        if individual && !taken.contains(&address) && !addresses.contains(&address) {
+            addresses.push(address);
+        }
+    }
+    addresses
+}
+
+/// One address of the list made such that no point accepts it, or a flag that does not go with
+/// the list. A list without entries stays.
+pub(super) fn spoil(element: &mut [u8], own: [u8; 6], random: &mut Random) {
+    let places = elements::listed_places(element);
+    let (Some(&first), Some(&last)) = (places.first(), places.last()) else {
+        return;
+    };
+    let at = random.pick(&places);
+    let other: [u8; 6] = element[random.pick(&[first, last])..][..6]
+        .try_into()
+        .unwrap();
+    let address = match random.below(5) {
+        0 => not_individual(random).0,
+        1 => [0xFF; 6],
+        2 => other,
+        // The originator of a RREQ; of others some other octets.
+        3 => element
+            .get(9..15)
+            .map_or(other, |octets| octets.try_into().unwrap()),
+        _ => {
+            element[2] |= Rreq::UNICAST;
+            own
+        }
+    };
+    element[at..][..6].copy_from_slice(&address);
+}

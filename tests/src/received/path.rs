@@ -1,0 +1,99 @@
+use super::Received;
+use super::known::{Known, near};
+use crate::elements::Kind;
+use crate::random::Random;
+use crate::tables::{boundary32, individual, not_individual};
+
+/// What an element other than a RERR tells of a path.
+pub(super) struct Path {
+    pub end: [u8; 6],
+    pub number: u32,
+    pub lifetime: u32,
+    pub metric: u32,
+    hop_count: u8,
+}
+
+impl Path {
+    /// A path to the end of some row, to the transmitter, or to a new address.
+    pub fn draw(known: &Known, received: &Received, random: &mut Random) -> Path {
+        let row = known.some_row(random);
+        let new = individual(random).0;
+        let transmitter = received.transmitter;
+        let end = match random.below(8) {
+            0..5 if row.is_held() => row.destination.0,
+            5 => transmitter,
+            _ => new,
+        };
+        let row = known.row_for(end).copied().unwrap_or_default();
+        Path {
+            end,
+            number: near(row.number.0, random),
+            lifetime: some_lifetime(received.clock, row.expiry, random),
+            metric: some_metric(received.link_metric, row.metric.0, random),
+            hop_count: random.octet().min(254),
+        }
+    }
+
+    /// Flags, hop count and TTL.
+    pub fn head(&self, flags: u8, random: &mut Random) -> [u8; 3] {
+        [
+            flags,
+            self.hop_count,
+            random.pick(&[0, 1, 2, 2, 3, 31, 255]),
+        ]
+    }
+}
+
+/// Such that the new expiry is near the stored one, if that is possible.
+fn some_lifetime(clock: u64, expiry: u64, random: &mut Random) -> u32 {
+    let edge = boundary32(random).max(1);
+    let until_then = expiry.saturating_sub(clock) + random.pick(&[0, 1, 2]);
+    let until_then = u32::try_from(until_then.saturating_sub(1)).unwrap_or(edge);
+    random.pick(&[until_then, until_then, edge, 5000]).max(1)
+}
+
+/// Such that with the link it is near the row's, or near the largest that a path may have.
+fn some_metric(link: u32, row: u32, random: &mut Random) -> u32 {
+    let most = u32::MAX - 1;
+    let below = random.pick(&[0, 0, 1, 1, 2]);
+    let near_row = row
+        .saturating_add(1)
+        .saturating_sub(link)
+        .saturating_sub(below);
+    let near_most = most.saturating_sub(link).saturating_sub(below);
+    let small = random.below(1000) as u32;
+    let metric = random.pick(&[near_row, near_row, near_row, small, small, near_most]);
+    metric.min(most.saturating_sub(link))
+}
+
+/// One field made such that no point accepts it. The fields of a RERR are in its list.
+pub(super) fn spoil(element: &mut [u8], own: [u8; 6], random: &mut Random) {
+    let Some((end_at, lifetime_at)) = places(element) else {
+        return;
+    };
+    match random.below(7) {
+        0 => element[lifetime_at..][..4].fill(0),
+        1 => element[3] = 255,
+        2 => element[lifetime_at + 4..][..4].fill(0xFF),
+        3 => element[4] = random.pick(&[0, 1]),
+        4 => element[end_at..][..6].copy_from_slice(&not_individual(random).0),
+        5 => element[end_at..][..6].copy_from_slice(&own),
+        // The source of a reply; of others it is some other field.
+        _ => {
+            let end: [u8; 6] = element[end_at..][..6].try_into().unwrap();
+            let at = (lifetime_at + 8).min(element.len() - 6);
+            let bad = not_individual(random).0;
+            let source = random.pick(&[end, bad]);
+            element[at..][..6].copy_from_slice(&source);
+        }
+    }
+}
+
+/// Where the end of the path and the lifetime stand.
+fn places(element: &[u8]) -> Option<(usize, usize)> {
+    match Kind::of(element)?.name {
+        "RANN" | "RREP" => Some((5, 15)),
+        "RREQ" => Some((9, 19)),
+        _ => None,
+    }
+}
