@@ -33,14 +33,13 @@ impl Known {
             .find(|row| row.destination.0 == destination)
     }
 
-    /// A number to stand beside an address: near the one that is held for it.
-    pub fn number_for(&self, address: [u8; 6], random: &mut Random) -> u32 {
-        let held = if address == self.head.own.0 {
+    /// The number that is held for an address.
+    pub fn number_for(&self, address: [u8; 6]) -> u32 {
+        if address == self.head.own.0 {
             self.head.number.0
         } else {
             self.row_for(address).map_or(0, |row| row.number.0)
-        };
-        near(held, random)
+        }
     }
 
     /// At the latest clock or soon after, or when a row expires.

@@ -1,7 +1,7 @@
-use super::known::Known;
+use super::known::{Known, near};
 use crate::elements;
 use crate::random::Random;
-use crate::reference::element::{Rerr, Rreq};
+use crate::reference::element::{Destination, Rerr, Rreq};
 use crate::tables::{individual, not_individual};
 
 /// The destinations of a request: all ones alone, or several, the own address among them,
@@ -13,27 +13,39 @@ pub(super) fn destinations(
     random: &mut Random,
 ) -> Vec<Vec<u8>> {
     if random.one_in(10) {
-        return vec![destination([0xFF; 6], random.number() as u32, random)];
+        let number = random.number() as u32;
+        return vec![destination(some_flags(random), [0xFF; 6], number)];
     }
     let any = 1 + random.below(Rreq::MOST);
     let count = random.pick(&[1, 1, 2, any, Rreq::MOST, Rreq::MOST]);
+    let easy = random.one_in(8);
     let draw = |random: &mut Random| {
         let row = known.some_row(random).destination.0;
         let (own, new) = (known.head.own.0, individual(random).0);
-        random.pick(&[own, transmitter, row, row, row, row, row, new])
+        let any = random.pick(&[own, transmitter, row, row, row, row, row, new]);
+        if easy { row } else { any }
     };
     let addresses = distinct(count, &[originator], draw, random);
     let listed = |address: &[u8; 6]| {
-        let number = known.number_for(*address, random);
-        destination(*address, number, random)
+        let held = known.number_for(*address);
+        let (flags, number) = (some_flags(random), near(held, random));
+        if easy {
+            // Each row that is active gives a reply.
+            destination(flags & !Destination::DO, *address, held)
+        } else {
+            destination(flags, *address, number)
+        }
     };
     addresses.iter().map(listed).collect()
 }
 
-fn destination(address: [u8; 6], number: u32, random: &mut Random) -> Vec<u8> {
-    // Any reserved bits; DO and RF in each of their four ways.
-    let flags = random.octet() & random.pick(&[0x03, 0xFF]);
+fn destination(flags: u8, address: [u8; 6], number: u32) -> Vec<u8> {
     [&[flags][..], &address, &number.to_le_bytes()].concat()
+}
+
+/// DO and RF in each of their four ways, with any reserved bits or none.
+fn some_flags(random: &mut Random) -> u8 {
+    random.octet() & random.pick(&[0x03, 0xFF])
 }
 
 /// Flags of a request with these destinations: unicast only if that is allowed.
@@ -53,6 +65,7 @@ pub(super) fn errors(known: &Known, transmitter: [u8; 6], random: &mut Random) -
         .filter(|row| row.next_hop.0 == transmitter)
         .map(|row| row.destination.0)
         .collect();
+    let easy = random.one_in(4);
     let draw = |random: &mut Random| {
         let row = known.some_row(random).destination.0;
         let hit = match through[..] {
@@ -60,11 +73,12 @@ pub(super) fn errors(known: &Known, transmitter: [u8; 6], random: &mut Random) -
             _ => random.pick(&through),
         };
         let new = individual(random).0;
-        random.pick(&[hit, hit, hit, hit, hit, hit, row, new])
+        let any = random.pick(&[hit, hit, hit, hit, hit, hit, row, new]);
+        if easy { hit } else { any }
     };
     let addresses = distinct(count, &[], draw, random);
     let listed = |address: &[u8; 6]| {
-        let number = known.number_for(*address, random);
+        let number = near(known.number_for(*address), random);
         [&address[..], &number.to_le_bytes()].concat()
     };
     addresses.iter().map(listed).collect()

@@ -2,6 +2,7 @@
 //! octets, and cases worked out by hand from document 01.
 
 mod damaged;
+mod kinds;
 mod mesh;
 mod runs;
 mod ways;

@@ -1,7 +1,7 @@
 //! Points that send to each other. What was sent may be delivered at any later time, again,
 //! to anybody, or never.
 
-use hwmp_tests::comparing::{Point, Run, Tally};
+use hwmp_tests::comparing::{Point, Run, Tally, frames};
 use hwmp_tests::library::Outcome;
 use hwmp_tests::random::Random;
 use hwmp_tests::received::Received;
@@ -160,20 +160,18 @@ impl Mesh {
     /// Cuts what a point has emitted into frames; each must be one that can be read.
     fn keep_sent(&mut self, from: usize, outcome: Outcome) {
         let emitted = self.points[from].emitted().to_vec();
-        let mut rest = &emitted[..];
-        for _ in 0..outcome.frames {
-            let (receiver, after) = rest.split_at(6);
-            let (element, others) = after.split_at(2 + usize::from(after[1]));
+        let mut count = 0;
+        for (receiver, element) in frames(&emitted) {
             let read = Element::read(element).expect("what a point emits can be read");
             self.note_carried(&read);
             self.sent.push(Sent {
                 from,
-                to: self.addresses.iter().position(|known| known == receiver),
+                to: self.place_of(Address(receiver)),
                 element: element.to_vec(),
             });
-            rest = others;
+            count += 1;
         }
-        assert!(rest.is_empty(), "more octets than frames: {emitted:?}");
+        assert_eq!(count, outcome.frames, "frames in {emitted:?}");
     }
 
     /// The numbers beside addresses in an element.

@@ -1,0 +1,236 @@
+//! Elements of every kind on legal tables: requests whose destinations have rows of all sorts,
+//! replies with any number of dependents, errors with any number of matches.
+
+use hwmp_tests::comparing::{Listed, Point, Run, Tally, frames};
+use hwmp_tests::random::Random;
+use hwmp_tests::received::{self, Received};
+use hwmp_tests::reference::element::{Destination, Element, Rerr, Rrep, Rreq};
+use hwmp_tests::reference::table::{MAX_ROWS, Row, Table, VALID};
+use hwmp_tests::reference::{Address, SequenceNumber};
+use hwmp_tests::tables;
+
+const TABLES: usize = 300_000;
+const CALLS_PER_TABLE: usize = 6;
+
+/// What accepted elements must have met, and how often; where it is a yes or no, 1 is yes.
+const LEAST: u64 = 20;
+const SEEN: [Listed; 15] = [
+    (END, &[0, 1, 2, 3, 4]),
+    (STORED_EXPIRY_LARGER, &[0, 1]),
+    (TRANSMITTER, &[0, 1, 2, 3, 4]),
+    (ACTIVE_LINK, &BELOW_AT_ABOVE),
+    (INACTIVE_LINK, &BELOW_AT_ABOVE),
+    (TTL, &[0, 1, 2, 3, 31, 255]),
+    (DESTINATION, &[0, 1, 2, 3, 4, 5, 6]),
+    (OWN_ASKED_FOR, &[0, 1, 2, 3]),
+    (
+        ACTIVE_ASKED_FOR,
+        UP_TO_25_AND_0.first_chunk::<16>().unwrap().as_slice(),
+    ),
+    (
+        REPLIES,
+        UP_TO_25_AND_0.first_chunk::<21>().unwrap().as_slice(),
+    ),
+    (UNICAST_GOES_ON, &[0, 1]),
+    (
+        DEPENDENTS,
+        UP_TO_25_AND_0.first_chunk::<23>().unwrap().as_slice(),
+    ),
+    (SOURCE, &[0, 1, 2]),
+    (NAMED, UP_TO_25_AND_0.last_chunk::<25>().unwrap().as_slice()),
+    (
+        MATCHES,
+        UP_TO_25_AND_0.last_chunk::<25>().unwrap().as_slice(),
+    ),
+];
+const END: &str = "row of the path's end, by its sort";
+const STORED_EXPIRY_LARGER: &str = "stored expiry of an active end larger";
+const TRANSMITTER: &str = "row of another transmitter, by its sort";
+const ACTIVE_LINK: &str = "link below 0, at 1, above 2 the metric of an active transmitter";
+const INACTIVE_LINK: &str = "the same of an inactive one of known number";
+const TTL: &str = "TTL of a RREQ or RANN";
+const DESTINATION: &str = "row of a destination, by its sort; own address 5, all ones 6";
+const OWN_ASKED_FOR: &str = "number asked of oneself equal 0, newer 1, older 2, half apart 3";
+const ACTIVE_ASKED_FOR: &str = "the same of an active row, plus 4 for DO, plus 8 for RF";
+const REPLIES: &str = "replies to a RREQ";
+const UNICAST_GOES_ON: &str = "unicast RREQ goes on";
+const DEPENDENTS: &str = "dependents of a RREP";
+const SOURCE: &str = "source of a RREP with an active row 1, own 2, another 0";
+const NAMED: &str = "destinations of a RERR";
+const MATCHES: &str = "matches of a RERR";
+
+const BELOW_AT_ABOVE: [u32; 3] = [0, 1, 2];
+const UP_TO_25_AND_0: [u32; 26] = [
+    0, 1, 2, 3, 4, 5, 6, 7, 8, 9, 10, 11, 12, 13, 14, 15, 16, 17, 18, 19, 20, 21, 22, 23, 24, 25,
+];
+
+/// Some of the tables are full, and in some one neighbour leads to nearly all destinations.
+fn some_table(random: &mut Random) -> Vec<u8> {
+    let most = random.pick(&[4, 32, 64, MAX_ROWS]);
+    let rows = 1 + random.below(most);
+    match random.below(3) {
+        0 => tables::leaning(rows, random),
+        _ => tables::legal(rows, random),
+    }
+}
+
+/// An accepted call.
+struct Accepted<'a> {
+    before: Table<'a>,
+    after: Table<'a>,
+    received: &'a Received,
+    emitted: &'a [u8],
+}
+
+impl Accepted<'_> {
+    fn see(&self, seen: &mut Tally) {
+        match Element::read(&self.received.element).expect("it was accepted") {
+            Element::Rann(rann) => {
+                seen.count(TTL, rann.ttl.into());
+                self.see_path(rann.originator, rann.lifetime, seen);
+            }
+            Element::Rreq(rreq) => {
+                seen.count(TTL, rreq.ttl.into());
+                self.see_path(rreq.originator, rreq.lifetime, seen);
+                self.see_request(&rreq, seen);
+            }
+            Element::Rrep(rrep) => {
+                self.see_path(rrep.destination, rrep.lifetime, seen);
+                self.see_reply(&rrep, seen);
+            }
+            Element::Rerr(rerr) => self.see_error(&rerr, seen),
+        }
+    }
+
+    /// None 0, active 1, active of unknown number 2, expired 3, invalidated 4.
+    fn sort(&self, row: Option<Row>) -> u32 {
+        match row {
+            None => 0,
+            Some(row) if row.is_active(self.received.clock) => 2 - u32::from(row.number_known),
+            Some(row) if row.status == VALID => 3,
+            Some(_) => 4,
+        }
+    }
+
+    fn see_path(&self, end: Address, lifetime: u32, seen: &mut Tally) {
+        let Received {
+            clock,
+            transmitter,
+            link_metric,
+            ..
+        } = *self.received;
+        let row = row(&self.before, end);
+        seen.count(END, self.sort(row));
+        if let Some(row) = row.filter(|row| row.is_active(clock)) {
+            let larger = row.expiry > clock + u64::from(lifetime);
+            seen.count(STORED_EXPIRY_LARGER, larger.into());
+        }
+        if transmitter != end.0 {
+            self.see_transmitter(Address(transmitter), link_metric, seen);
+        }
+    }
+
+    fn see_transmitter(&self, transmitter: Address, link: u32, seen: &mut Tally) {
+        let row = row(&self.before, transmitter);
+        seen.count(TRANSMITTER, self.sort(row));
+        if let Some(row) = row {
+            let against_metric = (link.cmp(&row.metric.0) as i32 + 1) as u32;
+            if row.is_active(self.received.clock) {
+                seen.count(ACTIVE_LINK, against_metric);
+            } else if row.has_known_number() {
+                seen.count(INACTIVE_LINK, against_metric);
+            }
+        }
+    }
+
+    fn see_request(&self, rreq: &Rreq, seen: &mut Tally) {
+        for destination in rreq.destinations() {
+            self.see_destination(&destination, seen);
+        }
+        let ids: Vec<u8> = frames(self.emitted)
+            .map(|(_, element)| element[0])
+            .collect();
+        let replies = ids.iter().filter(|&&id| id == Rrep::ID).count();
+        seen.count(REPLIES, replies as u32);
+        if rreq.flags & Rreq::UNICAST != 0 {
+            let goes_on = ids.contains(&Rreq::ID);
+            seen.count(UNICAST_GOES_ON, goes_on.into());
+        }
+    }
+
+    /// By the rows that the path left.
+    fn see_destination(&self, asked: &Destination, seen: &mut Tally) {
+        let head = self.before.head();
+        if asked.address == head.own {
+            seen.count(DESTINATION, 5);
+            seen.count(OWN_ASKED_FOR, relation(asked.number, head.number));
+        } else if asked.address == Address::ALL_ONES {
+            seen.count(DESTINATION, 6);
+        } else {
+            let row = row(&self.after, asked.address);
+            let sort = self.sort(row);
+            seen.count(DESTINATION, sort);
+            if let (Some(row), 1) = (row, sort) {
+                let flags = u32::from(asked.flags & (Destination::DO | Destination::RF));
+                let relation = relation(asked.number, row.number);
+                seen.count(ACTIVE_ASKED_FOR, relation + 4 * flags);
+            }
+        }
+    }
+
+    fn see_reply(&self, rrep: &Rrep, seen: &mut Tally) {
+        seen.count(DEPENDENTS, rrep.dependents().len() as u32);
+        let row = self.after.active_row_for(rrep.source, self.received.clock);
+        let own = rrep.source == self.after.head().own;
+        seen.count(SOURCE, u32::from(row.is_some()) + 2 * u32::from(own));
+    }
+
+    fn see_error(&self, rerr: &Rerr, seen: &mut Tally) {
+        seen.count(NAMED, rerr.destinations().len() as u32);
+        let rows = self.before.rows().zip(self.after.rows());
+        let matches = rows.filter(|(before, after)| before.status != after.status);
+        seen.count(MATCHES, matches.count() as u32);
+    }
+}
+
+fn row(table: &Table, destination: Address) -> Option<Row> {
+    table.row_for(destination).map(|(_, row)| row)
+}
+
+/// Equal 0, newer 1, older 2, half the circle apart 3.
+fn relation(asked: SequenceNumber, held: SequenceNumber) -> u32 {
+    match asked.0.wrapping_sub(held.0) {
+        0 => 0,
+        0x8000_0000 => 3,
+        ahead => 1 + (ahead >> 31),
+    }
+}
+
+#[test]
+fn library_and_reference_agree() {
+    let run = &mut Run::announced("receiving all kinds", 0x0130_0131);
+    let seen = &mut Tally::default();
+    for _ in 0..TABLES {
+        let table = some_table(&mut run.random);
+        let mut point = Point::new(&table, &mut run.random);
+        for _ in 0..CALLS_PER_TABLE {
+            let received = received::suited(point.table(), &mut run.random);
+            if point.receive(&received, run).answer == 0 {
+                let [before, after] = [point.before(), point.table()]
+                    .map(|octets| Table::cut(octets).expect("it was accepted"));
+                assert_eq!(after.check(), Ok(()), "no table is left by {received:?}");
+                let emitted = point.emitted();
+                let accepted = Accepted {
+                    before,
+                    after,
+                    received: &received,
+                    emitted,
+                };
+                accepted.see(seen);
+            }
+        }
+    }
+    seen.report(&SEEN);
+    seen.check(&SEEN, LEAST);
+    println!("elements of all kinds received: {}", run.answers.total());
+}
