@@ -1,9 +1,18 @@
 //! Receiving: random meshes whose points send to each other, single calls on random and damaged
 //! octets, and cases worked out by hand from document 01.
 
+mod addresses;
+mod cases;
 mod damaged;
+mod errors;
+mod free_rows;
 mod kinds;
+mod learning;
 mod mesh;
+mod refusals;
+mod replies;
+mod requests;
 mod runs;
+mod three_points;
 mod ways;
 mod window;

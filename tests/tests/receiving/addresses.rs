@@ -1,0 +1,107 @@
+//! Refusals 9, 10 and 24: addresses that may not stand where they do.
+
+use hwmp_tests::worked::{ALL_ONES, Address, FREE, GROUP, OWN, Row, ZERO};
+
+use crate::cases::{A, B, C, END, PATH, Path, T, active, rann, refuses, rerr, rrep, rreq};
+
+const ROWS: [Row; 2] = [FREE; 2];
+const NOT_INDIVIDUAL: [Address; 4] = [GROUP, ZERO, ALL_ONES, [1, 0, 0, 0, 0, 0]];
+
+fn to(end: Address) -> Path {
+    Path { end, ..PATH }
+}
+
+#[test]
+fn ends_and_sources_are_individual() {
+    for bad in NOT_INDIVIDUAL {
+        let what = format!("{bad:?}");
+        refuses(&what, &ROWS, &rann(0, to(bad)), 9);
+        refuses(&what, &ROWS, &rreq(0, to(bad), &[(0, A, 0)]), 9);
+        refuses(&what, &ROWS, &rrep(0, to(bad), A, &[]), 9);
+        refuses(&what, &ROWS, &rrep(0, PATH, bad, &[]), 9);
+    }
+    // Also where both are the same, which would be 10.
+    refuses("both", &ROWS, &rrep(0, to(GROUP), GROUP, &[]), 9);
+}
+
+/// All ones may be the destination of a request, and of nothing else; in any place of a list.
+#[test]
+fn destinations_are_individual() {
+    for bad in NOT_INDIVIDUAL {
+        for place in 0..20 {
+            let address = |at| if at == place { bad } else { listed(at) };
+            let asked: Vec<_> = (0..20).map(|at| (0, address(at), 0)).collect();
+            let named: Vec<_> = (0..25).map(|at| (address(at), 0)).collect();
+            let of_request = if bad == ALL_ONES { 10 } else { 9 };
+            let what = format!("{bad:?} in place {place}");
+            refuses(&what, &ROWS, &rreq(0, PATH, &asked), of_request);
+            refuses(&what, &ROWS, &rerr(0, &named), 9);
+        }
+        refuses("alone", &ROWS, &rerr(0, &[(bad, 0)]), 9);
+    }
+}
+
+fn listed(place: usize) -> Address {
+    [0x20, 0, 0, 0, 0, place as u8]
+}
+
+/// Each two places of a list.
+#[test]
+fn no_destination_stands_twice() {
+    for later in 1..25 {
+        for earlier in 0..later {
+            let address = |at| listed(if at == later { earlier } else { at });
+            let what = format!("places {earlier} and {later}");
+            if later < 20 {
+                // With other flags and numbers it is the same destination.
+                let asked: Vec<_> = (0..20)
+                    .map(|at| (at as u8, address(at), at as u32))
+                    .collect();
+                refuses(&what, &ROWS, &rreq(0, PATH, &asked), 10);
+            }
+            let named: Vec<_> = (0..25).map(|at| (address(at), at as u32)).collect();
+            let row = Row {
+                next_hop: T,
+                ..active(listed(earlier))
+            };
+            refuses(&what, &[row], &rerr(0, &named), 10);
+        }
+    }
+}
+
+#[test]
+fn lists_that_do_not_go_together() {
+    let everyone = (3, ALL_ONES, 0);
+    type Case<'a> = (&'a str, u8, &'a [(u8, Address, u32)]);
+    let cases: [Case; 8] = [
+        ("all ones first", 0, &[everyone, (0, A, 0)]),
+        ("all ones last", 0, &[(0, A, 0), everyone]),
+        ("all ones twice", 0, &[everyone, everyone]),
+        ("the originator alone", 0, &[(0, END, 0)]),
+        (
+            "the originator last",
+            0,
+            &[(0, A, 0), (0, B, 0), (0, END, 0)],
+        ),
+        ("unicast to two", 2, &[(0, A, 0), (0, B, 0)]),
+        ("unicast to all ones", 2, &[everyone]),
+        ("unicast to all ones, all flags", 0xFF, &[everyone]),
+    ];
+    for (what, flags, asked) in cases {
+        refuses(what, &ROWS, &rreq(flags, PATH, asked), 10);
+    }
+    refuses("a reply to its source", &ROWS, &rrep(0, PATH, END, &[]), 10);
+    // A bad address comes first, wherever it stands.
+    let asked = [(0, A, 0), (0, A, 0), (0, GROUP, 0)];
+    refuses("10 and 9", &ROWS, &rreq(2, PATH, &asked), 9);
+}
+
+/// The own address as the end of a path; an error may name it, and a request ask for it.
+#[test]
+fn no_path_leads_to_the_point_itself() {
+    refuses("RANN", &ROWS, &rann(0, to(OWN)), 24);
+    refuses("RREQ", &ROWS, &rreq(0, to(OWN), &[(0, A, 0)]), 24);
+    refuses("RREP", &ROWS, &rrep(0, to(OWN), C, &[]), 24);
+    // Also on a full table, where 27 would be next.
+    refuses("full", &[active(A), active(B)], &rann(0, to(OWN)), 24);
+}

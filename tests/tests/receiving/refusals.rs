@@ -1,0 +1,263 @@
+//! The order of the refusals, and the lengths of table, output and element.
+
+use hwmp_tests::fence::{Fence, Side};
+use hwmp_tests::worked::{
+    BOTH, FREE, GROUP, LAST_CLOCK, LEAST_OUTPUT, OWN, Row, ZERO, refused, refused_with_room, table,
+};
+
+use crate::cases::{
+    A, B, C, CLOCK, END, LINK, PATH, Path, T, active, rann, receive, rerr, rrep, rreq,
+};
+
+/// The faults that are in a call.
+struct Faults(Vec<u32>);
+
+impl Faults {
+    fn has(&self, number: u32) -> bool {
+        self.0.contains(&number)
+    }
+
+    /// The value that shows a fault, or the one without it.
+    fn or<V>(&self, number: u32, faulty: V, sound: V) -> V {
+        if self.has(number) { faulty } else { sound }
+    }
+
+    /// The end has a row, and its number is older than the path's; the transmitter needs one.
+    fn table(&self) -> Vec<u8> {
+        let end = Row {
+            number: 8,
+            ..active(END)
+        };
+        let hit = Row {
+            next_hop: T,
+            ..active(A)
+        };
+        let last = self.or(27, active(C), FREE);
+        let mut octets = table(5, 7, 1000, &[end, hit, active(B), last]);
+        octets[6] = self.has(21).into();
+        octets.truncate(octets.len() - usize::from(self.has(1)));
+        octets
+    }
+
+    fn output(&self) -> Vec<u8> {
+        vec![0xA5; LEAST_OUTPUT - usize::from(self.has(2))]
+    }
+
+    fn clock(&self) -> u64 {
+        self.or(3, LAST_CLOCK + 1, self.or(22, 999, CLOCK))
+    }
+
+    fn transmitter(&self) -> [u8; 6] {
+        self.or(4, GROUP, self.or(23, OWN, T))
+    }
+
+    fn link_metric(&self) -> u32 {
+        self.or(5, 0, LINK)
+    }
+
+    fn path(&self) -> Path {
+        Path {
+            hop_count: self.or(12, 255, PATH.hop_count),
+            ttl: self.or(14, 1, PATH.ttl),
+            end: self.or(24, OWN, END),
+            number: self.or(25, 7, 9),
+            lifetime: self.or(11, 0, PATH.lifetime),
+            metric: self.or(13, 0xFFFF_FFFF, PATH.metric),
+        }
+    }
+
+    /// A RANN has one address, and the others need theirs for other faults.
+    fn rann(&self) -> Vec<u8> {
+        let path = self.path();
+        let end = self.or(9, GROUP, path.end);
+        rann(0, Path { end, ..path })
+    }
+
+    fn rreq(&self) -> Vec<u8> {
+        let second = self.or(9, GROUP, C);
+        rreq(self.or(10, 2, 0), self.path(), &[(0, A, 0), (0, second, 0)])
+    }
+
+    fn rrep(&self) -> Vec<u8> {
+        let path = self.path();
+        let source = self.or(9, GROUP, self.or(10, path.end, C));
+        rrep(0, path, source, &[(A, 1)])
+    }
+
+    fn rerr(&self) -> Vec<u8> {
+        let hit = self.or(26, B, A);
+        let third = self.or(10, hit, ZERO);
+        let mut named = vec![(hit, 10), (self.or(9, GROUP, C), 10)];
+        if third != ZERO {
+            named.push((third, 10));
+        }
+        rerr(0, &named)
+    }
+
+    /// Fault 8 takes an octet off, with a Length that counts the rest; fault 6 adds one.
+    fn spoilt(&self, mut element: Vec<u8>) -> Vec<u8> {
+        if self.has(8) {
+            element.pop();
+            element[1] -= 1;
+        }
+        if self.has(7) {
+            element[0] = 99;
+        }
+        if self.has(6) {
+            element.push(0);
+        }
+        element
+    }
+}
+
+/// The types, each with the refusals that it can meet.
+type Type = (&'static str, &'static [u32], fn(&Faults) -> Vec<u8>);
+const TYPES: [Type; 4] = [
+    (
+        "RANN",
+        &[
+            1, 2, 3, 4, 5, 6, 7, 8, 9, 11, 12, 13, 21, 22, 23, 24, 25, 27,
+        ],
+        Faults::rann,
+    ),
+    (
+        "RREQ",
+        &[
+            1, 2, 3, 4, 5, 6, 7, 8, 9, 10, 11, 12, 13, 21, 22, 23, 24, 25, 27,
+        ],
+        Faults::rreq,
+    ),
+    (
+        "RREP",
+        &[
+            1, 2, 3, 4, 5, 6, 7, 8, 9, 10, 11, 12, 13, 14, 21, 22, 23, 24, 25, 27,
+        ],
+        Faults::rrep,
+    ),
+    (
+        "RERR",
+        &[1, 2, 3, 4, 5, 6, 7, 8, 9, 10, 21, 22, 23, 26],
+        Faults::rerr,
+    ),
+];
+
+/// Every set of at most three, each in their order.
+fn sets_of_three(numbers: &[u32]) -> Vec<Faults> {
+    let mut sets = vec![Faults(vec![])];
+    for (place, &first) in numbers.iter().enumerate() {
+        sets.push(Faults(vec![first]));
+        for (next, &second) in numbers.iter().enumerate().skip(place + 1) {
+            sets.push(Faults(vec![first, second]));
+            for &third in &numbers[next + 1..] {
+                sets.push(Faults(vec![first, second, third]));
+            }
+        }
+    }
+    sets
+}
+
+/// Every set of faults gives the lowest of them. Some cannot stand together in one operand, as
+/// a clock that is too large and behind; then only the lower one is really there.
+#[test]
+fn each_type_gives_the_lowest_refusal() {
+    for (name, numbers, element) in TYPES {
+        let sets = sets_of_three(numbers);
+        for faults in &sets {
+            let what = format!("{name} with {:?}", faults.0);
+            let element = faults.spoilt(element(faults));
+            let (clock, transmitter) = (faults.clock(), faults.transmitter());
+            let call = receive(clock, transmitter, faults.link_metric(), &element);
+            let (table, output) = (faults.table(), faults.output());
+            match faults.0.first() {
+                Some(&lowest) => refused(&what, &table, &output, &call, lowest),
+                // Or the sets with faults would show nothing.
+                None => {
+                    for by in BOTH {
+                        let outcome = call(by, &mut table.clone(), &mut output.clone());
+                        assert_eq!(outcome.answer, 0, "{what}: {}", by.name);
+                    }
+                }
+            }
+        }
+        println!("{name}: {} sets of faults give the lowest", sets.len());
+    }
+}
+
+#[test]
+fn only_whole_tables_of_1_to_128_rows_have_a_length() {
+    let lengths: Vec<usize> = (1..=128).map(|rows| 32 + 32 * rows).collect();
+    let element = rann(0, PATH);
+    for length in 0..=32 + 32 * 131 {
+        // Zeros are no table, so a length that fits is refused with 21 instead.
+        let answer = if lengths.contains(&length) { 21 } else { 1 };
+        let call = receive(CLOCK, T, LINK, &element);
+        refused_with_room(&format!("length {length}"), &vec![0; length], &call, answer);
+    }
+}
+
+/// Also for an element that emits nothing. Beside a fence, so that a frame in a shorter output
+/// would end the run.
+#[test]
+fn an_output_has_at_least_1560_octets() {
+    let fence = &mut Fence::build();
+    let silent = Path { ttl: 1, ..PATH };
+    for element in [rann(0, PATH), rann(0, silent)] {
+        for by in BOTH {
+            for length in (0..1570).chain([2000, 4096, 65536]) {
+                let output = fence.lend(&vec![0xA5; length], Side::After);
+                let table = &mut table(5, 7, 1000, &[FREE; 2]);
+                let outcome = receive(CLOCK, T, LINK, &element)(by, table, output);
+                let expected = if length < 1560 { 2 } else { 0 };
+                assert_eq!(outcome.answer, expected, "in {length}: {}", by.name);
+                let changed = output.iter().any(|&octet| octet != 0xA5);
+                assert_eq!(changed, outcome.frames > 0, "in {length}: {}", by.name);
+            }
+        }
+    }
+}
+
+/// An element of each type, cut anywhere, is refused with 6; with a Length that counts what is
+/// left it is refused with 8, and nothing beyond it is read.
+#[test]
+fn elements_that_are_cut_short() {
+    let before = table(5, 7, 1000, &[FREE; 4]);
+    let fence = &mut Fence::build();
+    let mut refuse = |name: &str, element: &[u8], answer: u32| {
+        let lent = fence.lend(element, Side::After);
+        let what = format!("{name} of {}", lent.len());
+        refused_with_room(&what, &before, &receive(CLOCK, T, LINK, lent), answer);
+    };
+    for (name, _, element) in TYPES {
+        let whole = element(&Faults(vec![]));
+        for length in 0..whole.len() {
+            let mut cut = whole[..length].to_vec();
+            refuse(name, &cut, 6);
+            if length >= 2 {
+                cut[1] = length as u8 - 2;
+                refuse(name, &cut, 8);
+            }
+        }
+    }
+}
+
+/// Clocks and transmitters at the ends of what is allowed.
+#[test]
+fn clocks_and_transmitters() {
+    let before = table(5, 7, 1000, &[FREE; 2]);
+    let late = table(5, 7, LAST_CLOCK, &[FREE; 2]);
+    let element = rann(0, PATH);
+    let refuse = |what: &str, before: &[u8], clock, transmitter, answer| {
+        let call = receive(clock, transmitter, LINK, &element);
+        refused_with_room(what, before, &call, answer);
+    };
+    refuse("clock 2^48", &before, LAST_CLOCK + 1, T, 3);
+    refuse("clock 2^63", &before, 1 << 63, T, 3);
+    refuse("clock 2^64 - 1", &before, u64::MAX, T, 3);
+    refuse("clock one behind", &before, 999, T, 22);
+    refuse("clock 0", &before, 0, T, 22);
+    refuse("clock behind the last", &late, LAST_CLOCK - 1, T, 22);
+    refuse("group", &before, CLOCK, GROUP, 4);
+    refuse("all ones", &before, CLOCK, [0xFF; 6], 4);
+    refuse("zero", &before, CLOCK, ZERO, 4);
+    refuse("own", &before, CLOCK, OWN, 23);
+}

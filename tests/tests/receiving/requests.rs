@@ -1,0 +1,375 @@
+//! What a request leads to: replies to the transmitter, and a request that goes on with the
+//! destinations that are kept. Steps 1 and 2 leave the same two rows in every case.
+
+use hwmp_tests::worked::{ALL_ONES, Address, FREE, OWN, Row, STEPS};
+
+use crate::cases::{
+    A, B, C, LEARNT, LINK, NEIGHBOUR, ONWARD, PATH, Path, T, VIA, accepts, accepts_numbered,
+    active, expired, frame, invalidated, new_rrep, rreq,
+};
+
+const UNICAST: u8 = 2;
+const REPLY_WANTED: u8 = 4;
+
+/// A destination with DO set asks nobody but the destination; with RF set it goes on after a
+/// reply. The other bits are reserved.
+const DO: u8 = 1;
+const RF: u8 = 2;
+
+type Asked = (u8, Address, u32);
+
+/// The reply for a path to `end` at this point, back to the transmitter with what the request
+/// brought: its lifetime, originator and originator's number.
+fn reply(end: Address, number: u32, hop_count: u8, metric: u32) -> Vec<u8> {
+    let path = Path {
+        hop_count,
+        ttl: 31,
+        end,
+        number,
+        lifetime: PATH.lifetime,
+        metric,
+    };
+    frame(T, new_rrep(path, PATH.end, PATH.number))
+}
+
+fn own_reply(number: u32) -> Vec<u8> {
+    reply(OWN, number, 0, 0)
+}
+
+/// From a row of this file, as `active` makes them.
+fn row_reply(destination: Address) -> Vec<u8> {
+    reply(destination, 9, 2, 40)
+}
+
+fn onward(flags: u8, kept: &[Asked]) -> Vec<u8> {
+    frame(ALL_ONES, rreq(flags, ONWARD, kept))
+}
+
+/// The request on a table with these rows, after which it has them still.
+fn answers(what: &str, rows: &[Row], flags: u8, asked: &[Asked], frames: &[Vec<u8>]) {
+    let before = [&[FREE, FREE], rows].concat();
+    let after = [&[LEARNT, NEIGHBOUR], rows].concat();
+    accepts(what, &before, &rreq(flags, PATH, asked), &after, frames);
+}
+
+/// Own number before, number asked for, own number after and in the reply.
+const OWN_NUMBERS: [(u32, u32, u32); 12] = [
+    // P7 of document 01.
+    (12, 40, 41),
+    (12, 5, 13),
+    (12, 12, 13),
+    (12, 13, 14),
+    (12, 11, 13),
+    (0xFFFF_FFFF, 0, 1),
+    (0, 0xFFFF_FFFF, 1),
+    (0xFFFF_FFFF, 0xFFFF_FFFF, 0),
+    (5, 0xFFFF_FFFF, 6),
+    // Half the circle apart is not newer.
+    (0, 0x8000_0000, 1),
+    (0x8000_0000, 0, 0x8000_0001),
+    (1, 0x8000_0000, 0x8000_0001),
+];
+
+/// Its own number is raised and stepped, the destination is struck out, and its flags play no
+/// part. Nothing goes on.
+#[test]
+fn a_point_replies_for_itself() {
+    for (own, asked, next) in OWN_NUMBERS {
+        for flags in [0, DO, RF, DO | RF, 0xFC] {
+            let what = format!("{asked} asked of {own}, flags {flags}");
+            let element = rreq(0, PATH, &[(flags, OWN, asked)]);
+            let (before, after) = ([FREE, FREE], [LEARNT, NEIGHBOUR]);
+            let frames = [own_reply(next)];
+            accepts_numbered(&what, own, &before, &element, next, &after, &frames);
+        }
+    }
+}
+
+/// All ones is kept. If a reply is wanted the own number steps by one, whatever number stands
+/// beside all ones.
+#[test]
+fn every_point_replies_if_a_reply_is_wanted() {
+    let (before, after) = ([FREE, FREE], [LEARNT, NEIGHBOUR]);
+    for (flags, wanted) in [
+        (4, true),
+        (5, true),
+        (0xFD, true),
+        (0, false),
+        (0xF9, false),
+    ] {
+        for number in [0, 1000] {
+            let everyone = [(DO | RF, ALL_ONES, number)];
+            for (own, next) in STEPS {
+                let what = format!("all ones, flags {flags}, own number {own}");
+                let element = rreq(flags, PATH, &everyone);
+                let goes_on = onward(flags, &everyone);
+                let (next, frames) = match wanted {
+                    true => (next, vec![own_reply(next), goes_on]),
+                    false => (own, vec![goes_on]),
+                };
+                accepts_numbered(&what, own, &before, &element, next, &after, &frames);
+            }
+        }
+    }
+}
+
+/// For other destinations the bit is ignored, and goes on.
+#[test]
+fn reply_wanted_is_for_all_ones_only() {
+    let asked = [(0, A, 0)];
+    let frames = [onward(REPLY_WANTED, &asked)];
+    answers("no row", &[], REPLY_WANTED, &asked, &frames);
+}
+
+/// Number asked for where the row has 9, and whether the row answers.
+const ASKED_OF_9: [(u32, bool); 8] = [
+    (9, true),
+    (8, true),
+    (10, false),
+    (0, true),
+    (0xFFFF_FFFF, true),
+    (0x8000_0009, false),
+    (0x8000_000A, true),
+    (0x8000_0008, false),
+];
+
+/// An intermediate reply has the number, hop count and metric of the row. DO keeps the point
+/// from it; RF keeps the destination, and then with DO.
+#[test]
+fn a_row_answers_if_it_is_not_older() {
+    for (number, fresh) in ASKED_OF_9 {
+        for reserved in [0, 4, 0xFC] {
+            for flags in [0, DO, RF, DO | RF] {
+                let flags = flags | reserved;
+                let what = format!("{number} asked of 9, flags {flags}");
+                let kept = onward(0, &[(flags, A, number)]);
+                let frames = match (fresh && flags & DO == 0, flags & RF != 0) {
+                    (false, _) => vec![kept],
+                    (true, false) => vec![row_reply(A)],
+                    (true, true) => vec![row_reply(A), onward(0, &[(flags | DO, A, number)])],
+                };
+                answers(&what, &[active(A)], 0, &[(flags, A, number)], &frames);
+            }
+        }
+    }
+}
+
+#[test]
+fn only_an_active_row_of_known_number_answers() {
+    let row = active(A);
+    let unknown = row.unknown(40);
+    let rows = [
+        ("expired", expired(row)),
+        ("invalidated", invalidated(row)),
+        ("unknown number", unknown),
+        ("unknown, invalidated", invalidated(unknown)),
+    ];
+    for (what, row) in rows {
+        for flags in [0, RF] {
+            let asked = [(flags, A, 0)];
+            answers(what, &[row], 0, &asked, &[onward(0, &asked)]);
+        }
+    }
+}
+
+/// The row's metric and hop count may be the largest; no receiver takes such a reply.
+#[test]
+fn an_intermediate_reply_has_what_the_row_has() {
+    let rows = [
+        (255, 0xFFFF_FFFF, 0xFFFF_FFFF),
+        (0, 1, 0),
+        (7, 0x0102_0304, 0x0506_0708),
+    ];
+    for (hop_count, metric, number) in rows {
+        let row = Row {
+            hop_count,
+            metric,
+            number,
+            ..active(A)
+        };
+        let frames = [reply(A, number, hop_count, metric)];
+        answers("a row", &[row], 0, &[(0, A, number)], &frames);
+    }
+}
+
+/// Replies and kept destinations stay in order; the request comes last, with fewer entries.
+#[test]
+fn destinations_are_taken_in_order() {
+    let rows = [active(C), active(A), expired(active(VIA)), active(B)];
+    let new: Address = [0x0A, 0, 0, 0, 0, 0x55];
+    let asked = [
+        (0, new, 4),
+        (0, C, 9),
+        (RF, A, 8),
+        (0, OWN, 0),
+        (RF | DO, B, 1),
+        (0x80, VIA, 9),
+    ];
+    let kept = [
+        (0, new, 4),
+        (RF | DO, A, 8),
+        (RF | DO, B, 1),
+        (0x80, VIA, 9),
+    ];
+    let frames = [
+        row_reply(C),
+        row_reply(A),
+        own_reply(6),
+        onward(0xF8, &kept),
+    ];
+    let before = [&[FREE, FREE][..], &rows].concat();
+    let after = [&[LEARNT, NEIGHBOUR][..], &rows].concat();
+    let element = rreq(0xF8, PATH, &asked);
+    accepts_numbered("six", 5, &before, &element, 6, &after, &frames);
+}
+
+/// Twenty replies and a request with twenty destinations are the most that a call emits:
+/// 20 times 40 octets and 254.
+#[test]
+fn twenty_destinations_are_answered_and_go_on() {
+    let destination = |place: u8| [0x20, 0, 0, 0, 0, place];
+    let places: Vec<u8> = (0..20).collect();
+    let rows: Vec<Row> = places
+        .iter()
+        .map(|&place| active(destination(place)))
+        .collect();
+    let ask = |flags| {
+        places
+            .iter()
+            .map(|&place| (flags, destination(place), 9))
+            .collect()
+    };
+    let (asked, kept): (Vec<Asked>, Vec<Asked>) = (ask(RF), ask(RF | DO));
+    let mut frames: Vec<_> = places
+        .iter()
+        .map(|&place| row_reply(destination(place)))
+        .collect();
+    frames.push(onward(0, &kept));
+    assert_eq!(frames.concat().len(), 20 * 40 + 254);
+    answers("twenty", &rows, 0, &asked, &frames);
+}
+
+/// The rows are those after steps 1 and 2: a destination that is the transmitter is answered
+/// from the row that was just renewed, at one hop and the metric of the link.
+#[test]
+fn rows_are_those_after_the_path_is_learnt() {
+    let before = Row {
+        hop_count: 6,
+        metric: 15,
+        ..active(T)
+    };
+    let renewed = Row {
+        hop_count: 1,
+        next_hop: T,
+        metric: LINK,
+        expiry: 6000,
+        ..before
+    };
+    for row in [before, expired(before), invalidated(before)] {
+        let element = rreq(0, PATH, &[(0, T, 9)]);
+        let frames = [reply(T, 9, 1, LINK)];
+        accepts(
+            "the transmitter",
+            &[FREE, row],
+            &element,
+            &[LEARNT, renewed],
+            &frames,
+        );
+    }
+    // Without a number it is no answer.
+    let asked = [(0, T, 0)];
+    answers("a new transmitter", &[], 0, &asked, &[onward(0, &asked)]);
+    // A row by way of the transmitter answers too.
+    let row = Row {
+        next_hop: T,
+        ..active(A)
+    };
+    answers("back", &[row], 0, &[(0, A, 9)], &[row_reply(A)]);
+}
+
+/// TTL, and what it is when the request goes on.
+const TTLS: [(u8, Option<u8>); 6] = [
+    (0, None),
+    (1, None),
+    (2, Some(1)),
+    (3, Some(2)),
+    (31, Some(30)),
+    (255, Some(254)),
+];
+
+/// Without a hop left replies go out all the same.
+#[test]
+fn a_request_goes_on_while_hops_are_left() {
+    let asked = [(0, A, 9), (0, B, 9)];
+    for (ttl, left) in TTLS {
+        let mut frames = vec![row_reply(A)];
+        if let Some(ttl) = left {
+            let path = Path { ttl, ..ONWARD };
+            frames.push(frame(ALL_ONES, rreq(0, path, &asked[1..])));
+        }
+        let element = rreq(0, Path { ttl, ..PATH }, &asked);
+        let (before, after) = ([FREE, FREE, active(A)], [LEARNT, NEIGHBOUR, active(A)]);
+        accepts(&format!("TTL {ttl}"), &before, &element, &after, &frames);
+    }
+}
+
+/// A unicast goes to the next hop of an active row for its destination, known number or not,
+/// and nowhere without one.
+#[test]
+fn a_unicast_request_follows_the_row() {
+    let asked = [(DO, A, 100)];
+    let row = active(A);
+    let to_transmitter = Row { next_hop: T, ..row };
+    let cases = [
+        ("active", row, Some(VIA)),
+        ("unknown number", row.unknown(40), Some(A)),
+        ("back to the transmitter", to_transmitter, Some(T)),
+        ("expired", expired(row), None),
+        ("invalidated", invalidated(row), None),
+        ("none", active(B), None),
+    ];
+    for (what, row, to) in cases {
+        for flags in [UNICAST, 0xFF] {
+            let goes_on = to.map(|to| frame(to, rreq(flags, ONWARD, &asked)));
+            let frames: Vec<_> = goes_on.into_iter().collect();
+            answers(what, &[row], flags, &asked, &frames);
+        }
+    }
+}
+
+#[test]
+fn a_unicast_request_is_answered_like_others() {
+    let asked = |flags| [(flags, A, 9)];
+    let goes_on = frame(VIA, rreq(UNICAST, ONWARD, &asked(RF | DO)));
+    let (rows, both) = ([active(A)], [row_reply(A), goes_on]);
+    answers("struck out", &rows, UNICAST, &asked(0), &both[..1]);
+    answers("kept", &rows, UNICAST, &asked(RF), &both);
+    let element = rreq(UNICAST, PATH, &[(0, OWN, 0)]);
+    let (before, after) = ([FREE, FREE], [LEARNT, NEIGHBOUR]);
+    accepts_numbered("own", 5, &before, &element, 6, &after, &[own_reply(6)]);
+    // To the transmitter, whose row was just made.
+    let asked = [(0, T, 9)];
+    let frames = [frame(T, rreq(UNICAST, ONWARD, &asked))];
+    answers("the transmitter", &[], UNICAST, &asked, &frames);
+}
+
+/// A request of the end's own neighbour: only one row is learnt, and replies go there.
+#[test]
+fn the_originator_may_transmit() {
+    let path = Path { end: T, ..PATH };
+    let row = Row {
+        destination: T,
+        ..LEARNT
+    };
+    let answer = Path {
+        hop_count: 0,
+        ttl: 31,
+        end: OWN,
+        number: 6,
+        metric: 0,
+        ..PATH
+    };
+    let frames = [frame(T, new_rrep(answer, T, 9))];
+    let element = rreq(0, path, &[(0, OWN, 3)]);
+    accepts_numbered("own", 5, &[FREE], &element, 6, &[row], &frames);
+}
