@@ -10,7 +10,7 @@ use hwmp_tests::implementation::{Implementation, LIBRARY, REFERENCE};
 use hwmp_tests::probe;
 use hwmp_tests::random::Random;
 
-use cases::{Case, EMITTING, SILENT};
+use cases::{Case, EMITTING, RECEIVING, SILENT};
 use element_cases::ELEMENT_CASES;
 use same_method::SAME_METHOD;
 
@@ -27,8 +27,10 @@ fn main() {
     println!();
     compare_elements(random);
     println!();
-    let depths = stack::depths(random);
-    for (entry, octets) in depths.into_iter().chain(stack::element_depths(random)) {
+    let mut depths = stack::depths(random).to_vec();
+    depths.push(stack::receive_depth(random));
+    depths.extend(stack::element_depths(random));
+    for (entry, octets) in depths {
         println!("stack of {entry}: {octets} octets");
     }
 }
@@ -59,7 +61,7 @@ fn compare(random: &mut Random) {
             compare_case(case, rows, &[&LIBRARY, &REFERENCE, &SAME_METHOD], random);
         }
     }
-    for case in &EMITTING {
+    for case in EMITTING.iter().chain(&RECEIVING) {
         // With one row the check of the table takes little, and the time is that of emitting.
         for rows in [1, 16, 128] {
             compare_case(case, rows, &[&LIBRARY, &REFERENCE], random);

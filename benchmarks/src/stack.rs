@@ -9,15 +9,15 @@ use hwmp_tests::random::Random;
 use hwmp_tests::reference::element::MOST_NUMBERS;
 use hwmp_tests::tables;
 
-use crate::cases::{self, CLOCK, LIFETIME};
+use crate::cases::{self, CLOCK, LIFETIME, LINK};
 use crate::element_cases;
 
 const OCTETS: usize = 16 * 1024;
 const PAINT: u8 = 0xa5;
 
-/// The caller's part at the top: a seventh argument lies there, and 16 octets keep it
-/// aligned. It does not count.
-const CALLER_OCTETS: usize = 16;
+/// The caller's part at the top: arguments from the seventh on lie there, up to three, and 32
+/// octets keep the stack aligned. It does not count.
+const CALLER_OCTETS: usize = 32;
 
 #[repr(align(16))]
 struct Stack([u8; OCTETS]);
@@ -30,14 +30,16 @@ type Entry = (&'static str, *const (), u32);
 /// call refused early is not measured unseen.
 ///
 /// # Safety
-/// The function must be one of C that may be called with these arguments, at most seven, and
+/// The function must be one of C that may be called with these arguments, at most nine, and
 /// returns its answer in the low 32 bits of rax.
 unsafe fn depth((name, function, expected): Entry, arguments: &[usize]) -> (&'static str, usize) {
-    let mut all = [0; 7];
+    let mut all = [0; 9];
     all[..arguments.len()].copy_from_slice(arguments);
     let mut stack = Box::new(Stack([PAINT; OCTETS]));
     let (below, callers) = stack.0.split_at_mut(OCTETS - CALLER_OCTETS);
-    callers[..8].copy_from_slice(&all[6].to_ne_bytes());
+    for (place, argument) in callers.chunks_exact_mut(8).zip(&all[6..]) {
+        place.copy_from_slice(&argument.to_ne_bytes());
+    }
     let top = below.as_mut_ptr_range().end;
     let returned: u64;
     // SAFETY: the stack is large enough for any entry and aligned as C asks; the caller
@@ -72,6 +74,7 @@ const ASK: Entry = ("hwmp_ask", raw::hwmp_ask as _, 0);
 const ANNOUNCE: Entry = ("hwmp_announce", raw::hwmp_announce as _, 0);
 const ROOT_REQUEST: Entry = ("hwmp_root_request", raw::hwmp_root_request as _, 0);
 const BREAK: Entry = ("hwmp_break", raw::hwmp_break as _, 0);
+const RECEIVE: Entry = ("hwmp_receive", raw::hwmp_receive as _, 0);
 const FRESH: Entry = ("hwmp_fresh", raw::hwmp_fresh as _, 0);
 
 /// Arguments in their order, those that belong together as one part.
@@ -98,6 +101,26 @@ pub fn depths(random: &mut Random) -> [(&'static str, usize); 7] {
     // SAFETY: all that is lent outlives the calls, and each entry gets the arguments that
     // include/hwmp.h declares.
     calls.map(|(entry, parts)| unsafe { depth(entry, &parts.concat()) })
+}
+
+/// Receive, with the type that goes deepest.
+pub fn receive_depth(random: &mut Random) -> (&'static str, usize) {
+    let depths = cases::largest_received(random).map(|mut input| {
+        let table = [input.table.as_mut_ptr() as usize, input.table.len()];
+        let output = [input.output.as_mut_ptr() as usize, input.output.len()];
+        let arrival = [
+            CLOCK as usize,
+            input.address.as_ptr() as usize,
+            LINK as usize,
+        ];
+        let element = [input.element.as_ptr() as usize, input.element.len()];
+        let parts: Parts = &[&table, &output, &arrival, &element];
+        // SAFETY: all that is lent outlives the call, and the entry gets the arguments that
+        // include/hwmp.h declares.
+        unsafe { depth(RECEIVE, &parts.concat()) }
+    });
+    let deepest = depths.into_iter().max_by_key(|(_, octets)| *octets);
+    deepest.expect("four types")
 }
 
 const READ: Entry = ("probe_read", probe::raw::probe_read as _, 0);

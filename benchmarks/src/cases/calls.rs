@@ -44,17 +44,21 @@ pub fn report_break(by: &Implementation, input: &mut Input) -> u32 {
     note_frames(outcome, input)
 }
 
-/// Makes the rows valid again after they were lost: one octet a row, for all alike. The other
-/// tables have their turn before these octets are read, so that no read waits for them.
 pub fn break_and_mend(by: &Implementation, input: &mut Input) -> u32 {
     let answer = report_break(by, input);
-    for row in input.table[HEAD_OCTETS..].chunks_exact_mut(ROW_OCTETS) {
-        row[0] = 1;
-    }
+    mend(input);
     answer
 }
 
-fn note_frames(outcome: Outcome, input: &mut Input) -> u32 {
+/// Makes the rows valid again after they were lost: one octet a row, for all alike. The other
+/// tables have their turn before these octets are read, so that no read waits for them.
+pub fn mend(input: &mut Input) {
+    for row in input.table[HEAD_OCTETS..].chunks_exact_mut(ROW_OCTETS) {
+        row[0] = 1;
+    }
+}
+
+pub fn note_frames(outcome: Outcome, input: &mut Input) -> u32 {
     input.frames = outcome.frames;
     outcome.answer
 }
@@ -102,7 +106,7 @@ pub fn lead_elsewhere(input: &mut Input, random: &mut Random) {
     lead_through(tables::individual(random).0, input);
 }
 
-fn lead_through(next_hop: [u8; 6], input: &mut Input) {
+pub fn lead_through(next_hop: [u8; 6], input: &mut Input) {
     for row in input.table[HEAD_OCTETS..].chunks_exact_mut(ROW_OCTETS) {
         row[..2].fill(1);
         row[10..16].copy_from_slice(&next_hop);

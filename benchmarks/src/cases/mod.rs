@@ -1,7 +1,8 @@
 //! What is timed: calls that check the whole table and then search it, one refused early, the
-//! making of a fresh table, and the calls that emit.
+//! making of a fresh table, the calls that emit, and receiving.
 
 mod calls;
+mod receiving;
 
 use hwmp_tests::implementation::Implementation;
 use hwmp_tests::random::Random;
@@ -11,6 +12,7 @@ use hwmp_tests::tables;
 use crate::timing::Call;
 
 pub use calls::{CLOCK, LIFETIME};
+pub use receiving::{LINK, largest_received};
 
 /// Several tables in turn, so that the processor cannot predict every branch.
 const TABLES: usize = 8;
@@ -18,9 +20,10 @@ const TABLES: usize = 8;
 #[derive(Clone, PartialEq)]
 pub struct Input {
     pub table: Vec<u8>,
-    /// The destination or neighbour that is asked about.
+    /// The destination or neighbour that is asked about, or the transmitter.
     pub address: [u8; 6],
     pub items: Vec<u8>,
+    pub element: Vec<u8>,
     pub output: Vec<u8>,
     /// The frames that the last call emitted.
     frames: u32,
@@ -107,12 +110,50 @@ pub const EMITTING: [Case; 5] = [
     ),
 ];
 
+/// Receiving, at a full table that has rows for the end of the path and for the transmitter;
+/// with one row they are the same. So that each call finds a newer number, it is stepped in the
+/// element after the call, and after an error the rows are made valid again; times include that.
+pub const RECEIVING: [Case; 6] = [
+    emitting("receive a RANN", |_| 1, receiving::newer, receiving::rann),
+    emitting(
+        "receive a RREP",
+        |rows| usize::from(rows > 1),
+        receiving::newer,
+        receiving::rrep,
+    ),
+    emitting(
+        "receive a RREQ for 1",
+        |_| 1,
+        receiving::newer,
+        receiving::rreq_for_1,
+    ),
+    emitting(
+        "receive a RREQ for 20",
+        |rows| receiving::answered(rows) + 1,
+        receiving::newer,
+        receiving::rreq_for_20,
+    ),
+    emitting(
+        "receive a RERR with 25",
+        |_| 1,
+        receiving::error_and_mend,
+        receiving::rerr_with_25,
+    ),
+    silent(
+        "receive a stale RANN",
+        25,
+        receiving::receive,
+        receiving::stale_rann,
+    ),
+];
+
 /// A full table, and an address that it has no row for.
 fn full(rows: usize, random: &mut Random) -> Input {
     Input {
         table: tables::full(rows, random),
         address: tables::individual(random).0,
         items: Vec::new(),
+        element: Vec::new(),
         output: vec![0; LEAST_OUTPUT],
         frames: 0,
     }

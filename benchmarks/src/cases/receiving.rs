@@ -1,0 +1,166 @@
+//! Elements that a point receives again and again.
+
+use hwmp_tests::elements::framed;
+use hwmp_tests::implementation::Implementation;
+use hwmp_tests::random::Random;
+use hwmp_tests::reference::element::{Destination, Rann, Rerr, Rrep, Rreq};
+use hwmp_tests::reference::table::{HEAD_OCTETS, ROW_OCTETS};
+use hwmp_tests::tables;
+
+use super::Input;
+use super::calls::{CLOCK, LIFETIME, lead_through, mend, note_frames};
+
+pub const LINK: u32 = 20;
+const METRIC: u32 = 1000;
+
+pub fn receive(by: &Implementation, input: &mut Input) -> u32 {
+    let (table, output) = (&mut input.table, &mut input.output);
+    let outcome = (by.receive)(table, output, CLOCK, &input.address, LINK, &input.element);
+    note_frames(outcome, input)
+}
+
+/// Steps the number of the path afterwards, so that the next call finds a newer one.
+pub fn newer(by: &Implementation, input: &mut Input) -> u32 {
+    let answer = receive(by, input);
+    let at = if input.element[0] == Rreq::ID { 15 } else { 11 };
+    let number = input.element[at..].first_chunk_mut().expect("a number");
+    *number = u32::from_le_bytes(*number).wrapping_add(1).to_le_bytes();
+    answer
+}
+
+pub fn error_and_mend(by: &Implementation, input: &mut Input) -> u32 {
+    let answer = receive(by, input);
+    mend(input);
+    answer
+}
+
+fn rows(input: &Input) -> &[[u8; ROW_OCTETS]] {
+    input.table[HEAD_OCTETS..].as_chunks().0
+}
+
+fn destination(row: &[u8; ROW_OCTETS]) -> [u8; 6] {
+    row[4..10].try_into().expect("six octets")
+}
+
+fn number(row: &[u8; ROW_OCTETS]) -> [u8; 4] {
+    row[16..20].try_into().expect("four octets")
+}
+
+/// All rows active and of known number, through the transmitter, which has the first row. The
+/// path ends at the last one; its number is newer than that of the row.
+fn prepare(input: &mut Input) -> Vec<u8> {
+    input.address = destination(&rows(input)[0]);
+    lead_through(input.address, input);
+    let last = rows(input).last().expect("at least one row");
+    let newer = u32::from_le_bytes(number(last)).wrapping_add(1);
+    [
+        &destination(last)[..],
+        &newer.to_le_bytes(),
+        &LIFETIME.to_le_bytes(),
+        &METRIC.to_le_bytes(),
+    ]
+    .concat()
+}
+
+/// Flags, hop count and TTL, with hops left.
+const HEAD: [u8; 3] = [0, 3, 20];
+
+pub fn rann(input: &mut Input, _: &mut Random) {
+    let path = prepare(input);
+    input.element = framed(Rann::ID, &[&HEAD[..], &path].concat());
+}
+
+/// The number is the row's, and the metric worse.
+pub fn stale_rann(input: &mut Input, random: &mut Random) {
+    rann(input, random);
+    let row = input.table.len() - ROW_OCTETS;
+    let number = input.element[11..15].to_vec();
+    input.table[row + 16..][..4].copy_from_slice(&number);
+    input.table[row + 20..][..4].copy_from_slice(&1_u32.to_le_bytes());
+}
+
+/// Goes on to the middle row's next hop. If there is one row only, this point is the source.
+pub fn rrep(input: &mut Input, _: &mut Random) {
+    let path = prepare(input);
+    let rows = rows(input);
+    let source = match rows.len() {
+        1 => input.table[..6].try_into().expect("six octets"),
+        count => destination(&rows[count / 2]),
+    };
+    let source_number_and_count = [7, 0, 0, 0, 0];
+    let fields = [&HEAD[..], &path, &source, &source_number_and_count];
+    input.element = framed(Rrep::ID, &fields.concat());
+}
+
+/// A destination without a row.
+pub fn rreq_for_1(input: &mut Input, random: &mut Random) {
+    let new = stranger(random);
+    rreq(input, &[new]);
+}
+
+/// How many of twenty destinations have a row to be answered from.
+pub fn answered(rows: usize) -> usize {
+    (rows - 1).min(10)
+}
+
+/// Up to ten with a row that answers, every second of which goes on all the same, and for the
+/// rest destinations without a row.
+pub fn rreq_for_20(input: &mut Input, random: &mut Random) {
+    let rows = rows(input);
+    let named = answered(rows.len());
+    let listed = (0..Rreq::MOST).map(|place| {
+        if place >= named {
+            return stranger(random);
+        }
+        let row = &rows[place * (rows.len() - 1) / named];
+        let flags = if place % 2 == 0 { Destination::RF } else { 0 };
+        entry(flags, destination(row), number(row))
+    });
+    let listed: Vec<_> = listed.collect();
+    rreq(input, &listed);
+}
+
+fn stranger(random: &mut Random) -> Vec<u8> {
+    entry(0, tables::individual(random).0, [0; 4])
+}
+
+fn entry(flags: u8, address: [u8; 6], number: [u8; 4]) -> Vec<u8> {
+    [&[flags][..], &address, &number].concat()
+}
+
+fn rreq(input: &mut Input, destinations: &[Vec<u8>]) {
+    let path = prepare(input);
+    let fields = [
+        &HEAD[..],
+        &[1, 0, 0, 0],
+        &path,
+        &[destinations.len() as u8],
+        &destinations.concat(),
+    ];
+    input.element = framed(Rreq::ID, &fields.concat());
+}
+
+/// Names rows through the transmitter, while there are any, and then new addresses. The numbers
+/// are the rows' own, so that a row is the same again once it is valid.
+pub fn rerr_with_25(input: &mut Input, random: &mut Random) {
+    prepare(input);
+    let mut fields = vec![0, Rerr::MOST as u8];
+    let held = rows(input)
+        .iter()
+        .map(|row| [&destination(row)[..], &number(row)].concat());
+    let new = std::iter::repeat_with(|| [&tables::individual(random).0[..], &[0; 4]].concat());
+    for named in held.chain(new).take(Rerr::MOST) {
+        fields.extend(named);
+    }
+    input.element = framed(Rerr::ID, &fields);
+}
+
+/// What makes receive do the most, of each type.
+pub fn largest_received(random: &mut Random) -> [Input; 4] {
+    let prepares = [rann, rrep, rreq_for_20, rerr_with_25];
+    prepares.map(|prepare: fn(&mut Input, &mut Random)| {
+        let mut input = super::full(128, random);
+        prepare(&mut input, random);
+        input
+    })
+}
