@@ -7,7 +7,7 @@ use hwmp_tests::received;
 use hwmp_tests::reference::table::MAX_ROWS;
 use hwmp_tests::tables;
 
-const TABLES: usize = 200_000;
+const TABLES: usize = 300_000;
 const CALLS_PER_TABLE: usize = 8;
 
 /// Every answer that receive can give, and how often each must have occurred.

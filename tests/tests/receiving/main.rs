@@ -13,6 +13,8 @@ mod refusals;
 mod replies;
 mod requests;
 mod runs;
+mod script;
+mod short_loops;
 mod three_points;
 mod ways;
 mod window;

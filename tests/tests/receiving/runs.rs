@@ -5,7 +5,7 @@ use hwmp_tests::comparing::{Listed, Run, Tally};
 use crate::mesh::{ACCEPTED, LOOPS, Mesh, WALKS};
 
 /// How many elements are delivered in all.
-const DELIVERIES: u64 = 3_000_000;
+const DELIVERIES: u64 = 6_000_000;
 
 /// What the calls of a mesh can answer, and how often each must have occurred.
 const LEAST_ANSWERED: u64 = 300;
@@ -27,7 +27,7 @@ const SEEN: [Listed; 3] = [
 ];
 
 /// How many walks must have been judged with the premise met.
-const LEAST_WALKS: u64 = 10_000_000;
+const LEAST_WALKS: u64 = 20_000_000;
 
 #[test]
 fn points_agree_and_no_walk_meets_a_point_twice() {
