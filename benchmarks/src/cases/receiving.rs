@@ -1,6 +1,6 @@
 //! Elements that a point receives again and again.
 
-use hwmp_tests::elements::framed;
+use hwmp_tests::elements::{framed, path_fields};
 use hwmp_tests::implementation::Implementation;
 use hwmp_tests::random::Random;
 use hwmp_tests::reference::element::{Destination, Rann, Rerr, Rrep, Rreq};
@@ -53,13 +53,7 @@ fn prepare(input: &mut Input) -> Vec<u8> {
     lead_through(input.address, input);
     let last = rows(input).last().expect("at least one row");
     let newer = u32::from_le_bytes(number(last)).wrapping_add(1);
-    [
-        &destination(last)[..],
-        &newer.to_le_bytes(),
-        &LIFETIME.to_le_bytes(),
-        &METRIC.to_le_bytes(),
-    ]
-    .concat()
+    path_fields(destination(last), newer, LIFETIME, METRIC)
 }
 
 /// Flags, hop count and TTL, with hops left.

@@ -62,6 +62,13 @@ pub fn framed(id: u8, fields: &[u8]) -> Vec<u8> {
     octets
 }
 
+/// Originator (of a RREP the destination), number, lifetime and metric, which stand together in
+/// every type but a RERR.
+pub fn path_fields(end: [u8; 6], number: u32, lifetime: u32, metric: u32) -> Vec<u8> {
+    let [number, lifetime, metric] = [number, lifetime, metric].map(u32::to_le_bytes);
+    [&end[..], &number, &lifetime, &metric].concat()
+}
+
 /// The Length octet for what follows it; from 256 octets on it goes round.
 fn fit_length(octets: &mut [u8]) {
     if octets.len() >= 2 {

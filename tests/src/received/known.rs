@@ -47,10 +47,9 @@ impl Known {
         let latest = self.head.latest_clock;
         let expiry = self.some_row(random).expiry;
         let at = random.pick(&[latest, latest, latest, expiry]);
-        let clock = at + random.pick(&[0, 0, 1, 2]);
-        clock
-            .saturating_sub(1)
-            .clamp(latest.min(CLOCK_MAX), CLOCK_MAX)
+        let just_before = at.saturating_sub(1);
+        let clock = just_before.saturating_add(random.pick(&[0, 0, 1, 2]));
+        clock.clamp(latest.min(CLOCK_MAX), CLOCK_MAX)
     }
 
     /// A neighbour that rows lead through, one with a row of its own, or a new one.

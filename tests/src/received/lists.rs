@@ -18,19 +18,19 @@ pub(super) fn destinations(
     }
     let any = 1 + random.below(Rreq::MOST);
     let count = random.pick(&[1, 1, 2, any, Rreq::MOST, Rreq::MOST]);
-    let easy = random.one_in(8);
+    let all_answered = random.one_in(8);
     let draw = |random: &mut Random| {
         let row = known.some_row(random).destination.0;
         let (own, new) = (known.head.own.0, individual(random).0);
         let any = random.pick(&[own, transmitter, row, row, row, row, row, new]);
-        if easy { row } else { any }
+        if all_answered { row } else { any }
     };
     let addresses = distinct(count, &[originator], draw, random);
     let listed = |address: &[u8; 6]| {
         let held = known.number_for(*address);
         let (flags, number) = (some_flags(random), near(held, random));
-        if easy {
-            // Each row that is active gives a reply.
+        if all_answered {
+            // By each row that is active and of known number.
             destination(flags & !Destination::DO, *address, held)
         } else {
             destination(flags, *address, number)
@@ -65,7 +65,7 @@ pub(super) fn errors(known: &Known, transmitter: [u8; 6], random: &mut Random) -
         .filter(|row| row.next_hop.0 == transmitter)
         .map(|row| row.destination.0)
         .collect();
-    let easy = random.one_in(4);
+    let all_through = random.one_in(4);
     let draw = |random: &mut Random| {
         let row = known.some_row(random).destination.0;
         let hit = match through[..] {
@@ -74,7 +74,7 @@ pub(super) fn errors(known: &Known, transmitter: [u8; 6], random: &mut Random) -
         };
         let new = individual(random).0;
         let any = random.pick(&[hit, hit, hit, hit, hit, hit, row, new]);
-        if easy { hit } else { any }
+        if all_through { hit } else { any }
     };
     let addresses = distinct(count, &[], draw, random);
     let listed = |address: &[u8; 6]| {

@@ -59,13 +59,7 @@ pub fn faulty(table: &[u8], random: &mut Random) -> Received {
 
 fn rann(known: &Known, received: &Received, random: &mut Random) -> Vec<u8> {
     let path = Path::draw(known, received, random);
-    let fixed = [
-        &path.head(random.octet(), random)[..],
-        &path.end,
-        &path.number.to_le_bytes(),
-        &path.lifetime.to_le_bytes(),
-        &path.metric.to_le_bytes(),
-    ];
+    let fixed = [&path.head(random.octet(), random)[..], &path.body()];
     elements::framed(126, &fixed.concat())
 }
 
@@ -75,10 +69,7 @@ fn rreq(known: &Known, received: &Received, random: &mut Random) -> Vec<u8> {
     let fixed = [
         &path.head(lists::request_flags(&list, random), random)[..],
         &random.octets::<4>(),
-        &path.end,
-        &path.number.to_le_bytes(),
-        &path.lifetime.to_le_bytes(),
-        &path.metric.to_le_bytes(),
+        &path.body(),
         &[list.len() as u8],
         &list.concat(),
     ];
@@ -96,10 +87,7 @@ fn rrep(known: &Known, received: &Received, random: &mut Random) -> Vec<u8> {
     let dependents = random.below(23);
     let mut fixed = [
         &path.head(random.octet(), random)[..],
-        &path.end,
-        &path.number.to_le_bytes(),
-        &path.lifetime.to_le_bytes(),
-        &path.metric.to_le_bytes(),
+        &path.body(),
         &source,
         &random.octets::<4>(),
         &[dependents as u8],

@@ -1,15 +1,15 @@
 use super::Received;
 use super::known::{Known, near};
-use crate::elements::Kind;
+use crate::elements::{Kind, path_fields};
 use crate::random::Random;
 use crate::tables::{boundary32, individual, not_individual};
 
 /// What an element other than a RERR tells of a path.
 pub(super) struct Path {
     pub end: [u8; 6],
-    pub number: u32,
-    pub lifetime: u32,
-    pub metric: u32,
+    number: u32,
+    lifetime: u32,
+    metric: u32,
     hop_count: u8,
 }
 
@@ -42,13 +42,18 @@ impl Path {
             random.pick(&[0, 1, 2, 2, 3, 31, 255]),
         ]
     }
+
+    pub fn body(&self) -> Vec<u8> {
+        path_fields(self.end, self.number, self.lifetime, self.metric)
+    }
 }
 
 /// Such that the new expiry is near the stored one, if that is possible.
 fn some_lifetime(clock: u64, expiry: u64, random: &mut Random) -> u32 {
     let edge = boundary32(random).max(1);
-    let until_then = expiry.saturating_sub(clock) + random.pick(&[0, 1, 2]);
-    let until_then = u32::try_from(until_then.saturating_sub(1)).unwrap_or(edge);
+    let just_before = expiry.saturating_sub(clock).saturating_sub(1);
+    let until_then = just_before.saturating_add(random.pick(&[0, 1, 2]));
+    let until_then = u32::try_from(until_then).unwrap_or(edge);
     random.pick(&[until_then, until_then, edge, 5000]).max(1)
 }
 

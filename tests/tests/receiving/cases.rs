@@ -1,6 +1,6 @@
 //! What the cases that were worked out by hand share.
 
-use hwmp_tests::elements::framed;
+use hwmp_tests::elements::{framed, path_fields};
 use hwmp_tests::implementation::Implementation;
 use hwmp_tests::library::Outcome;
 use hwmp_tests::worked::{Address, Row, accepted, refused_with_room, table};
@@ -102,15 +102,8 @@ impl Path {
         [flags, self.hop_count, self.ttl]
     }
 
-    /// End, number, lifetime and metric, which stand together in every type.
     fn body(&self) -> Vec<u8> {
-        [
-            &self.end[..],
-            &self.number.to_le_bytes(),
-            &self.lifetime.to_le_bytes(),
-            &self.metric.to_le_bytes(),
-        ]
-        .concat()
+        path_fields(self.end, self.number, self.lifetime, self.metric)
     }
 }
 
