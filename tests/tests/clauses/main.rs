@@ -39,29 +39,34 @@ fn judge(octets: &[u8], breaks: Option<Flaw>, what: &str) {
     }
 }
 
-/// The calls that emit accept every table, and leave octets that are none as they were.
+/// The calls that may emit, with what they answer on every table; they leave octets that are none
+/// as they were. An error about a destination without a row is refused, but only after that.
 fn judge_emitting(by: &Implementation, octets: &[u8], breaks: Option<Flaw>, what: &str) {
     type Call = fn(&Implementation, &mut [u8], &mut [u8]) -> Outcome;
-    let calls: [(&str, Call); 4] = [
-        ("ask", |by, table, output| {
+    let calls: [(&str, u32, Call); 5] = [
+        ("ask", 0, |by, table, output| {
             (by.ask)(table, output, 1, &[[0].as_slice(), &ABSENT].concat())
         }),
-        ("announce", |by, table, output| {
+        ("announce", 0, |by, table, output| {
             (by.announce)(table, output, 1, 1)
         }),
-        ("root request", |by, table, output| {
+        ("root request", 0, |by, table, output| {
             (by.root_request)(table, output, 1, 1)
         }),
-        ("break", |by, table, output| {
+        ("break", 0, |by, table, output| {
             (by.report_break)(table, output, LAST_CLOCK, &ABSENT)
         }),
+        ("receive", 26, |by, table, output| {
+            let error = [&[132, 12, 0, 1][..], &ABSENT, &[0; 4]].concat();
+            (by.receive)(table, output, LAST_CLOCK, &ABSENT, 1, &error)
+        }),
     ];
-    for (name, call) in calls {
+    for (name, answer, call) in calls {
         let (mut lent, mut output) = (octets.to_vec(), [0xA5; 1560]);
         let outcome = call(by, &mut lent, &mut output);
         let what = format!("{what}: {name} by the {}", by.name);
         if breaks.is_none() {
-            assert_eq!(outcome.answer, 0, "{what}");
+            assert_eq!(outcome.answer, answer, "{what}");
         } else {
             assert_eq!(outcome.answer, 21, "{what}");
             assert_eq!(lent, octets, "{what}: table changed");

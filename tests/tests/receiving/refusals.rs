@@ -240,6 +240,48 @@ fn elements_that_are_cut_short() {
     }
 }
 
+/// How many entries a type may have, in an element whose Length fits them. From 256 on Length goes
+/// round, and then it does not count the octets after it.
+#[test]
+fn counts_of_entries() {
+    let before = table(5, 7, 1000, &[FREE; 4]);
+    let entries = |count: u8| (0..count).map(|place| ([0x20, 0, 0, 0, 0, place], 0));
+    let asked = |count| entries(count).map(|(address, number)| (0, address, number));
+    for count in 0..=60 {
+        let named: Vec<_> = entries(count).collect();
+        let asked: Vec<_> = asked(count).collect();
+        // Element, the most and the least entries, and what is answered to so many.
+        let elements = [
+            (
+                rreq(0, PATH, &asked),
+                1..=20,
+                0,
+                26 + 11 * usize::from(count),
+            ),
+            (
+                rrep(0, PATH, C, &named),
+                0..=22,
+                0,
+                32 + 10 * usize::from(count),
+            ),
+            (rerr(0, &named), 1..=25, 26, 2 + 10 * usize::from(count)),
+        ];
+        for (element, fitting, answer, length) in elements {
+            let answer = match (length > 255, fitting.contains(&count)) {
+                (true, _) => 6,
+                (false, false) => 8,
+                (false, true) => answer,
+            };
+            for by in BOTH {
+                let (table, output) = (&mut before.clone(), &mut [0; LEAST_OUTPUT]);
+                let outcome = receive(CLOCK, T, LINK, &element)(by, table, output);
+                let what = format!("{count} entries of {} by the {}", element[0], by.name);
+                assert_eq!(outcome.answer, answer, "{what}");
+            }
+        }
+    }
+}
+
 /// Clocks and transmitters at the ends of what is allowed.
 #[test]
 fn clocks_and_transmitters() {
