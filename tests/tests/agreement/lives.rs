@@ -42,7 +42,7 @@ fn some_next_hop(run: &mut Run) -> Address {
     Address([2, 0, 0, 0, 0, neighbour])
 }
 
-/// Lays a row into a free place of both tables, as receiving will.
+/// Lays a row into a free place of both tables, as receiving does.
 fn learn(point: &mut Point, destination: Address, next_hop: Address, run: &mut Run) {
     let (rows, _) = point.table()[HEAD_OCTETS..].as_chunks::<ROW_OCTETS>();
     let known = rows.iter().any(|row| row[4..10] == destination.0);

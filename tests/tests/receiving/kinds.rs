@@ -206,6 +206,23 @@ fn relation(asked: SequenceNumber, held: SequenceNumber) -> u32 {
     }
 }
 
+/// Forgets a row or loses a neighbour, so that later elements find rows as these calls leave them.
+fn now_and_then_lose(point: &mut Point, run: &mut Run) {
+    let random = &mut run.random;
+    match random.below(16) {
+        0 | 1 => {
+            let destination = tables::some_destination(point.table(), random);
+            point.forget(destination, run);
+        }
+        2 => {
+            let neighbour = tables::some_neighbour(point.table(), random);
+            let clock = tables::some_clock(point.table(), random);
+            point.report_break(clock, neighbour, run);
+        }
+        _ => {}
+    }
+}
+
 #[test]
 fn library_and_reference_agree() {
     let run = &mut Run::announced("receiving all kinds", 0x0130_0131);
@@ -214,6 +231,7 @@ fn library_and_reference_agree() {
         let table = some_table(&mut run.random);
         let mut point = Point::new(&table, &mut run.random);
         for _ in 0..CALLS_PER_TABLE {
+            now_and_then_lose(&mut point, run);
             let received = received::suited(point.table(), &mut run.random);
             if point.receive(&received, run).answer == 0 {
                 let [before, after] = [point.before(), point.table()]
@@ -232,5 +250,6 @@ fn library_and_reference_agree() {
     }
     seen.report(&SEEN);
     seen.check(&SEEN, LEAST);
-    println!("elements of all kinds received: {}", run.answers.total());
+    let received = run.answers.total_of("receive");
+    println!("elements of all kinds received: {received}");
 }

@@ -99,28 +99,29 @@ impl Reception<'_> {
         fresh.then_some(row)
     }
 
-    fn request_onward(
-        &mut self,
-        rreq: &Rreq,
-        path: &Path,
-        kept: &[[u8; Destination::OCTETS]],
-    ) -> Option<()> {
+    fn request_onward(&mut self, rreq: &Rreq, path: &Path, kept: &[[u8; Destination::OCTETS]]) {
+        if let Some(ttl) = ttl_left(rreq.ttl)
+            && let Some(to) = self.receiver(rreq, kept)
+        {
+            let onward = Rreq {
+                hop_count: path.hop_count,
+                ttl,
+                metric: path.metric,
+                destinations: kept,
+                ..*rreq
+            };
+            self.frames.emit(to, Element::Rreq(onward));
+        }
+    }
+
+    /// Where a request with these destinations goes, if there are any.
+    fn receiver(&self, rreq: &Rreq, kept: &[[u8; Destination::OCTETS]]) -> Option<Address> {
         let first = Destination::decode(kept.first()?);
-        let ttl = ttl_left(rreq.ttl)?;
-        let to = if is_unicast(rreq) {
-            self.next_hop(first.address)?
+        if is_unicast(rreq) {
+            self.next_hop(first.address)
         } else {
-            Address::ALL_ONES
-        };
-        let onward = Rreq {
-            hop_count: path.hop_count,
-            ttl,
-            metric: path.metric,
-            destinations: kept,
-            ..*rreq
-        };
-        self.frames.emit(to, Element::Rreq(onward));
-        Some(())
+            Some(Address::ALL_ONES)
+        }
     }
 }
 
