@@ -1,10 +1,12 @@
 -- Refusal 27, case by case, as the code asks it. Assumes nothing.
 use Prim.Native.Nat.{ℕ, _+_}
 use mathlib.Core.Path.{_≡_, sym, ap₂, _∙_}
+use mathlib.Core.Bool.{false}
 use mathlib.Core.List.{List}
 use lib.Dec.{ltb}
 use native.Mathlib.Nat.{add-zero}
-use borrow.Author.Tests.{eq-eqb, ne-eqb}
+use native.Mathlib.Omega.{arith}
+use borrow.Author.Tests.{eq-eqb, ne-eqb, le-ltb}
 use Rattle.table.specs.declared.address.Address.{Address}
 use Rattle.table.specs.declared.search.Found.{Found}
 use Rattle.table.specs.declared.search.Found.the-variants.{At, Nothing}
@@ -31,5 +33,9 @@ module _ (t : List ℕ) (a : Arrival) (p : PathInfo) (n : ℕ) (ne : n ≡ newRo
   unfolding rowsNeeded
   two-addresses e m me = rw (ne-eqb (a .transmitter .0) (p .subject .0) e) (ap₂ _+_ ne me)
 
-pub lacks : (t : List ℕ) (a : Arrival) (p : PathInfo) (n m : ℕ) → n ≡ freeRows t → m ≡ rowsNeeded t a p → ltb n m ≡ ltb (freeRows t) (rowsNeeded t a p)
-lacks t a p n m ne me = ap₂ ltb ne me
+module _ (t : List ℕ) (a : Arrival) (p : PathInfo) (m : ℕ) (me : m ≡ rowsNeeded t a p) where
+  pub lacks-none : m ≡ 0 → false ≡ ltb (freeRows t) (rowsNeeded t a p)
+  lacks-none e = sym (le-ltb (freeRows t) (rowsNeeded t a p) (omega (arith, e, me)))
+
+  pub lacks-some : (n : ℕ) → n ≡ freeRows t → ltb n m ≡ ltb (freeRows t) (rowsNeeded t a p)
+  lacks-some n ne = ap₂ ltb ne me

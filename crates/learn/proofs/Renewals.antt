@@ -1,8 +1,9 @@
 -- Steps 1 and 2, case by case, as the code asks it. Assumes nothing.
 use Prim.Native.Nat.{ℕ, _+_}
-use mathlib.Core.Path.{_≡_, ap, _∙_}
+use mathlib.Core.Path.{_≡_, refl, sym, ap, _∙_}
 use mathlib.Core.Bool.{Bool, true, false, not, _&&_, _||_}
 use mathlib.Core.List.{List}
+use mathlib.Core.Option.{Option, none, some}
 use lib.Dec.{eqb, leb, ltb}
 use borrow.Author.Tests.{eq-eqb, ne-eqb, not-true, not-false}
 use Rattle.counters.specs.declared.Metric.{Metric}
@@ -13,7 +14,9 @@ use Rattle.table.specs.declared.search.Found.{Found}
 use Rattle.table.specs.declared.search.Found.the-variants.{At, Nothing}
 use Rattle.table.specs.Layout.{rowAt}
 use Rattle.table.specs.Row.{active, renewed, numbered}
-use Rattle.table.specs.Table.{findRow, rowFor, store}
+use Rattle.table.specs.Places.{isNothing}
+use Rattle.table.specs.Table.{findRow, rowIn, rowFor, store}
+use Rattle.table.proofs.Lookup.{row-destination}
 use Rattle.element.specs.declared.PathInfo.{PathInfo}
 use Rattle.rules.specs.declared.Arrival.{Arrival}
 use Rattle.rules.specs.Learn.{metricHere, hopsHere, newRow, rowOrNew, expiryOf, subjectRow, transmitterRow, rowTakesLink, takesLink, subjectLearnt, transmitterLearnt, learnt}
@@ -28,6 +31,19 @@ module _ (t : List ℕ) (d : Address) (f : Found) (fe : f ≡ findRow t d) where
   pub row-made : f ≡ Nothing → (r : Row) → r ≡ newRow d → r ≡ rowOrNew d (rowFor t d)
   unfolding rowFor
   row-made e r re = rw (← fe, e) re
+
+row-or-new-destination : (t : List ℕ) (d : Address) → rowOrNew d (rowFor t d) .destination ≡ d
+row-or-new-destination t d = by (rowFor t d) refl
+  where
+    by : (o : Option Row) → rowFor t d ≡ o → rowOrNew d o .destination ≡ d
+    by none e = refl
+    by (some r) e = row-destination t d r e
+
+-- its place is still that of its destination, if a step leaves this
+place-stays : (t : List ℕ) (d : Address) (f : Found) → f ≡ findRow t d → (r : Row) → r ≡ rowOrNew d (rowFor t d) → (s : Row) → s .destination ≡ r .destination
+    → f ≡ findRow t (s .destination)
+place-stays t d f fe r re s same-one =
+    fe ∙ ap (findRow t) (sym (same-one ∙ ap (λ (x : Row). x .destination) re ∙ row-or-new-destination t d))
 
 module _ (c lifetime : ℕ) (r : Row) (b : Bool) (be : b ≡ active c r) where
   pub expiry-stays : (b && ltb (c + lifetime) (r .expiry)) ≡ true → r .expiry ≡ expiryOf c lifetime r
@@ -47,6 +63,11 @@ module _ (a : Arrival) (p : PathInfo) where
   unfolding subjectRow
   subject-renewed r expiry ee metric me hops he s se x xe = xe ∙ ap (numbered (p .number)) (se ∙ rw (ee, me, he))
 
+  pub subject-place : (t : List ℕ) (f : Found) → f ≡ findRow t (p .subject) → (r : Row) → r ≡ rowOrNew (p .subject) (rowFor t (p .subject))
+      → (s : Row) → s ≡ subjectRow a p r → f ≡ findRow t (s .destination)
+  unfolding subjectRow numbered renewed
+  subject-place t f fe r re s se = place-stays t (p .subject) f fe r re s (ap (λ (x : Row). x .destination) se)
+
   pub subject-stored : (t u : List ℕ) (r s : Row) → r ≡ rowOrNew (p .subject) (rowFor t (p .subject)) → s ≡ subjectRow a p r → u ≡ store t s → u ≡ subjectLearnt a p t
   unfolding subjectLearnt
   subject-stored t u r s re se ue = ue ∙ ap (store t) (se ∙ ap (subjectRow a p) re)
@@ -61,29 +82,35 @@ module _ (a : Arrival) where
     pub link-as-good : b ≡ false → (eqb (r .known) 0 || leb (a .link .0) (r .metric .0)) ≡ rowTakesLink a r
     link-as-good e = rw (← be, e)
 
-  module _ (t : List ℕ) (f : Found) (fe : f ≡ findRow t (a .transmitter)) where
-    pub link-new : f ≡ Nothing → true ≡ takesLink a (rowFor t (a .transmitter))
-    unfolding takesLink rowFor
-    link-new e = rw (← fe, e)
-
-    pub link-known : (i : ℕ) → f ≡ At i → (r : Row) → r ≡ rowAt t i → (b : Bool) → b ≡ rowTakesLink a r → b ≡ takesLink a (rowFor t (a .transmitter))
-    unfolding takesLink rowFor
-    link-known i e r re b be = rw (← fe, e, ← re) be
-
   pub transmitter-renewed : (lifetime : ℕ) (r : Row) (expiry : ℕ) → expiry ≡ expiryOf (a .clock) lifetime r
       → (s : Row) → s ≡ renewed (a .transmitter) (a .link) (record { 0 = 1 }) expiry r → s ≡ transmitterRow a lifetime r
   unfolding transmitterRow
   transmitter-renewed lifetime r expiry ee s se = se ∙ ap (λ (e : ℕ). renewed (a .transmitter) (a .link) (record { 0 = 1 }) e r) ee
 
-  module _ (t : List ℕ) (lifetime : ℕ) (b : Bool) (be : b ≡ takesLink a (rowFor t (a .transmitter))) where
-    pub transmitter-stays : not b ≡ true → t ≡ transmitterLearnt a lifetime t
-    unfolding transmitterLearnt
-    transmitter-stays e = rw (← be, not-true b e)
+  module _ (t : List ℕ) (f : Found) (fe : f ≡ findRow t (a .transmitter)) (r : Row) (re : r ≡ rowOrNew (a .transmitter) (rowFor t (a .transmitter))) where
+    -- a row that is to be made takes the link
+    taken : (isNothing f || rowTakesLink a r) ≡ takesLink a (rowFor t (a .transmitter))
+    unfolding takesLink rowFor
+    taken = rw re (by f fe)
+      where
+        by : (g : Found) → g ≡ findRow t (a .transmitter)
+            → (isNothing g || rowTakesLink a (rowOrNew (a .transmitter) (rowIn t (findRow t (a .transmitter))))) ≡ takesLink a (rowIn t (findRow t (a .transmitter)))
+        by (At i) e = rw (← e)
+        by Nothing e = rw (← e)
 
-    pub transmitter-stored : not b ≡ false → (r : Row) → r ≡ rowOrNew (a .transmitter) (rowFor t (a .transmitter))
-        → (s : Row) → s ≡ transmitterRow a lifetime r → (u : List ℕ) → u ≡ store t s → u ≡ transmitterLearnt a lifetime t
-    unfolding transmitterLearnt
-    transmitter-stored e r re s se u ue = rw (← be, not-false b e) (ue ∙ ap (store t) (se ∙ ap (transmitterRow a lifetime) re))
+    module _ (lifetime : ℕ) (b : Bool) (be : b ≡ (isNothing f || rowTakesLink a r)) where
+      pub transmitter-stays : not b ≡ true → t ≡ transmitterLearnt a lifetime t
+      unfolding transmitterLearnt
+      transmitter-stays e = rw (sym taken ∙ sym be ∙ not-true b e)
+
+      module _ (takes : not b ≡ false) (s : Row) (se : s ≡ transmitterRow a lifetime r) where
+        pub transmitter-place : f ≡ findRow t (s .destination)
+        unfolding transmitterRow renewed
+        transmitter-place = place-stays t (a .transmitter) f fe r re s (ap (λ (x : Row). x .destination) se)
+
+        pub transmitter-stored : (u : List ℕ) → u ≡ store t s → u ≡ transmitterLearnt a lifetime t
+        unfolding transmitterLearnt
+        transmitter-stored u ue = rw (sym taken ∙ sym be ∙ not-false b takes) (ue ∙ ap (store t) (se ∙ ap (transmitterRow a lifetime) re))
 
 -- ---- both
 

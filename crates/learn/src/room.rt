@@ -40,5 +40,9 @@ pub fn lacks_rows(table: &[u8], a: Arrival, p: PathInfo) -> bool
     requires { ⌜ length (now table) ≤ 4128 ⌝ }
     ensures { λ r. ⌜ r ≡ ltb (freeRows (now (table .entry))) (rowsNeeded (now (table .entry)) a p) ⌝ }
 {
-    search::free_rows(table) < rows_needed(table, a, p)
+    let needed = rows_needed(table, a, p);
+    if needed == 0 {
+        return false;
+    }
+    search::free_rows(table) < needed
 }

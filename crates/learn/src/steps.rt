@@ -12,10 +12,12 @@ use table::search;
 use table::search::Found;
 use table::store;
 ghost use mathlib.Core.Path.{_≡_};
+ghost use mathlib.Core.Bool.{_||_};
 ghost use Prim.Native.Nat.{_+_, _<_, _≤_};
 ghost use lib.ListN.{length};
-ghost use Rattle.table.specs.Table.{rowFor};
-ghost use Rattle.rules.specs.Learn.{expiryOf, learnt, newRow, rowOrNew, rowTakesLink, subjectLearnt, subjectRow, takesLink, transmitterLearnt, transmitterRow};
+ghost use Rattle.table.specs.Places.{isNothing};
+ghost use Rattle.table.specs.Table.{findRow, rowFor};
+ghost use Rattle.rules.specs.Learn.{expiryOf, learnt, newRow, rowOrNew, rowTakesLink, subjectLearnt, subjectRow, transmitterLearnt, transmitterRow};
 
 // A row that is to be made, with number unknown.
 fn new_row(destination: Address) -> Row
@@ -34,12 +36,13 @@ fn new_row(destination: Address) -> Row
     }
 }
 
-// The row that a step changes.
-fn row_or_new(table: &[u8], destination: Address) -> Row
+// The row that a step changes, where its destination was found.
+fn row_or_new(table: &[u8], found: Found, destination: Address) -> Row
     requires { ⌜ 32 ≤ length (now table) ⌝ }
+    requires { ⌜ found ≡ findRow (now table) destination ⌝ }
     ensures { λ r. ⌜ r ≡ rowOrNew destination (rowFor (now (table .entry)) destination) ⌝ }
 {
-    match search::find_row(table, destination) {
+    match found {
         Found::At(i) => row::read_row(table, i),
         Found::Nothing => new_row(destination),
     }
@@ -79,11 +82,13 @@ fn learn_subject(table: &mut [u8], a: Arrival, p: PathInfo)
     requires { ⌜ p .hops .0 < 255 ⌝ }
     ensures { λ _. ⌜ now (table .exit) ≡ subjectLearnt a p (now (table .entry)) ⌝ }
 {
-    let r = row_or_new(table, p.subject);
-    store::put_row(table, subject_row(a, p, r));
+    let found = search::find_row(table, p.subject);
+    let r = row_or_new(table, found, p.subject);
+    store::put_row(table, found, subject_row(a, p, r));
 }
 
-// An inactive row takes the link unless a known number remembers a better metric; an active one if the link is better.
+// An inactive row takes the link if its number is unknown or the link metric is at most its metric; an active one if that is
+// below it.
 fn row_takes_link(a: Arrival, r: Row) -> bool
     ensures { λ b. ⌜ b ≡ rowTakesLink a r ⌝ }
 {
@@ -93,14 +98,11 @@ fn row_takes_link(a: Arrival, r: Row) -> bool
     (r.known == 0) | (a.link.0 <= r.metric.0)
 }
 
-fn takes_link(table: &[u8], a: Arrival) -> bool
-    requires { ⌜ 32 ≤ length (now table) ⌝ }
-    ensures { λ b. ⌜ b ≡ takesLink a (rowFor (now (table .entry)) (a .transmitter)) ⌝ }
+// So does one that is to be made.
+fn takes_link(a: Arrival, found: Found, r: Row) -> bool
+    ensures { λ b. ⌜ b ≡ (isNothing found || rowTakesLink a r) ⌝ }
 {
-    let Found::At(i) = search::find_row(table, a.transmitter) else {
-        return true;
-    };
-    row_takes_link(a, row::read_row(table, i))
+    search::is_nothing(found) | row_takes_link(a, r)
 }
 
 // Step 2: valid over the link itself; an existing number stays.
@@ -117,11 +119,12 @@ fn learn_transmitter(table: &mut [u8], a: Arrival, lifetime: u32)
     requires { ⌜ a .clock ≤ 281474976710655 ⌝ }
     ensures { λ _. ⌜ now (table .exit) ≡ transmitterLearnt a lifetime (now (table .entry)) ⌝ }
 {
-    if !takes_link(table, a) {
+    let found = search::find_row(table, a.transmitter);
+    let r = row_or_new(table, found, a.transmitter);
+    if !takes_link(a, found, r) {
         return;
     }
-    let r = row_or_new(table, a.transmitter);
-    store::put_row(table, transmitter_row(a, lifetime, r));
+    store::put_row(table, found, transmitter_row(a, lifetime, r));
 }
 
 // Step 1, and step 2 if the transmitter is a different address. The subject comes first: it takes the lower of two free rows.

@@ -3,7 +3,7 @@
 use Prim.Native.Nat.{ℕ, _+_, _%_, _≤_}
 use lib.Dec.{eqb, leb}
 use lib.ListN.{length}
-use mathlib.Core.Path.{_≡_, refl, sym, _∙_}
+use mathlib.Core.Path.{_≡_, refl, sym, ap, _∙_}
 use native.Mathlib.Omega.{arith}
 use borrow.Author.Tests.{leb-true, eqb-true, eq-eqb, ne-eqb}
 use mathlib.Core.Bool.{Bool, true, false, _&&_, _||_, not, and-eq-true-iff}
@@ -17,8 +17,8 @@ use Rattle.table.specs.Row.{headOk, isFree, isUnnumbered, isOther, statu
 use Rattle.table.specs.Layout.{sized, rows, allZero, place, rowAt, headAt, putRow}
 use Rattle.table.specs.declared.search.Found.the-variants.{At, Nothing}
 use Rattle.table.proofs.Places.{first-below}
-use Rattle.table.specs.Places.{first, every, isNothing}
-use Rattle.table.specs.Table.{vacant, holds, findRow, firstFree, placeFor, store, alone, passes, isTable}
+use Rattle.table.specs.Places.{first, every, isNothing, orElse}
+use Rattle.table.specs.Table.{vacant, holds, findRow, firstFree, putAt, placeFor, store, alone, passes, isTable}
 
 both : (a b : Bool) → (a && b) ≡ true → (a ≡ true) × (b ≡ true)
 both a b = and-eq-true-iff a b .0
@@ -47,29 +47,27 @@ module _ (t : List ℕ) where
   unfolding findRow
   found-within d f i e at-i h = within (holds t d) i (sym e ∙ at-i) h
 
-  pub place-within : (d : Address) (f : Found) (i : ℕ) → f ≡ placeFor t d → f ≡ At i → 32 ≤ length t → place i + 32 ≤ length t
-  unfolding placeFor firstFree
-  place-within d f i e at-i h = by (findRow t d) refl
-    where
-      by : (g : Found) → findRow t d ≡ g → place i + 32 ≤ length t
-      by (At k) ge = found-within d (At k) i (sym ge) (cc) h
-      by Nothing ge = within (vacant t) i (cc) h
+  module _ (d : Address) (f : Found) (fe : f ≡ findRow t d) (g : Found) (ge : g ≡ orElse f (firstFree t)) where
+    place-is : g ≡ placeFor t d
+    unfolding placeFor
+    place-is = ge ∙ ap (λ (k : Found). orElse k (firstFree t)) fe
 
-  pub place-found : (d : Address) (f : Found) (i : ℕ) → f ≡ findRow t d → f ≡ At i → At i ≡ placeFor t d
-  unfolding placeFor
-  place-found d f i e at-i = cc
+    pub place-within : (i : ℕ) → g ≡ At i → 32 ≤ length t → place i + 32 ≤ length t
+    unfolding firstFree
+    place-within i at-i h = by f fe (sym ge ∙ at-i)
+      where
+        by : (k : Found) → k ≡ findRow t d → orElse k (firstFree t) ≡ At i → place i + 32 ≤ length t
+        by (At j) ke e = found-within d (At j) i ke e h
+        by Nothing ke e = within (vacant t) i e h
 
-  pub place-free : (d : Address) (f g : Found) → f ≡ findRow t d → f ≡ Nothing → g ≡ firstFree t → g ≡ placeFor t d
-  unfolding placeFor
-  place-free d f g e none ge = cc
+  module _ (r : Row) (f : Found) (fe : f ≡ findRow t (r .destination)) (g : Found) (ge : g ≡ orElse f (firstFree t)) where
+    pub stored-row : (i : ℕ) → g ≡ At i → (u : List ℕ) → u ≡ putRow t i r → u ≡ store t r
+    unfolding store
+    stored-row i at-i u ue = ue ∙ ap (putAt t r) (sym at-i ∙ place-is (r .destination) f fe g ge)
 
-  pub stored-row : (r : Row) (f : Found) (i : ℕ) (u : List ℕ) → f ≡ placeFor t (r .destination) → f ≡ At i → u ≡ putRow t i r → u ≡ store t r
-  unfolding store
-  stored-row r f i u e at-i ue = cc
-
-  pub stored-none : (r : Row) (f : Found) → f ≡ placeFor t (r .destination) → f ≡ Nothing → t ≡ store t r
-  unfolding store
-  stored-none r f e none = cc
+    pub stored-none : g ≡ Nothing → t ≡ store t r
+    unfolding store
+    stored-none none = ap (putAt t r) (sym none ∙ place-is (r .destination) f fe g ge)
 
   pub alone-free : (i : ℕ) (b : Bool) → b ≡ vacant t i → b ≡ true → true ≡ alone t i
   unfolding alone

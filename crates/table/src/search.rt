@@ -6,8 +6,8 @@ ghost use mathlib.Core.Bool.{cond};
 ghost use Prim.Native.Nat.{_+_, _≤_, _<_};
 ghost use lib.ListN.{length};
 ghost use Rattle.table.specs.Layout.{place, rows};
-ghost use Rattle.table.specs.Places.{count, first, isNothing};
-ghost use Rattle.table.specs.Table.{findRow, firstFree, freeRows, holds, placeFor, vacant};
+ghost use Rattle.table.specs.Places.{count, first, isNothing, orElse};
+ghost use Rattle.table.specs.Table.{findRow, firstFree, freeRows, holds, vacant};
 
 // A place of the table, or none.
 pub enum Found {
@@ -94,12 +94,12 @@ pub fn first_free(table: &[u8]) -> Found
     vacant_below(table, rows_of(table))
 }
 
-// Where a row for d goes.
-pub fn place_for(table: &[u8], d: Address) -> Found
+// Where a row goes whose destination was looked for.
+pub fn place_for(table: &[u8], found: Found) -> Found
     requires { ⌜ 32 ≤ length (now table) ⌝ }
-    ensures { λ r. ⌜ r ≡ placeFor (now (table .entry)) d ⌝ }
+    ensures { λ r. ⌜ r ≡ orElse found (firstFree (now (table .entry))) ⌝ }
 {
-    match find_row(table, d) {
+    match found {
         Found::At(i) => Found::At(i),
         Found::Nothing => first_free(table),
     }

@@ -9,7 +9,7 @@ use counters::SequenceNumber;
 ghost use mathlib.Core.Path.{_≡_};
 ghost use Prim.Native.Nat.{_≤_};
 ghost use lib.ListN.{length};
-ghost use Rattle.table.specs.Table.{fresh, store};
+ghost use Rattle.table.specs.Table.{findRow, fresh, store};
 
 // Makes a fresh table of whatever stood there.
 pub fn make_fresh(table: &mut [u8], own: Address, number: SequenceNumber)
@@ -20,14 +20,13 @@ pub fn make_fresh(table: &mut [u8], own: Address, number: SequenceNumber)
     octets::clear(&mut table[32..]);
 }
 
-// Puts a row in the place of its destination's row, else in the free row of lowest place; where there is none, nothing
-// changes.
-pub fn put_row(table: &mut [u8], r: Row)
+// Puts a row where its destination was found, else in the free row of lowest place; where there is none, nothing changes.
+pub fn put_row(table: &mut [u8], found: Found, r: Row)
     requires { ⌜ 32 ≤ length (now table) ⌝ }
+    requires { ⌜ found ≡ findRow (now table) (r .destination) ⌝ }
     ensures { λ _. ⌜ now (table .exit) ≡ store (now (table .entry)) r ⌝ }
 {
-    let d = r.destination;
-    match search::place_for(table, d) {
+    match search::place_for(table, found) {
         Found::At(i) => row::write_row(table, i, r),
         Found::Nothing => {}
     }

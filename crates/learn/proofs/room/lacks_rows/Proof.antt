@@ -1,6 +1,6 @@
--- `learn::room::lacks_rows` meets its contract: by what it calls. Assumes nothing.
+-- `learn::room::lacks_rows` meets its contract: none is needed, or as many as are free are compared. Assumes nothing.
 use borrow.Author.Needs.{needs}
-use Rattle.learn.proofs.NewRows.{lacks}
+use Rattle.learn.proofs.NewRows.{lacks-none, lacks-some}
 use Rattle.learn.proofs.room.lacks_rows.Statement.{statement}
 use Rattle.learn.proofs.room.lacks_rows.Tie as tie
 
@@ -9,5 +9,6 @@ lacks-rows-spec =
     tie.close
     (tie.spec
     (λ c κs. search needs)
+    (λ c. search lacks-none)
     (λ c κs. search needs)
-    (λ c. search lacks))
+    (λ c. search lacks-some))

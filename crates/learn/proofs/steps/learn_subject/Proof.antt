@@ -1,6 +1,6 @@
 -- `learn::steps::learn_subject` meets its contract: by what it calls. Assumes nothing.
 use borrow.Author.Needs.{needs}
-use Rattle.learn.proofs.Renewals.{subject-stored}
+use Rattle.learn.proofs.Renewals.{subject-place, subject-stored}
 use Rattle.learn.proofs.steps.learn_subject.Statement.{statement}
 use Rattle.learn.proofs.steps.learn_subject.Tie as tie
 
@@ -11,5 +11,6 @@ learn-subject-spec =
     (λ c κs. search needs)
     (λ c κs. search needs)
     (λ c κs. search needs)
+    (λ c κs. (search needs, search subject-place))
     (λ c. search needs)
     (λ c. search subject-stored))

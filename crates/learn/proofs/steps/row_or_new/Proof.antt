@@ -9,7 +9,6 @@ pub row-or-new-spec : {M : Type 1} → statement M
 row-or-new-spec =
     tie.close
     (tie.spec
-    (λ c κs. search needs)
     (λ c. search needs)
     (λ c κs. search found-within)
     (λ c. search needs)

@@ -1,6 +1,5 @@
--- `table::search::place_for` meets its contract: both cases of `placeFor`. Assumes nothing.
+-- `table::search::place_for` meets its contract: both cases of `orElse`. Assumes nothing.
 use borrow.Author.Needs.{needs}
-use Rattle.table.proofs.Cases.{place-found, place-free}
 use Rattle.table.proofs.search.place_for.Statement.{statement}
 use Rattle.table.proofs.search.place_for.Tie as tie
 
@@ -8,9 +7,8 @@ pub place-for-spec : {M : Type 1} → statement M
 place-for-spec =
     tie.close
     (tie.spec
-    (λ c κs. search needs)
     (λ c. search needs)
     (λ c. search needs)
     (λ c κs. search needs)
-    (λ c. search place-found)
-    (λ c. search place-free))
+    (λ c. cc)
+    (λ c. cc))
