@@ -14,13 +14,14 @@ use Rattle.table.specs.Layout.{putRow}
 use Rattle.table.specs.Row.{freeRow}
 use Rattle.table.specs.Places.{every}
 use Rattle.table.specs.Table.{number, rowFor, holds, fresh}
+use Rattle.element.specs.declared.NumberedAddress.{NumberedAddress}
 use Rattle.element.specs.declared.PathInfo.{PathInfo}
 use Rattle.element.specs.declared.Target.{Target}
-use Rattle.element.specs.Element.{Element, rann, rreq, rrep, rerr}
+use Rattle.element.specs.Element.{Element, rann, rreq, rrep, rerr, countOf}
 use Rattle.element.specs.Entries.{each}
 use Rattle.element.specs.Octets.{wrongLength, otherId, misfit, writeElement}
 use Rattle.rules.specs.Decision.{Decision, refused, accepted}
-use Rattle.rules.specs.Lists.{has}
+use Rattle.rules.specs.Lists.{all, has}
 use Rattle.rules.specs.Outcome.{Frame, Effect}
 use Rattle.rules.specs.Receive.{receive}
 use Rattle.rules.specs.Break.{breakNeighbour}
@@ -105,8 +106,11 @@ abbrev requestFor : ℕ → List ℕ
 requestFor n = request (each (λ i. target (other i) 0) 0 n)
 
 -- a RERR that names d with number n
-abbrev error : Address → ℕ → List ℕ
-error d n = writeElement (rerr 0 (record { address = d; number = record { 0 = n } } ∷ []))
+abbrev lost : Address → ℕ → NumberedAddress
+lost d n = record { address = d; number = record { 0 = n } }
+
+abbrev error : List NumberedAddress → List ℕ
+error destinations = writeElement (rerr 0 destinations)
 
 -- ---- a call
 
@@ -174,8 +178,8 @@ edges =
     ∷ every (λ long. wrongLength (130 ∷ long ∷ zeros 257)) 256
     -- P4: RERR Length 2 is refused (8), 12 fits
     ∷ refusedWith 8 (heard (tableOf 0 (row 1 originator 9 40 ∷ [])) 10 (132 ∷ 2 ∷ 0 ∷ 0 ∷ []))
-    ∷ fitting 12 (error originator 9)
-    ∷ acceptedWith (leavesRow 2 9 40) (heard (tableOf 0 (row 1 originator 9 40 ∷ [])) 10 (error originator 9))
+    ∷ fitting 12 (error (lost originator 9 ∷ []))
+    ∷ acceptedWith (leavesRow 2 9 40) (heard (tableOf 0 (row 1 originator 9 40 ∷ [])) 10 (error (lost originator 9 ∷ [])))
     -- P5: row number 9, metric 40; element 9, metric 25: link 15 is refused (25), link 14 gives 39
     ∷ refusedWith 25 (heard (tableOf 0 (row 1 originator 9 40 ∷ freeRow ∷ [])) 15 (announcement 9 25))
     ∷ acceptedWith (leavesRow 1 9 39) (heard (tableOf 0 (row 1 originator 9 40 ∷ freeRow ∷ [])) 14 (announcement 9 25))
@@ -210,6 +214,12 @@ elsewhere i =
       expiry = 1000;
     }
 
+-- the originator's row is lost and goes on alone, and that of the other point stays
+abbrev losesOne : Effect → Bool
+losesOne e =
+    leavesRow 2 9 40 e && has (λ r. eqb (r .status) 1) (rowFor (e .table) (other 0))
+    && eqb (length (e .frames)) 1 && all (λ f. eqb (countOf (f .element)) 1) (e .frames)
+
 abbrev pub shutOut : List Bool
 shutOut =
     -- comparing numbers unsigned: 4,294,967,295 is older than 0, and 0 is taken after it
@@ -219,5 +229,8 @@ shutOut =
     ∷ refusedWith 25 (heard (tableOf 0 (row 2 originator 9 40 ∷ freeRow ∷ [])) 36 (announcement 9 5))
     ∷ refusedWith 25 (heardAt 1000 (tableOf 0 (row 1 originator 9 40 ∷ freeRow ∷ [])) 36 (announcement 9 5))
     -- matching an error by destination only: a row by way of another next hop is no match
-    ∷ refusedWith 26 (heard (tableOf 0 (elsewhere 0 ∷ [])) 10 (error (other 0) 9))
+    ∷ refusedWith 26 (heard (tableOf 0 (elsewhere 0 ∷ [])) 10 (error (lost (other 0) 9 ∷ [])))
+    -- nor beside one that is: it stays, and does not go on
+    ∷ acceptedWith losesOne
+    (heard (tableOf 0 (row 1 originator 9 40 ∷ elsewhere 0 ∷ [])) 10 (error (lost (other 0) 9 ∷ lost originator 9 ∷ [])))
     ∷ []

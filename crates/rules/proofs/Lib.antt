@@ -7,6 +7,7 @@ pub mod AnyOf
 pub mod Tables
 pub mod Learning
 pub mod Falling
+pub mod Matched
 pub mod Emitting
 pub mod FrameOctets
 pub mod Sending

@@ -51,7 +51,8 @@ unfoldable pub subjectRow : Arrival → PathInfo → Row → Row
 subjectRow a p r =
     numbered (p .number) (renewed (a .transmitter) (metricHere a p) (hopsHere p) (expiryOf (a .clock) (p .lifetime) r) r)
 
--- 2. A made or changed row is valid with next hop the transmitter, metric link, hop count 1; an existing number stays.
+-- 2. A made or changed row is valid with next hop the transmitter, metric link, hop count 1, expiry as in 1; an existing number
+-- stays.
 unfoldable pub transmitterRow : Arrival → ℕ → Row → Row
 transmitterRow a lifetime r = renewed (a .transmitter) (a .link) (record { 0 = 1 }) (expiryOf (a .clock) lifetime r) r
 
@@ -73,7 +74,8 @@ transmitterLearnt a lifetime t =
     cond (takesLink a (rowFor t (a .transmitter)))
     (store t (transmitterRow a lifetime (rowOrNew (a .transmitter) (rowFor t (a .transmitter))))) t
 
--- the table after both; step 2 is for a transmitter that is a different address
+-- The table after both; step 2 is for a transmitter that is a different address. A new row takes the free row of lowest place
+-- (`store`), the originator's before the transmitter's.
 unfoldable pub learnt : Arrival → PathInfo → List ℕ → List ℕ
 learnt a p t =
     cond (same (a .transmitter) (p .subject)) (subjectLearnt a p t) (transmitterLearnt a (p .lifetime) (subjectLearnt a p t))

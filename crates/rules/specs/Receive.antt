@@ -103,7 +103,7 @@ unfoldable pub rowsNeeded : List ℕ → Arrival → PathInfo → ℕ
 rowsNeeded t a p =
     newRows (rowFor t (p .subject)) + cond (same (a .transmitter) (p .subject)) 0 (newRows (rowFor t (a .transmitter)))
 
--- ---- what an accepted element does
+-- ---- what an accepted element does: the clock is stored, whatever the type
 
 module _ (t : List ℕ) (a : Arrival) where
   -- RANN, RREP: steps 1 and 2, and it goes on

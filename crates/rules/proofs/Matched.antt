@@ -1,0 +1,86 @@
+-- 'Each match as in refusal 26': for a destination that a RERR names, the row that is changed is that of a match, and by the
+-- number beside it. The rules say which destinations match (`matches`) and which rows are changed (`isMatch`, `erred`) in two
+-- definitions; where no destination stands twice they agree. Assumes nothing.
+use mathlib.Core.Path.{_≡_, refl, sym, ap, _∙_}
+use mathlib.Core.Bool.{Bool, true, false, _&&_, _||_, cond, and-true}
+use mathlib.Core.List.{List, [], _∷_}
+use mathlib.Core.Option.{Option, some}
+use Prim.Native.Nat.{ℕ}
+use borrow.Author.Tests.{eq-eqb, ne-eqb, eqb-false}
+use Rattle.counters.specs.declared.SequenceNumber.{SequenceNumber}
+use Rattle.table.specs.declared.address.Address.{Address}
+use Rattle.table.specs.declared.row.Row.{Row}
+use Rattle.table.specs.Address.{same}
+use Rattle.table.specs.Table.{rowFor}
+use Rattle.table.proofs.Lookup.{row-destination}
+use Rattle.element.specs.declared.NumberedAddress.{NumberedAddress}
+use Rattle.element.specs.Entries.{All}
+use Rattle.element.specs.Lists.{among, twice}
+use Rattle.rules.specs.Errors.{isLostBy, matches, numberBeside, isMatch, erredWith, erred}
+use Rattle.rules.specs.Receive.{numberedAddresses}
+use Rattle.rules.proofs.Alls.{all-implies}
+
+-- the first of two tests that both fail, and the second
+first-fails : (a b : Bool) → (a || b) ≡ false → a ≡ false
+first-fails false b e = refl
+first-fails true b e = e
+
+second-fails : (a b : Bool) → (a || b) ≡ false → b ≡ false
+second-fails false b e = e
+second-fails true false e = refl
+second-fails true true e = e
+
+-- an address that is not among those of a list is none of them
+apart : (d : Address) (named : List NumberedAddress) → among d (numberedAddresses named) ≡ false → All (λ (m : NumberedAddress). same (m .address) d ≡ false) named
+unfolding among All
+apart d [] e = tt
+apart d (m ∷ named) e = (
+  first-fails (same (m .address) d) (among d (numberedAddresses named)) e,
+  apart d named (second-fails (same (m .address) d) (among d (numberedAddresses named)) e),
+)
+
+-- the number beside a destination that is named once
+module _ (m : NumberedAddress) (named : List NumberedAddress) where
+  beside-others : (l : List NumberedAddress) → All (λ (k : NumberedAddress). same (k .address) (m .address) ≡ false) l
+      → All (λ (k : NumberedAddress). numberBeside (k .address) named ≡ some (k .number)) l
+      → All (λ (k : NumberedAddress). numberBeside (k .address) (m ∷ named) ≡ some (k .number)) l
+  unfolding All numberBeside
+  beside-others [] others rest = tt
+  beside-others (k ∷ l) others rest = (
+    rw (ne-eqb (m .address .0) (k .address .0) (λ e. eqb-false (k .address .0) (m .address .0) (others .0) (sym e))) (rest .0),
+    beside-others l (others .1) (rest .1),
+  )
+
+beside-each : (named : List NumberedAddress) → twice (numberedAddresses named) ≡ false
+    → All (λ (m : NumberedAddress). numberBeside (m .address) named ≡ some (m .number)) named
+unfolding All numberBeside twice
+beside-each [] e = tt
+beside-each (m ∷ named) e =
+    let once = first-fails (among (m .address) (numberedAddresses named)) (twice (numberedAddresses named)) e in
+    let rest = beside-each named (second-fails (among (m .address) (numberedAddresses named)) (twice (numberedAddresses named)) e) in
+    (rw (eq-eqb (m .address .0) (m .address .0) refl), beside-others m named named (apart (m .address) named once) rest)
+
+-- the row of a destination that is named, with the number beside it
+module _ (t : List ℕ) (c : ℕ) (transmitter : Address) (named : List NumberedAddress) (m : NumberedAddress) (b : numberBeside (m .address) named ≡ some (m .number))
+    (r : Row) (f : rowFor t (m .address) ≡ some r) where
+  beside : numberBeside (r .destination) named ≡ some (m .number)
+  beside = ap (λ (d : Address). numberBeside d named) (row-destination t (m .address) r f) ∙ b
+
+  tested : isMatch c transmitter named r ≡ matches t c transmitter m
+  unfolding isMatch matches
+  tested = rw (beside, f) (and-true (isLostBy c transmitter r))
+
+  changed : erred named r ≡ erredWith (some (m .number)) r
+  unfolding erred
+  changed = ap (λ (o : Option SequenceNumber). erredWith o r) beside
+
+-- each destination that is named is a match exactly if its row is changed, and its row is changed by the number beside it
+pub record AsMatched (t : List ℕ) (c : ℕ) (transmitter : Address) (named : List NumberedAddress) (m : NumberedAddress) : Type 0 where
+  pub test : (r : Row) → rowFor t (m .address) ≡ some r → isMatch c transmitter named r ≡ matches t c transmitter m
+  pub change : (r : Row) → rowFor t (m .address) ≡ some r → erred named r ≡ erredWith (some (m .number)) r
+
+pub matched-alike : (t : List ℕ) (c : ℕ) (transmitter : Address) (named : List NumberedAddress) → twice (numberedAddresses named) ≡ false
+    → All (AsMatched t c transmitter named) named
+matched-alike t c transmitter named e =
+    all-implies (λ (m : NumberedAddress). numberBeside (m .address) named ≡ some (m .number)) (AsMatched t c transmitter named)
+    (λ m b. record { test = tested t c transmitter named m b; change = changed t c transmitter named m b }) named (beside-each named e)
