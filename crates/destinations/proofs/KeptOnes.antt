@@ -2,9 +2,9 @@
 use Prim.Native.Nat.{ℕ, _+_, _*_, _/_, _<_, _≤_}
 use mathlib.Core.Path.{_≡_, refl, sym, ap, ap₂, _∙_}
 use mathlib.Core.Bool.{Bool, true, false, not, cond}
-use mathlib.Core.List.{List, [], _∷_, _++_, append-nil, append-assoc, flatMap}
+use mathlib.Core.List.{List, [], _∷_, _++_, append-nil, flatMap}
 use mathlib.Core.Option.{Option, none, some}
-use lib.ListN.{length, length-append}
+use lib.ListN.{length}
 use native.Mathlib.Omega.{arith}
 use borrow.Author.Tests.{eq-eqb, ne-eqb, not-true, not-false}
 use Rattle.octets.specs.LittleEndian.{over}
@@ -22,10 +22,11 @@ use Rattle.element.specs.Lists.{allOnes}
 use Rattle.element.proofs.ListParts.{targets-length}
 use Rattle.element.proofs.Scans.{each-length}
 use Rattle.element.proofs.Written.{target-length}
-use Rattle.element.proofs.Listing.{Listing, listing-more, listing-counted, listing-written, skipped-place, skipped-written}
+use Rattle.element.proofs.Listing.{Listing, listed-append, listing-more, listing-counted, listing-written, skipped-place, skipped-written}
 use Rattle.rules.specs.declared.Arrival.{Arrival}
 use Rattle.rules.specs.Flags.{hasRF, withDO, replyWanted}
 use Rattle.rules.specs.Destinations.{Answered, keptAfterReply, forOneself, forAllOnes, answered, allAnswered}
+use Rattle.rules.proofs.Alls.{flat-fewer}
 use Rattle.rules.proofs.Branches.{cond-cases}
 use Rattle.destinations.specs.declared.answering.Answering.{Answering}
 use Rattle.destinations.specs.declared.answering.Answering.the-variants.{By, Nobody}
@@ -131,12 +132,7 @@ kept-together : (t : List ℕ) (c : ℕ) (l : List Target) → flatMap (keptOcte
 unfolding flatMap keptOctets
 kept-together t c [] = refl
 kept-together t c (q ∷ l) =
-    ap (λ (m : List ℕ). keptOctets t c q ++ m) (kept-together t c l) ∙ sym (octets-append (keptOf t c q) (flatMap (keptOf t c) l))
-  where
-    octets-append : (k m : List Target) → flatMap targetOctets (k ++ m) ≡ flatMap targetOctets k ++ flatMap targetOctets m
-    octets-append [] m = refl
-    octets-append (x ∷ k) m =
-        ap (λ (o : List ℕ). targetOctets x ++ o) (octets-append k m) ∙ sym (append-assoc (targetOctets x) (flatMap targetOctets k) (flatMap targetOctets m))
+    ap (λ (m : List ℕ). keptOctets t c q ++ m) (kept-together t c l) ∙ sym (listed-append targetOctets (keptOf t c q) (flatMap (keptOf t c) l))
 
 module _ (t : List ℕ) (c : ℕ) (part out₀ : List ℕ) (at n : ℕ) (ne : n ≡ length part / 11) where
   kept-octets-among : flatMap (keptOctets t c) (each (targetAt part) 0 n) ≡ flatMap targetOctets (keptAmong t c part)
@@ -169,12 +165,12 @@ kept-address t c q =
 -- no more are kept than there are
 pub kept-few : (t : List ℕ) (c : ℕ) (part : List ℕ) → length (keptAmong t c part) ≤ length part / 11
 unfolding keptAmong keptOctets flatMap
-kept-few t c part = omega (arith, few (targetsIn part), each-length (targetAt part) 0 (length part / 11))
-  where
-    few : (l : List Target) → length (flatMap (keptOf t c) l) ≤ length l
-    few [] = omega arith
-    few (q ∷ l) =
-        omega (arith, length-append (keptOf t c q) (flatMap (keptOf t c) l), targets-length (keptOf t c q), kept-short t c q, few l)
+kept-few t c part =
+    omega (
+      arith,
+      flat-fewer (keptOf t c) (λ q. omega (arith, targets-length (keptOf t c q), kept-short t c q)) (targetsIn part),
+      each-length (targetAt part) 0 (length part / 11),
+    )
 
 -- ---- they are the kept ones of `allAnswered`
 

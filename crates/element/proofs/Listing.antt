@@ -1,8 +1,8 @@
 -- Entries written one after another, where some may write nothing: what stands before entry i, and with what is left the
 -- whole. Assumes nothing.
 use Prim.Native.Nat.{ℕ, _+_, _-_, _*_, _<_, _≤_}
-use mathlib.Core.Path.{_≡_, sym, ap, _∙_}
-use mathlib.Core.List.{List, [], _++_, flatMap}
+use mathlib.Core.Path.{_≡_, refl, sym, ap, _∙_}
+use mathlib.Core.List.{List, [], _∷_, _++_, append-assoc, flatMap}
 use lib.ListN.{length, length-append}
 use native.Mathlib.Omega.{arith}
 use native.Mathlib.Nat.{add-zero, sub-zero, mul-zero, mul-suc}
@@ -11,6 +11,13 @@ use Rattle.octets.specs.LittleEndian.{over}
 use Rattle.element.specs.Entries.{each}
 use Rattle.element.proofs.Scans.{each-next, each-end}
 use Rattle.element.proofs.Written.{entries-more, entries-ended}
+
+-- the octets of two lists of entries
+pub listed-append : {A : Type 0} (write : A → List ℕ) (k l : List A) → flatMap write (k ++ l) ≡ flatMap write k ++ flatMap write l
+unfolding flatMap
+listed-append write [] l = refl
+listed-append write (x ∷ k) l =
+    ap (λ (m : List ℕ). write x ++ m) (listed-append write k l) ∙ sym (append-assoc (write x) (flatMap write k) (flatMap write l))
 
 -- n entries, each of at most so many octets, from place at of the output out₀ on
 module _ {A : Type 0} (write : A → List ℕ) (entry : ℕ → A) (n size : ℕ) (out₀ : List ℕ) (at : ℕ) where

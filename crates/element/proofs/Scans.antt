@@ -56,6 +56,11 @@ unfolding addressesFrom entriesIn
 target-addresses part =
     map-each (λ (t : Target). t .address) (targetAt part) 0 (length part / 11) ∙ ap (each (addressIn Targets part) 0) (sym (sub-zero (length part / 11)))
 
+-- as many as entries
+pub addresses-many : (k : ListKind) (part : List ℕ) → length (addressesIn k part) ≡ entriesIn k part
+unfolding addressesFrom
+addresses-many k part = each-length (addressIn k part) 0 (entriesIn k part - 0) ∙ sub-zero (entriesIn k part)
+
 pub numbered-addresses : (part : List ℕ) → map (λ (a : NumberedAddress). a .address) (numberedIn part) ≡ addressesIn NumberedAddresses part
 unfolding addressesFrom entriesIn
 numbered-addresses part =

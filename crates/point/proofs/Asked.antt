@@ -35,7 +35,7 @@ use Rattle.point.specs.declared.Answer.the-variants.{Accepted, Refused}
 use Rattle.point.specs.declared.Outcome.the-variants.{Accepted as Done, Refused as NotDone}
 use Rattle.point.specs.Answers.{answerTo, exits}
 use Rattle.point.specs.Checks.{itemChecks}
-use Rattle.point.proofs.Checks.{table-long, output-long, answer-passed, part-refused, part-passed, refusal, acceptance}
+use Rattle.point.proofs.Checks.{table-long, output-long, answer-passed, refused-first, passed-first, refusal, acceptance}
 use Rattle.point.proofs.Originated.{request-finished, requested-exit}
 
 -- ---- the flags of its items, of which g says whether some are above 3
@@ -111,12 +111,12 @@ pub own-named : (t : List ℕ) (h : Head) → h ≡ headAt t → (l : List Addre
 own-named t h he l b be v bv = ap (λ (k : Head). among (k .own) l) (sym he) ∙ sym be ∙ bv
 
 -- those of the items stand between others
-module _ (s : List ℕ) (checks : List Check) (a : Answer) (ae : a ≡ answerTo (itemChecks s)) where
+module _ (s : List ℕ) (a : Answer) (ae : a ≡ answerTo (itemChecks s)) (checks : List Check) where
   pub items-refused : (n : ℕ) → a ≡ Refused n → Refused n ≡ answerTo (itemChecks s ++ checks)
-  items-refused n e = part-refused (itemChecks s) checks n (sym e ∙ ae)
+  items-refused = refused-first (itemChecks s) a ae checks
 
   pub items-passed : a ≡ Accepted → (r : Answer) → r ≡ answerTo checks → r ≡ answerTo (itemChecks s ++ checks)
-  items-passed e r h = h ∙ part-passed (itemChecks s) checks (sym e ∙ ae)
+  items-passed = passed-first (itemChecks s) a ae checks
 
 module _ (t output s : List ℕ) (lifetime : ℕ) (a : Answer) (ae : a ≡ answerTo (asking t (length output) lifetime s .checks)) where
   module _ (ok : a ≡ Accepted) where

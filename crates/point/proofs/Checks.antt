@@ -46,7 +46,7 @@ part-refused (k ∷ part) checks n e = by (k .applies) e (part-refused part chec
     by true e rest = e
     by false e rest = rest e
 
-pub part-passed : (part checks : List Check) → Accepted ≡ answerTo part → answerTo checks ≡ answerTo (part ++ checks)
+part-passed : (part checks : List Check) → Accepted ≡ answerTo part → answerTo checks ≡ answerTo (part ++ checks)
 unfolding answerTo
 part-passed [] checks e = refl
 part-passed (k ∷ part) checks e = by (k .applies) e (part-passed part checks)
@@ -65,6 +65,14 @@ part-decided x (k ∷ part) checks e = by (k .applies) e (part-decided x part ch
         → judged checks x ≡ cond b (refused (k .number)) (judged (part ++ checks) x)
     by true e rest = let z : _≡_ {A = ℕ} 0 1 = cc in absurd (omega arith)
     by false e rest = rest e
+
+-- as a check that begins with that of another function asks it
+module _ (part : List Check) (a : Answer) (ae : a ≡ answerTo part) (checks : List Check) where
+  pub refused-first : (n : ℕ) → a ≡ Refused n → Refused n ≡ answerTo (part ++ checks)
+  refused-first n e = part-refused part checks n (sym e ∙ ae)
+
+  pub passed-first : a ≡ Accepted → (r : Answer) → r ≡ answerTo checks → r ≡ answerTo (part ++ checks)
+  passed-first e r h = h ∙ part-passed part checks (sym e ∙ ae)
 
 -- the test of a check, by that of the code
 module _ (a b : Bool) (e : a ≡ b) (v : Bool) where

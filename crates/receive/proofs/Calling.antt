@@ -1,13 +1,11 @@
 -- Receive by its first checks, by what is read, and by type, as the code asks it. Assumes nothing.
-use Prim.Native.Nat.{ℕ, _-_, _^_, _≤_}
+use Prim.Native.Nat.{ℕ, _≤_}
 use mathlib.Core.Path.{_≡_, refl, sym, ap, _∙_}
 use mathlib.Core.Bool.{Bool, true, false, cond, false≢true}
-use mathlib.Core.List.{List, _++_}
+use mathlib.Core.List.{List}
 use lib.ListN.{length}
 use native.Mathlib.Omega.{arith}
-use borrow.Author.Tests.{ltb-false, not-false}
-use Rattle.table.specs.Layout.{sized}
-use Rattle.table.proofs.Cases.{sized-long, sized-short}
+use borrow.Author.Tests.{ltb-false}
 use Rattle.element.specs.declared.PathInfo.{PathInfo}
 use Rattle.element.specs.declared.RreqFields.{RreqFields}
 use Rattle.element.specs.declared.RrepFields.{RrepFields}

@@ -1,46 +1,27 @@
--- What is wrong with a RREQ's destinations, as the code asks it; and one part of the checks after another. Assumes nothing.
-use Prim.Native.Nat.{ℕ, _-_}
-use mathlib.Core.Path.{_≡_, refl, sym, ap, ap₂, _∙_}
+-- What is wrong with a RREQ's destinations, as the code asks it. Assumes nothing.
+use Prim.Native.Nat.{ℕ}
+use mathlib.Core.Path.{_≡_, sym, ap, ap₂, _∙_}
 use mathlib.Core.Bool.{Bool, true, false, not, _&&_, _||_}
-use mathlib.Core.List.{List, _++_}
+use mathlib.Core.List.{List}
 use lib.Dec.{ltb}
-use lib.ListN.{length}
-use native.Mathlib.Nat.{sub-zero}
 use Rattle.table.specs.declared.address.Address.{Address}
 use Rattle.table.specs.Address.{individual}
 use Rattle.element.specs.declared.RreqFields.{RreqFields}
 use Rattle.element.specs.declared.list.ListKind.the-variants.{Targets}
 use Rattle.element.specs.Element.{rreq}
 use Rattle.element.specs.Entries.{targetsIn}
-use Rattle.element.specs.Lists.{addressIn, entriesIn, addressesFrom, addressesIn, anyForbidden, allOnes, among, twice, onesBesideOthers}
-use Rattle.element.proofs.Scans.{each-length, target-addresses}
-use Rattle.rules.specs.Decision.{Check}
+use Rattle.element.specs.Lists.{entriesIn, addressesIn, anyForbidden, allOnes, among, twice, onesBesideOthers}
+use Rattle.element.proofs.Scans.{addresses-many, target-addresses}
 use Rattle.rules.specs.Flags.{unicast}
 use Rattle.rules.specs.Receive.{hasBadAddress, hasBadList, severalOrAll}
-use Rattle.point.specs.declared.Answer.{Answer}
-use Rattle.point.specs.declared.Answer.the-variants.{Accepted, Refused}
-use Rattle.point.specs.Answers.{answerTo}
-use Rattle.point.proofs.Checks.{part-refused, part-passed}
-
--- ---- one part of the checks after another
-
-module _ (part : List Check) (r : Answer) (re : r ≡ answerTo part) (checks : List Check) where
-  pub refused-first : (n : ℕ) → r ≡ Refused n → Refused n ≡ answerTo (part ++ checks)
-  refused-first n e = part-refused part checks n (sym e ∙ re)
-
-  pub passed-first : r ≡ Accepted → (x : Answer) → x ≡ answerTo checks → x ≡ answerTo (part ++ checks)
-  passed-first e x xe = xe ∙ part-passed part checks (sym e ∙ re)
 
 -- ---- the destinations of a RREQ
 
 module _ (part : List ℕ) where
   pub several-is : (n : ℕ) → n ≡ entriesIn Targets part → (o : Bool) → o ≡ among allOnes (addressesIn Targets part)
       → (ltb 1 n || o) ≡ severalOrAll (addressesIn Targets part)
-  unfolding severalOrAll addressesFrom
-  several-is n ne o oe =
-      let many : n ≡ length (addressesIn Targets part) =
-      ne ∙ sym (each-length (addressIn Targets part) 0 (entriesIn Targets part - 0) ∙ sub-zero (entriesIn Targets part)) in
-      ap₂ (λ (k : ℕ) (b : Bool). ltb 1 k || b) many oe
+  unfolding severalOrAll
+  several-is n ne o oe = ap₂ (λ (k : ℕ) (b : Bool). ltb 1 k || b) (ne ∙ sym (addresses-many Targets part)) oe
 
   module _ (f : RreqFields) where
     pub bad-address-is : (b : Bool) → b ≡ individual (f .path .subject) → (x : Bool) → x ≡ anyForbidden Targets (addressesIn Targets part)

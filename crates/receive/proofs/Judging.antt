@@ -1,12 +1,11 @@
 -- An element that was read: the parts of its checks together, and what its answer says. Assumes nothing.
-use Prim.Native.Nat.{ℕ, _+_, _-_, _/_, _<_, _≤_}
+use Prim.Native.Nat.{ℕ, _+_, _/_, _<_, _≤_}
 use mathlib.Core.Path.{_≡_, refl, sym, ap, _∙_}
-use mathlib.Core.Bool.{Bool, true, false, not, _&&_, _||_}
-use mathlib.Core.List.{List, [], _∷_}
+use mathlib.Core.Bool.{Bool, true, false, _&&_, _||_}
+use mathlib.Core.List.{List, []}
 use mathlib.Core.Option.{some}
 use lib.Dec.{eqb, ltb}
 use lib.ListN.{length}
-use native.Mathlib.Nat.{sub-zero}
 use native.Mathlib.Omega.{arith}
 use borrow.Author.Tests.{ltb-false, eqb-false, not-false}
 use Rattle.table.specs.declared.address.Address.{Address}
@@ -16,8 +15,8 @@ use Rattle.element.specs.declared.RrepFields.{RrepFields}
 use Rattle.element.specs.declared.list.ListKind.the-variants.{Targets}
 use Rattle.element.specs.Element.{Element, rann, rreq, rrep, rerr}
 use Rattle.element.specs.Entries.{numberedIn, targetsIn}
-use Rattle.element.specs.Lists.{addressIn, entriesIn, addressesFrom, addressesIn, allOnes, among, twice, onesBesideOthers}
-use Rattle.element.proofs.Scans.{each-length, target-addresses, numbered-addresses}
+use Rattle.element.specs.Lists.{entriesIn, allOnes, among, twice, onesBesideOthers}
+use Rattle.element.proofs.Scans.{addresses-many, target-addresses, numbered-addresses}
 use Rattle.rules.specs.declared.Arrival.{Arrival}
 use Rattle.rules.specs.Decision.{accepted}
 use Rattle.rules.specs.Errors.{matches}
@@ -100,12 +99,12 @@ module _ (t : List ℕ) (a : Arrival) (r : Answer) (ok : r ≡ Accepted) where
       (passed-check 26 (judging t a (rerr flags (numberedIn part)) .checks) (none-applied t a (rerr flags (numberedIn part)) r re ok))
 
   pub one-destination : (f : RreqFields) (part : List ℕ) → r ≡ answerTo (elementChecks t a (rreq f (targetsIn part))) → unicastToSeveral (f .path) part ≡ false
-  unfolding hasBadList severalOrAll unicastToSeveral addressesFrom entriesIn
+  unfolding hasBadList severalOrAll unicastToSeveral entriesIn
   one-destination f part re =
       let addresses : List Address = targetAddresses (targetsIn part) in
       let good = passed-check 10 (judging t a (rreq f (targetsIn part)) .checks) (none-applied t a (rreq f (targetsIn part)) r re ok) in
       let many : length addresses ≡ length part / 11 =
-      ap length (target-addresses part) ∙ each-length (addressIn Targets part) 0 (length part / 11 - 0) ∙ sub-zero (length part / 11) in
+      ap length (target-addresses part) ∙ addresses-many Targets part in
       ap (λ (n : ℕ). unicast (f .path) && ltb 1 n) (sym many)
       ∙ by (unicast (f .path)) (ltb 1 (length addresses)) (among allOnes addresses)
       (twice addresses || onesBesideOthers addresses || among (f .path .subject) addresses) good

@@ -1,6 +1,6 @@
 -- What an accepted element leaves, type by type, as the code asks it. Assumes nothing.
 use Prim.Native.Nat.{ℕ, _+_, _*_, _/_, _≤_}
-use mathlib.Core.Path.{_≡_, refl, sym, ap, ap₂, _∙_}
+use mathlib.Core.Path.{_≡_, sym, ap, ap₂, _∙_}
 use mathlib.Core.List.{List, [], _∷_, _++_}
 use lib.ListN.{length, length-append}
 use native.Mathlib.Omega.{arith}
@@ -27,7 +27,7 @@ use Rattle.rules.specs.Errors.{matches, isMatch, erred}
 use Rattle.rules.specs.Learn.{learnt}
 use Rattle.rules.specs.Lists.{those}
 use Rattle.rules.specs.Onward.{toAll, rannOnward, rreqOnward, rrepOnward}
-use Rattle.rules.specs.Outcome.{Frame, Exit, frameOctets, underHead, atExit}
+use Rattle.rules.specs.Outcome.{Frame, frameOctets, underHead, atExit}
 use Rattle.rules.specs.Receive.{rannReceived, rrepReceived, rreqReceived, rerrReceived, received}
 use Rattle.rules.proofs.Emitting.{Emits, rreq-emitted}
 use Rattle.rules.proofs.FrameOctets.{no-frame, one-frame, frames-append}

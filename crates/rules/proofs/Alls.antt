@@ -3,7 +3,7 @@ use Prim.Native.Nat.{ℕ, zero, suc, _+_, _<_, _≤_}
 use mathlib.Core.Path.{_≡_}
 use mathlib.Core.Bool.{Bool, true, false, _||_, cond}
 use mathlib.Core.List.{List, [], _∷_, _++_, map, flatMap}
-use lib.ListN.{length, take, drop}
+use lib.ListN.{length, take, drop, length-append}
 use native.Mathlib.Omega.{arith}
 use Rattle.element.specs.Entries.{each, All}
 use Rattle.rules.specs.Lists.{any, those}
@@ -63,6 +63,12 @@ module _ {A B : Type 0} (Q : B → Type 0) where
   unfolding All flatMap
   all-flat-map P f h [] k = tt
   all-flat-map P f h (x ∷ l) k = all-append Q (f x) (flatMap f l) (h x (k .0)) (all-flat-map P f h l (k .1))
+
+-- no more, where each becomes at most one
+pub flat-fewer : {A B : Type 0} (f : A → List B) → ((x : A) → length (f x) ≤ 1) → (l : List A) → length (flatMap f l) ≤ length l
+unfolding flatMap
+flat-fewer f one [] = omega arith
+flat-fewer f one (x ∷ l) = omega (arith, length-append (f x) (flatMap f l), one x, flat-fewer f one l)
 
 -- ---- how many pass a test
 

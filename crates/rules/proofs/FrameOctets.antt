@@ -1,8 +1,8 @@
 -- Frames as octets, one after another. Assumes nothing.
-use mathlib.Core.Path.{_≡_, refl, sym, ap, _∙_}
-use mathlib.Core.List.{List, [], _∷_, _++_, append-nil, append-assoc, flatMap}
-use Prim.Native.Nat.{ℕ}
+use mathlib.Core.Path.{_≡_, refl}
+use mathlib.Core.List.{List, [], _∷_, _++_, append-nil, flatMap}
 use Rattle.element.specs.Octets.{writeFrame}
+use Rattle.element.proofs.Listing.{listed-append}
 use Rattle.rules.specs.Outcome.{Frame, frameOctets}
 
 pub no-frame : frameOctets [] ≡ []
@@ -14,8 +14,5 @@ unfolding frameOctets flatMap
 one-frame f = append-nil (writeFrame (f .receiver) (f .element))
 
 pub frames-append : (l l′ : List Frame) → frameOctets (l ++ l′) ≡ frameOctets l ++ frameOctets l′
-unfolding frameOctets flatMap
-frames-append [] l′ = refl
-frames-append (f ∷ l) l′ =
-    ap (λ (m : List ℕ). writeFrame (f .receiver) (f .element) ++ m) (frames-append l l′)
-    ∙ sym (append-assoc (writeFrame (f .receiver) (f .element)) (frameOctets l) (frameOctets l′))
+unfolding frameOctets
+frames-append = listed-append (λ (f : Frame). writeFrame (f .receiver) (f .element))

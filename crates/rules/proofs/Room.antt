@@ -38,7 +38,7 @@ use Rattle.rules.specs.Break.{brokenOff, breaking, breakNeighbour}
 use Rattle.rules.specs.Calls.{Call, receives, makes, asks, announces, requestsAsRoot, breaks, outcome, OperandsFit}
 use Rattle.rules.proofs.Branches.{cond-cases}
 use Rattle.rules.proofs.Rulings.{passed, passed-check}
-use Rattle.rules.proofs.Alls.{all-after, all-implies}
+use Rattle.rules.proofs.Alls.{all-after, all-implies, flat-fewer}
 use Rattle.rules.proofs.Emitting.{Each, Emits, rann-emitted, rreq-emitted, rrep-emitted, replies-emitted, errors-emitted}
 use Rattle.rules.proofs.FrameOctets.{frames-append}
 use Rattle.rules.proofs.Sending.{FramesFit}
@@ -86,10 +86,7 @@ entry-one c neighbour r =
     cond-cases (λ (l : List NumberedAddress). length l ≤ 1) (isThrough c neighbour r) (λ _. omega arith) (λ _. omega arith)
 
 pub entries-few : (c : ℕ) (neighbour : Address) (l : List Row) → length (flatMap (brokenEntry c neighbour) l) ≤ length l
-unfolding flatMap
-entries-few c neighbour [] = omega arith
-entries-few c neighbour (r ∷ l) =
-    omega (arith, length-append (brokenEntry c neighbour r) (flatMap (brokenEntry c neighbour) l), entry-one c neighbour r, entries-few c neighbour l)
+entries-few c neighbour = flat-fewer (brokenEntry c neighbour) (entry-one c neighbour)
 
 rows-few : (t : List ℕ) → sized t ≡ true → rows t ≤ 128
 rows-few t e = omega (arith, sized-short t (sized t) refl e)
