@@ -1,4 +1,4 @@
-// Refusal 25: what is received is no newer, and no better, than what the row of its subject remembers.
+// Refusal 25: an older number than that of the subject's row, or an equal one with a metric that is not smaller.
 use element::PathInfo;
 use rules::Arrival;
 use table::row;

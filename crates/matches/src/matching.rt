@@ -15,7 +15,7 @@ ghost use Rattle.element.specs.Entries.{numberedIn};
 ghost use Rattle.rules.specs.Errors.{isLostBy, matches};
 ghost use Rattle.rules.specs.Lists.{any};
 
-// Whether the row is active, of known number, with the transmitter as next hop: an error of another's path is none of ours.
+// Whether the row is active, of known number, with the transmitter as next hop.
 pub fn is_lost_by(a: Arrival, r: Row) -> bool
     ensures { λ b. ⌜ b ≡ isLostBy (a .clock) (a .transmitter) r ⌝ }
 {

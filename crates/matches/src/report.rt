@@ -55,8 +55,8 @@ fn write_matches(output: &mut [u8], at: usize, table: &[u8], a: Arrival, part: &
     place
 }
 
-// The RERR from the start of the output on, where something matches; answers the place after it. Its start names the number
-// of matches, and so is written when these are counted.
+// The RERR from the start of the output on, where something matches; answers the place after it. Its start has the count of
+// matches, and so is written when these are counted.
 pub fn write_error(output: &mut [u8], table: &[u8], a: Arrival, flags: u8, part: &[u8]) -> usize
     requires { ⌜ 32 ≤ length (now table) ⌝ }
     requires { ⌜ length (now part) ≤ 250 ⌝ }

@@ -40,7 +40,7 @@ fn number_beside(part: &[u8], d: Address) -> Beside
 }
 
 // The row stays held; a received number that is newer is taken, so that what was learnt under the old one is stale.
-fn erred(number: SequenceNumber, r: Row) -> Row
+fn erred_with(number: SequenceNumber, r: Row) -> Row
     ensures { λ s. ⌜ s ≡ erredWith (some number) r ⌝ }
 {
     let stored = r.number;
@@ -63,7 +63,7 @@ fn lose_row(table: &mut [u8], i: usize, a: Arrival, part: &[u8])
     let Beside::Number(number) = number_beside(part, r.destination) else {
         return;
     };
-    row::write_row(table, i, erred(number, r));
+    row::write_row(table, i, erred_with(number, r));
 }
 
 // Those of the n first rows.

@@ -1,13 +1,12 @@
 -- What goes on, case by case, as the code asks it. Assumes nothing.
-use Prim.Native.Nat.{ℕ, _+_, _-_, _*_, _/_, _%_, _<_, _≤_}
+use Prim.Native.Nat.{ℕ, _+_, _/_, _%_, _<_, _≤_}
 use mathlib.Core.Path.{_≡_, refl, sym, ap, ap₂, _∙_}
 use mathlib.Core.Bool.{Bool, true, false, not, cond}
-use mathlib.Core.List.{List, [], _∷_, _++_, append-nil, flatMap}
+use mathlib.Core.List.{List, [], _∷_}
 use mathlib.Core.Option.{Option, none, some}
-use lib.Dec.{ltb}
 use lib.ListN.{length}
 use native.Mathlib.Omega.{arith}
-use borrow.Author.Tests.{lt-ltb, le-ltb, not-true, not-false}
+use borrow.Author.Tests.{lt-ltb, le-ltb}
 use Rattle.octets.specs.LittleEndian.{over}
 use Rattle.table.specs.declared.address.Address.{Address}
 use Rattle.table.specs.declared.row.Head.{Head}
@@ -28,7 +27,7 @@ use Rattle.element.specs.Octets.{writeFrame}
 use Rattle.element.proofs.Scans.{each-length}
 use Rattle.element.proofs.Sizes.{frame-length}
 use Rattle.rules.specs.declared.Arrival.{Arrival}
-use Rattle.rules.specs.Decision.{Decision, refused, accepted, decide}
+use Rattle.rules.specs.Decision.{refused, accepted, decide}
 use Rattle.rules.specs.NextHop.{alongRow}
 use Rattle.rules.specs.Onward.{onward, toAll, towards, rannOnward, rrepOnward}
 use Rattle.rules.specs.Outcome.{Frame, frameOctets}

@@ -1,10 +1,8 @@
 -- A RREQ that goes on, case by case, as the code asks it. Assumes nothing.
 use Prim.Native.Nat.{ℕ, _+_, _-_, _*_, _/_, _<_, _≤_}
-use mathlib.Core.Path.{_≡_, refl, sym, ap, ap₂, subst, _∙_}
-use mathlib.Core.Bool.{Bool, true, false, not, _&&_, cond}
-use mathlib.Core.List.{List, [], _∷_, _++_, append-nil, flatMap}
-use mathlib.Core.Option.{Option, none, some}
-use lib.Dec.{ltb}
+use mathlib.Core.Path.{_≡_, refl, sym, ap, subst, _∙_}
+use mathlib.Core.Bool.{Bool, true, false, not, cond}
+use mathlib.Core.List.{List, [], _∷_, append-nil, flatMap}
 use lib.ListN.{length}
 use native.Mathlib.Omega.{arith}
 use borrow.Author.Tests.{lt-ltb, le-ltb, ltb-false, not-true, not-false}
@@ -16,9 +14,9 @@ use Rattle.element.specs.declared.PathInfo.{PathInfo}
 use Rattle.element.specs.declared.RreqFields.{RreqFields}
 use Rattle.element.specs.declared.Target.{Target}
 use Rattle.element.specs.Element.{Element, rreq, rreqNumbers}
-use Rattle.element.specs.Entries.{each, All, targetAt, targetOctets, targetsIn}
+use Rattle.element.specs.Entries.{each, All, targetAt, targetOctets}
 use Rattle.element.specs.Lists.{allOnes}
-use Rattle.element.specs.Octets.{frameStart, writeFrame}
+use Rattle.element.specs.Octets.{frameStart}
 use Rattle.element.proofs.Written.{started-last}
 use Rattle.rules.specs.declared.Arrival.{Arrival}
 use Rattle.rules.specs.Flags.{unicast}

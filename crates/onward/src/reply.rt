@@ -19,7 +19,7 @@ ghost use Rattle.point.specs.Answers.{emitted};
 ghost use Rattle.onward.specs.Sent.{replyHop, rrepForward, sentTo};
 
 // To nobody if the source is this point.
-fn hop_of(table: &[u8], clock: u64, source: Address) -> Receiver
+fn receiver_of(table: &[u8], clock: u64, source: Address) -> Receiver
     requires { ⌜ 32 ≤ length (now table) ⌝ }
     ensures { λ r. ⌜ r ≡ replyHop (now (table .entry)) clock source ⌝ }
 {
@@ -66,6 +66,6 @@ pub fn send_on(output: &mut [u8], table: &[u8], a: Arrival, f: RrepFields, part:
     ensures { λ r. ⌜ r ≡ emitted (rrepOnward (now (table .entry)) a f (numberedIn (now (part .entry)))) ⌝ }
     ensures { λ _. ⌜ now (output .exit) ≡ over (now (output .entry)) 0 (frameOctets (rrepOnward (now (table .entry)) a f (numberedIn (now (part .entry))))) ⌝ }
 {
-    let receiver = hop_of(table, a.clock, f.source.address);
+    let receiver = receiver_of(table, a.clock, f.source.address);
     send_to(output, receiver, fields_onward(a, f), part)
 }

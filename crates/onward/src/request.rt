@@ -22,7 +22,7 @@ ghost use Rattle.destinations.specs.Kept.{keptAmong};
 ghost use Rattle.onward.specs.Sent.{requestHop, requestSent, rreqForward, sentWith, unicastToSeveral};
 
 // All ones, or if unicast the active next hop of its destination.
-fn hop_of(table: &[u8], clock: u64, p: PathInfo, part: &[u8]) -> Receiver
+fn receiver_of(table: &[u8], clock: u64, p: PathInfo, part: &[u8]) -> Receiver
     requires { ⌜ 32 ≤ length (now table) ⌝ }
     requires { ⌜ 11 ≤ length (now part) ⌝ }
     ensures { λ r. ⌜ r ≡ requestHop (now (table .entry)) clock p (now (part .entry)) ⌝ }
@@ -86,7 +86,7 @@ fn send(
     ensures { λ r. ⌜ r ≡ emitted (requestSent (now (table .entry)) clock f (now (part .entry))) ⌝ }
     ensures { λ _. ⌜ now (output .exit) ≡ over (now (output .entry)) at (frameOctets (requestSent (now (table .entry)) clock f (now (part .entry)))) ⌝ }
 {
-    match hop_of(table, clock, f.path, part) {
+    match receiver_of(table, clock, f.path, part) {
         Receiver::To(to) => send_kept(output, at, to, f, table, clock, part),
         Receiver::Nobody => Emitted::nothing(),
     }

@@ -1,4 +1,4 @@
-// The calls of a mesh point.
+// The calls of a mesh point but receive, and what receive has in common with them.
 pub mod announce;
 pub mod ask;
 pub mod break_neighbour;

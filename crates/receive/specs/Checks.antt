@@ -1,5 +1,5 @@
--- The checks of receive in parts, as the code goes through them. For the code's own functions: `path-checks` and `error-checks` say
--- that the parts are the checks of `judging`. Assumes nothing.
+-- The checks of receive in parts, as the code goes through them. For the code's own functions: `rann-checked`, `rreq-checked`,
+-- `rrep-checked` and `rerr-checked` say that the parts are the checks of `judging`. Assumes nothing.
 use Prim.Native.Nat.{ℕ, _-_, _^_}
 use mathlib.Core.Bool.{not}
 use mathlib.Core.List.{List, [], _∷_, _++_}
@@ -24,7 +24,7 @@ use Rattle.receive.specs.declared.faults.Faults.{Faults}
 unfoldable pub arrivalChecks : List ℕ → ℕ → Arrival → List Check
 arrivalChecks t room a = operandChecks t room (a .clock) (a .transmitter) ++ (refuse 5 when eqb (a .link .0) 0) ∷ []
 
--- what is wrong with an element beside the fields of its path
+-- the refusals whose test depends on the type of an element with a path: 9, 10 and 14
 unfoldable pub faultsOf : Element → Faults
 faultsOf e = record { address = hasBadAddress e; list = hasBadList e; ttl = isLowTtlReply e }
 
@@ -45,7 +45,7 @@ rowChecks t a p =
     ∷ (refuse 25 when isStale t a p)
     ∷ (refuse 27 when rowsNeeded t a p above freeRows t) ∷ []
 
--- 9 to 27
+-- 9 to 14, 21 to 25 and 27
 unfoldable pub pathChecks : Faults → List ℕ → Arrival → PathInfo → List Check
 pathChecks x t a p = fieldChecks x a p ++ (stateChecks t (a .clock) (a .transmitter) ++ rowChecks t a p)
 

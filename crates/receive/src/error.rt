@@ -54,6 +54,7 @@ fn check_state(table: &[u8], a: Arrival, part: &[u8]) -> Answer
     Answer::Accepted
 }
 
+// Flags play no part; the contract names the element.
 fn check(table: &[u8], a: Arrival, flags: u8, part: &[u8]) -> Answer
     requires { ⌜ 32 ≤ length (now table) ⌝ }
     ensures { λ r. ⌜ r ≡ answerTo (elementChecks (now (table .entry)) a (rerr flags (numberedIn (now (part .entry))))) ⌝ }

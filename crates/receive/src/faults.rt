@@ -1,4 +1,4 @@
-// Refusals 9, 10 and 14 of an element with a path: what is wrong with it beside the fields of the path.
+// The refusals of an element with a path whose test depends on its type: 9, 10 and 14.
 use destinations::flags;
 use element::PathInfo;
 use element::RrepFields;

@@ -15,7 +15,6 @@ use rules::Arrival;
 ghost use mathlib.Core.Path.{_≡_};
 ghost use Prim.Native.Nat.{_≤_};
 ghost use lib.ListN.{length};
-ghost use Rattle.element.specs.Octets.{reading};
 ghost use Rattle.rules.specs.Outcome.{atExit};
 ghost use Rattle.rules.specs.Receive.{receive};
 ghost use Rattle.point.specs.Answers.{answerTo, exits};

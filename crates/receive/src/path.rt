@@ -67,7 +67,7 @@ fn check_rows(table: &[u8], a: Arrival, p: PathInfo) -> Answer
     Answer::Accepted
 }
 
-// By the state: 21 to 27.
+// By the state: 21 to 25 and 27.
 fn check_state(table: &[u8], a: Arrival, p: PathInfo) -> Answer
     requires { ⌜ 32 ≤ length (now table) ⌝ }
     requires { ⌜ length (now table) ≤ 4128 ⌝ }

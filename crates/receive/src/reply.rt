@@ -20,6 +20,7 @@ ghost use Rattle.rules.specs.Receive.{received};
 ghost use Rattle.point.specs.Answers.{answerTo, exits};
 ghost use Rattle.receive.specs.Judged.{elementChecks, judged};
 
+// Dependents play no part; the contract names the element.
 fn check(table: &[u8], a: Arrival, f: RrepFields, part: &[u8]) -> Answer
     requires { ⌜ 32 ≤ length (now table) ⌝ }
     requires { ⌜ length (now table) ≤ 4128 ⌝ }
