@@ -149,7 +149,7 @@ pub fn rerr_with_25(input: &mut Input, random: &mut Random) {
     input.element = framed(Rerr::ID, &fields);
 }
 
-/// What makes receive do the most, of each type.
+/// The largest of these elements of each type, at the most rows.
 pub fn largest_received(random: &mut Random) -> [Input; 4] {
     let prepares = [rann, rrep, rreq_for_20, rerr_with_25];
     prepares.map(|prepare: fn(&mut Input, &mut Random)| {

@@ -188,7 +188,7 @@ impl Row {
         }
     }
 
-    /// The row with a number from which on it is to be believed again.
+    /// The row with this number and the largest metric.
     pub fn raised(self, number: SequenceNumber) -> Row {
         Row {
             number,

@@ -6,7 +6,7 @@ use crate::cases::{
     END, LEARNT, NEIGHBOUR, PATH, active, expired, invalidated, learns, rann, refuses,
 };
 
-/// The rows that the element needs: the end's and the transmitter's, one of them, or none.
+/// Which are held of the rows that the element fills, the end's and the transmitter's.
 #[derive(Clone, Copy, Debug)]
 enum Held {
     Neither,

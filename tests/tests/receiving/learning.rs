@@ -83,7 +83,6 @@ fn step_1_renews_the_row_of_the_end() {
         metric: 3,
         ..active(END)
     };
-    let until = |expiry: u64, row: Row| Row { expiry, ..row };
     let unknown = |expiry: u64| until(expiry, old.unknown(3));
     let largest = (1 << 48) + (1 << 32);
     // Row before, and expiry after.
@@ -108,86 +107,83 @@ fn step_1_renews_the_row_of_the_end() {
     }
 }
 
-#[test]
-fn step_2_takes_a_link_that_is_better() {
-    let known = Row {
+/// The transmitter's row before and after the path is learnt.
+fn becomes(what: &str, before: Row, after: Row) {
+    learns(what, PATH, &[FREE, before], &[LEARNT, after]);
+}
+
+fn stays(what: &str, row: Row) {
+    becomes(what, row, row);
+}
+
+fn at(metric: u32, row: Row) -> Row {
+    Row { metric, ..row }
+}
+
+fn until(expiry: u64, row: Row) -> Row {
+    Row { expiry, ..row }
+}
+
+/// A row of the transmitter by way of another neighbour, at the metric of the link.
+fn roundabout() -> Row {
+    let row = Row {
         hop_count: 3,
         ..active(T)
     };
-    let unknown = NEIGHBOUR;
-    let at = |metric: u32, row: Row| Row { metric, ..row };
-    let until = |expiry: u64, row: Row| Row { expiry, ..row };
-    // What a changed row of known number becomes; the number stays.
-    let changed = Row {
+    at(LINK, row)
+}
+
+/// The same row after a change: its number stays.
+fn straight() -> Row {
+    Row {
         hop_count: 1,
         next_hop: T,
-        metric: LINK,
         expiry: 6000,
-        ..known
-    };
-    let cases = [
-        ("none", FREE, NEIGHBOUR),
-        // Active: only a link below its metric counts, and then the larger expiry stays.
-        ("active above", at(15, known), changed),
-        (
-            "active above, later",
-            until(9000, at(15, known)),
-            until(9000, changed),
-        ),
-        ("active equal", at(14, known), at(14, known)),
-        (
-            "active equal, later",
-            until(9000, at(14, known)),
-            until(9000, at(14, known)),
-        ),
-        ("active below", at(13, known), at(13, known)),
-        ("unknown above", until(5500, at(15, unknown)), unknown),
-        (
-            "unknown above, later",
-            until(9000, at(15, unknown)),
-            until(9000, unknown),
-        ),
-        ("unknown equal", until(5500, unknown), until(5500, unknown)),
-        (
-            "unknown below",
-            until(5500, at(1, unknown)),
-            until(5500, at(1, unknown)),
-        ),
-        // Inactive: renewed at an equal metric too, and without a number at any.
-        ("expired above", expired(at(15, known)), changed),
-        ("expired equal", expired(at(14, known)), changed),
-        (
-            "expired below",
-            expired(at(13, known)),
-            expired(at(13, known)),
-        ),
-        (
-            "invalidated above",
-            invalidated(until(9000, at(15, known))),
-            changed,
-        ),
-        ("invalidated equal", invalidated(at(14, known)), changed),
-        (
-            "invalidated below",
-            invalidated(at(13, known)),
-            invalidated(at(13, known)),
-        ),
-        ("broken", invalidated(at(0xFFFF_FFFF, known)), changed),
-        ("unknown expired below", expired(at(1, unknown)), unknown),
-        (
-            "unknown invalidated",
-            invalidated(until(9000, at(1, unknown))),
-            unknown,
-        ),
-    ];
-    for (what, before, after) in cases {
-        learns(what, PATH, &[FREE, before], &[LEARNT, after]);
+        ..roundabout()
     }
 }
 
-/// A link that is worse than the row's leaves the row also if the row leads elsewhere.
 #[test]
-fn step_2_leaves_others_alone() {
+fn step_2_makes_a_row_of_unknown_number() {
+    becomes("none", FREE, NEIGHBOUR);
+}
+
+/// Only a link below its metric counts, and then the larger expiry stays.
+#[test]
+fn step_2_changes_an_active_row_for_a_better_link() {
+    let (known, unknown) = (roundabout(), until(5500, NEIGHBOUR));
+    becomes("above", at(15, known), straight());
+    let later = until(9000, straight());
+    becomes("above, later", until(9000, at(15, known)), later);
+    stays("equal", known);
+    stays("equal, later", until(9000, known));
+    stays("below", at(13, known));
+    becomes("unknown above", at(15, unknown), NEIGHBOUR);
+    let later = until(9000, NEIGHBOUR);
+    becomes("unknown above, later", at(15, later), later);
+    stays("unknown equal", unknown);
+    stays("unknown below", at(1, unknown));
+}
+
+/// At an equal metric too, and without a number at any.
+#[test]
+fn step_2_renews_an_inactive_row_unless_the_link_is_worse() {
+    let (known, unknown) = (roundabout(), NEIGHBOUR);
+    becomes("expired above", expired(at(15, known)), straight());
+    becomes("expired equal", expired(known), straight());
+    stays("expired below", expired(at(13, known)));
+    let later = until(9000, at(15, known));
+    becomes("invalidated above, later", invalidated(later), straight());
+    becomes("invalidated equal", invalidated(known), straight());
+    stays("invalidated below", invalidated(at(13, known)));
+    becomes("broken", invalidated(at(0xFFFF_FFFF, known)), straight());
+    becomes("unknown expired below", expired(at(1, unknown)), unknown);
+    let later = until(9000, at(1, unknown));
+    becomes("unknown invalidated below", invalidated(later), unknown);
+}
+
+#[test]
+fn rows_of_other_destinations_stay() {
     let others = [active(A), expired(active(B)), invalidated(active(C))];
     let before = [others[0], FREE, others[1], FREE, others[2]];
     let after = [others[0], LEARNT, others[1], NEIGHBOUR, others[2]];
@@ -242,6 +238,17 @@ const FRESHNESS: [(u32, u32, u32, bool); 19] = [
     (0xFFFF_FFFF, 39, 0xFFFF_FFFF, false),
 ];
 
+/// One of each type, none of which goes on: a RANN and a RREQ have no hop left, and the source
+/// of the RREP has no row.
+fn one_of_each(path: Path) -> [Vec<u8>; 3] {
+    let last = Path { ttl: 1, ..path };
+    [
+        rann(0, last),
+        rreq(0, last, &[(0, C, 0)]),
+        rrep(0, Path { ttl: 2, ..path }, C, &[]),
+    ]
+}
+
 /// The row is active, expired or invalidated: an equal number at a worse metric is refused into
 /// an inactive row as well, for a RREP as for the others.
 #[test]
@@ -252,42 +259,37 @@ fn numbers_are_compared_round_zero_and_then_metrics() {
             metric,
             ..active(END)
         };
-        let path = Path {
-            number: received,
-            ttl: 2,
-            ..PATH
-        };
-        let elements = [
-            rann(0, path),
-            rreq(0, path, &[(0, C, 0)]),
-            rrep(0, path, C, &[]),
-        ];
-        for row in [row, expired(row), invalidated(row)] {
-            for element in &elements {
-                let what = format!("{received} after {held} at {metric}, {}", element[0]);
-                if fresh {
-                    let path = Path { ttl: 1, ..path };
-                    let after = Row {
-                        number: received,
-                        ..LEARNT
-                    };
-                    learns(&what, path, &[row, FREE], &[after, NEIGHBOUR]);
-                } else {
-                    refuses(&what, &[row, FREE], element, 25);
-                }
-            }
-        }
-        // A number that is not known is nothing to compare with.
-        let unknown = Row {
-            expiry: 5500,
-            ..row.unknown(metric)
-        };
         let after = Row {
             number: received,
             ..LEARNT
         };
-        let what = format!("{received} where none is known");
-        learns(&what, path, &[unknown, FREE], &[after, NEIGHBOUR]);
+        let path = Path {
+            number: received,
+            ..PATH
+        };
+        for element in one_of_each(path) {
+            let what = format!("{received} after {held} at {metric}, {}", element[0]);
+            for row in [row, expired(row), invalidated(row)] {
+                if fresh {
+                    accepts(&what, &[row, FREE], &element, &[after, NEIGHBOUR], &[]);
+                } else {
+                    refuses(&what, &[row, FREE], &element, 25);
+                }
+            }
+        }
+    }
+}
+
+/// A number that is not known is nothing to compare with, nor is the metric beside it.
+#[test]
+fn any_number_is_accepted_where_none_is_known() {
+    for (_, metric, number, _) in FRESHNESS {
+        let row = active(END).unknown(metric);
+        let after = Row { number, ..LEARNT };
+        for element in one_of_each(Path { number, ..PATH }) {
+            let what = format!("{number} where none is known at {metric}, {}", element[0]);
+            accepts(&what, &[row, FREE], &element, &[after, NEIGHBOUR], &[]);
+        }
     }
 }
 

@@ -156,8 +156,8 @@ fn sets_of_three(numbers: &[u32]) -> Vec<Faults> {
     sets
 }
 
-/// Every set of faults gives the lowest of them. Some cannot stand together in one operand, as
-/// a clock that is too large and behind; then only the lower one is really there.
+/// Every set of at most three faults gives the lowest of them. Some cannot stand together in one
+/// operand, as a clock that is too large and behind; then only the lower one is really there.
 #[test]
 fn each_type_gives_the_lowest_refusal() {
     for (name, numbers, element) in TYPES {
@@ -250,7 +250,7 @@ fn counts_of_entries() {
     for count in 0..=60 {
         let named: Vec<_> = entries(count).collect();
         let asked: Vec<_> = asked(count).collect();
-        // Element, the most and the least entries, and what is answered to so many.
+        // Element, how many entries fit, what is answered to so many, and its Length.
         let elements = [
             (
                 rreq(0, PATH, &asked),

@@ -223,7 +223,7 @@ fn destinations_are_taken_in_order() {
     accepts_numbered("six", 5, &before, &element, 6, &after, &frames);
 }
 
-/// Twenty replies and a request with twenty destinations are the most that a call emits:
+/// Twenty replies and a request with twenty destinations are the most that receive emits:
 /// 20 times 40 octets and 254.
 #[test]
 fn twenty_destinations_are_answered_and_go_on() {

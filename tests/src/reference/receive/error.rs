@@ -13,7 +13,8 @@ impl Reception<'_> {
         ensure(individual, Refusal::NotIndividual)?;
         ensure(!has_twice(addresses), Refusal::ListOrFlags)?;
         let head = checks::head_at(self.clock, self.transmitter, &self.table())?;
-        // Where nothing matches nothing is written, so 26 may be judged after the matches.
+        let has_match = |entry: NumberedAddress| self.match_for(entry.address).is_some();
+        ensure(rerr.destinations().any(has_match), Refusal::NoMatch)?;
         let mut hit = Entries::<{ NumberedAddress::OCTETS }, { Rerr::MOST }>::new();
         for entry in rerr.destinations() {
             if let Some((place, row)) = self.match_for(entry.address) {
@@ -21,7 +22,6 @@ impl Reception<'_> {
                 hit.push(entry.encode());
             }
         }
-        ensure(!hit.as_slice().is_empty(), Refusal::NoMatch)?;
         write_head(self.octets, &head);
         let onward = Rerr {
             destinations: hit.as_slice(),
