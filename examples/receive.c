@@ -1,6 +1,6 @@
 /*
  * Three points in a row: the first asks for the last, and its request and the reply to it
- * teach all of them the way. Each frame is kept with its sender and delivered by hand.
+ * give all of them rows. Each frame is kept with its sender and delivered by hand.
  * Build: cc -std=c11 -Iinclude examples/receive.c target/staticlib/libhwmp.a -o receive
  */
 #include <inttypes.h>
@@ -112,6 +112,6 @@ int main(void)
     print_next_hop(0, 2, 1000); /* the lifetime is over */
 
     deliver(3, 0, 0); /* once more: nothing new, and refused */
-    deliver(3, 2, 0); /* point 1's frame at point 2, which it tells of itself: refused */
+    deliver(3, 2, 0); /* tells point 2 the way to itself: refused with 24 */
     return 0;
 }

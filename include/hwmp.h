@@ -20,7 +20,8 @@
  *    7  the element is of no type known here
  *    8  the items are not 1 to HWMP_MAX_ITEMS of 7 octets, or the element's length does not
  *       fit its type and count
- *    9  an address is not individual: lowest bit of its first octet set, or all zero
+ *    9  an address is not individual: lowest bit of its first octet set, or all zero; but a
+ *       received request may name all ones
  *   10  an address stands twice or where it may not, or flags are not allowed
  *   11  the lifetime is 0
  *   12  the element's hop count is 255
@@ -30,8 +31,9 @@
  *   22  the clock is below the latest clock stored in the table
  *   23  the neighbour or transmitter is the point's own address
  *   24  an item names the point's own address, or what is received tells of a path to it
- *   25  what is received is older than the row, or as old and no better
- *   26  an error names no row that leads through its transmitter
+ *   25  what is received is older than the row, or as old and no better, whether the row is
+ *       active or not
+ *   26  an error names no active row of known number that leads through its transmitter
  *   27  there are too few free rows
  *   28  there is no active row for the destination
  *   29  there is no row for the destination
@@ -155,17 +157,29 @@ struct hwmp_outcome hwmp_break(uint8_t *table, size_t table_len, uint8_t *output
 /*
  * Receives an element that a neighbour, the transmitter, has sent over a link of that metric.
  *
+ * The element is handed over without the receiver address of its frame, which plays no part.
+ *
  * A RREQ, RREP or RANN tells of a path through the transmitter to its originator (RREP: to its
- * destination). The row for it is made or renewed, and so is the transmitter's own row if
- * there is none or the link is better. A RREQ is answered with RREPs to the transmitter for
- * the point itself and for destinations that it has fresh rows for; the RREQ goes on with
- * the others. A RREP goes on towards its source, and a RANN to all.
+ * destination), whose row is made or renewed. If the transmitter is another point, so is its
+ * row: if there is none; if it is inactive and its number is unknown or the link metric is at
+ * most its metric; or if it is active and the link metric is below its metric.
+ *
+ * A RREQ is answered by RREPs to the transmitter: for the point itself, for all ones if a
+ * reply is wanted, and, unless DO is set, for destinations with an active row of known number
+ * that is not older than requested. For itself and for all ones the point takes its next
+ * sequence number, which the table keeps; if the RREQ names the point with a newer number, the
+ * one after that. The RREQ goes on with the destinations not answered, with all ones, and with
+ * those answered from a row that have RF, then with DO set: to all, or if unicast to the next
+ * hop of its destination. A RREP goes on to the next hop of its source, unless the source is
+ * this point; a RANN to all. RREQ and RANN go on only with TTL at least 2, and nothing goes
+ * to a next hop without an active row.
  *
  * A RERR invalidates the active rows of known number that it names and that lead through
  * the transmitter, and goes on to all with these.
  *
  * The clock is stored.
- * Refusals: 1 to 14, 21 to 27; 11 to 14, 24, 25 and 27 never for a RERR, 26 only for it.
+ * Refusals: 1 to 14, 21 to 27; 14 only for a RREP, 26 only for a RERR, and never for a RERR
+ * 11 to 13, 24, 25 and 27.
  */
 struct hwmp_outcome hwmp_receive(uint8_t *table, size_t table_len, uint8_t *output,
                                  size_t output_len, uint64_t clock,
