@@ -13,6 +13,7 @@ use Rattle.table.specs.declared.search.Found.the-variants.{At, Nothing}
 use Rattle.table.specs.Layout.{rowAt}
 use Rattle.table.specs.Row.{active}
 use Rattle.table.specs.Table.{findRow, rowFor}
+use Rattle.table.proofs.Cases.{row-at, row-none}
 use Rattle.element.specs.declared.PathInfo.{PathInfo}
 use Rattle.element.specs.declared.Target.{Target}
 use Rattle.rules.specs.declared.Arrival.{Arrival}
@@ -50,17 +51,17 @@ module _ (c : ℕ) (q : Target) (d : Bool) (de : d ≡ hasDO q) where
 
 module _ (t : List ℕ) (c : ℕ) (q : Target) (f : Found) (fe : f ≡ findRow t (q .address)) where
   pub nobody-absent : f ≡ Nothing → none ≡ answeringRow t c q
-  unfolding answeringRow rowFor
-  nobody-absent e = rw (← fe, e)
+  unfolding answeringRow
+  nobody-absent e = rw (row-none t (q .address) f fe e)
 
   module _ (i : ℕ) (at-i : f ≡ At i) (r : Row) (re : r ≡ rowAt t i) (b : Bool) (be : b ≡ answersFor c q r) where
     pub nobody-stale : not b ≡ true → none ≡ answeringRow t c q
-    unfolding answeringRow rowFor
-    nobody-stale e = rw (← fe, at-i, ← re, ← be, not-true b e)
+    unfolding answeringRow
+    nobody-stale e = rw (row-at t (q .address) f fe i at-i r re, ← be, not-true b e)
 
     pub row-answers : not b ≡ false → some r ≡ answeringRow t c q
-    unfolding answeringRow rowFor
-    row-answers e = rw (← fe, at-i, ← re, ← be, not-false b e)
+    unfolding answeringRow
+    row-answers e = rw (row-at t (q .address) f fe i at-i r re, ← be, not-false b e)
 
 -- ---- `forAnother` goes by that row
 

@@ -1,6 +1,6 @@
 -- Refusal 27, case by case, as the code asks it. Assumes nothing.
 use Prim.Native.Nat.{ℕ, _+_}
-use mathlib.Core.Path.{_≡_, sym, ap₂, _∙_}
+use mathlib.Core.Path.{_≡_, refl, sym, ap₂, _∙_}
 use mathlib.Core.Bool.{false}
 use mathlib.Core.List.{List}
 use lib.Dec.{ltb}
@@ -10,19 +10,19 @@ use borrow.Author.Tests.{eq-eqb, ne-eqb, le-ltb}
 use Rattle.table.specs.declared.address.Address.{Address}
 use Rattle.table.specs.declared.search.Found.{Found}
 use Rattle.table.specs.declared.search.Found.the-variants.{At, Nothing}
+use Rattle.table.specs.Layout.{rowAt}
 use Rattle.table.specs.Table.{findRow, rowFor, newRows, freeRows}
+use Rattle.table.proofs.Cases.{row-at, row-none}
 use Rattle.element.specs.declared.PathInfo.{PathInfo}
 use Rattle.rules.specs.declared.Arrival.{Arrival}
 use Rattle.rules.specs.Receive.{rowsNeeded}
 
 module _ (t : List ℕ) (d : Address) (f : Found) (fe : f ≡ findRow t d) where
   pub row-there : (i : ℕ) → f ≡ At i → 0 ≡ newRows (rowFor t d)
-  unfolding rowFor
-  row-there i e = rw (← fe, e)
+  row-there i e = rw (row-at t d f fe i e (rowAt t i) refl)
 
   pub row-absent : f ≡ Nothing → 1 ≡ newRows (rowFor t d)
-  unfolding rowFor
-  row-absent e = rw (← fe, e)
+  row-absent e = rw (row-none t d f fe e)
 
 module _ (t : List ℕ) (a : Arrival) (p : PathInfo) (n : ℕ) (ne : n ≡ newRows (rowFor t (p .subject))) where
   pub one-address : a .transmitter .0 ≡ p .subject .0 → n ≡ rowsNeeded t a p

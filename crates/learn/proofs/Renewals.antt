@@ -15,7 +15,8 @@ use Rattle.table.specs.declared.search.Found.the-variants.{At, Nothing}
 use Rattle.table.specs.Layout.{rowAt}
 use Rattle.table.specs.Row.{active, renewed, numbered}
 use Rattle.table.specs.Places.{isNothing}
-use Rattle.table.specs.Table.{findRow, rowIn, rowFor, store}
+use Rattle.table.specs.Table.{findRow, rowFor, store}
+use Rattle.table.proofs.Cases.{row-at, row-none}
 use Rattle.table.proofs.Lookup.{row-destination}
 use Rattle.element.specs.declared.PathInfo.{PathInfo}
 use Rattle.rules.specs.declared.Arrival.{Arrival}
@@ -25,12 +26,10 @@ use Rattle.rules.specs.Learn.{metricHere, hopsHere, newRow, rowOrNew, expiryOf,
 
 module _ (t : List ℕ) (d : Address) (f : Found) (fe : f ≡ findRow t d) where
   pub row-found : (i : ℕ) → f ≡ At i → (r : Row) → r ≡ rowAt t i → r ≡ rowOrNew d (rowFor t d)
-  unfolding rowFor
-  row-found i e r re = rw (← fe, e) re
+  row-found i e r re = rw (row-at t d f fe i e r re)
 
   pub row-made : f ≡ Nothing → (r : Row) → r ≡ newRow d → r ≡ rowOrNew d (rowFor t d)
-  unfolding rowFor
-  row-made e r re = rw (← fe, e) re
+  row-made e r re = rw (row-none t d f fe e) re
 
 row-or-new-destination : (t : List ℕ) (d : Address) → rowOrNew d (rowFor t d) .destination ≡ d
 row-or-new-destination t d = by (rowFor t d) refl
@@ -90,13 +89,13 @@ module _ (a : Arrival) where
   module _ (t : List ℕ) (f : Found) (fe : f ≡ findRow t (a .transmitter)) (r : Row) (re : r ≡ rowOrNew (a .transmitter) (rowFor t (a .transmitter))) where
     -- a row that is to be made takes the link
     taken : (isNothing f || rowTakesLink a r) ≡ takesLink a (rowFor t (a .transmitter))
-    unfolding takesLink rowFor
+    unfolding takesLink
     taken = rw re (by f fe)
       where
         by : (g : Found) → g ≡ findRow t (a .transmitter)
-            → (isNothing g || rowTakesLink a (rowOrNew (a .transmitter) (rowIn t (findRow t (a .transmitter))))) ≡ takesLink a (rowIn t (findRow t (a .transmitter)))
-        by (At i) e = rw (← e)
-        by Nothing e = rw (← e)
+            → (isNothing g || rowTakesLink a (rowOrNew (a .transmitter) (rowFor t (a .transmitter)))) ≡ takesLink a (rowFor t (a .transmitter))
+        by (At i) e = rw (row-at t (a .transmitter) (At i) e i refl (rowAt t i) refl)
+        by Nothing e = rw (row-none t (a .transmitter) Nothing e refl)
 
     module _ (lifetime : ℕ) (b : Bool) (be : b ≡ (isNothing f || rowTakesLink a r)) where
       pub transmitter-stays : not b ≡ true → t ≡ transmitterLearnt a lifetime t

@@ -11,6 +11,7 @@ use Rattle.table.specs.declared.search.Found.{Found}
 use Rattle.table.specs.declared.search.Found.the-variants.{At, Nothing}
 use Rattle.table.specs.Layout.{rowAt}
 use Rattle.table.specs.Table.{findRow, rowFor}
+use Rattle.table.proofs.Cases.{row-at, row-none}
 use Rattle.element.specs.declared.PathInfo.{PathInfo}
 use Rattle.rules.specs.declared.Arrival.{Arrival}
 use Rattle.rules.specs.Receive.{isStaleFor, isStale}
@@ -32,9 +33,9 @@ module _ (a : Arrival) (p : PathInfo) (r : Row) where
 
 module _ (t : List ℕ) (a : Arrival) (p : PathInfo) (f : Found) (fe : f ≡ findRow t (p .subject)) where
   pub stale-absent : f ≡ Nothing → false ≡ isStale t a p
-  unfolding isStale rowFor
-  stale-absent e = rw (← fe, e)
+  unfolding isStale
+  stale-absent e = rw (row-none t (p .subject) f fe e)
 
   pub stale-found : (i : ℕ) → f ≡ At i → (r : Row) → r ≡ rowAt t i → (b : Bool) → b ≡ isStaleFor a p r → b ≡ isStale t a p
-  unfolding isStale rowFor
-  stale-found i e r re b be = rw (← fe, e, ← re) be
+  unfolding isStale
+  stale-found i e r re b be = rw (row-at t (p .subject) f fe i e r re) be

@@ -10,6 +10,7 @@ use Rattle.table.specs.declared.search.Found.{Found}
 use Rattle.table.specs.declared.search.Found.the-variants.{At, Nothing}
 use Rattle.table.specs.Layout.{rowAt}
 use Rattle.table.specs.Table.{findRow, rowFor}
+use Rattle.table.proofs.Cases.{row-at, row-none}
 use Rattle.element.specs.declared.NumberedAddress.{NumberedAddress}
 use Rattle.element.specs.Entries.{each, numberedAt}
 use Rattle.rules.specs.Errors.{isThrough, isLostBy, matches}
@@ -22,12 +23,12 @@ lost-is c hop r b e = ap (λ (x : Bool). x && eqb (r .known) 1) e
 
 module _ (t : List ℕ) (c : ℕ) (hop : Address) (m : NumberedAddress) (f : Found) (fe : f ≡ findRow t (m .address)) where
   pub match-absent : f ≡ Nothing → false ≡ matches t c hop m
-  unfolding matches rowFor
-  match-absent e = rw (← fe, e)
+  unfolding matches
+  match-absent e = rw (row-none t (m .address) f fe e)
 
   pub match-found : (i : ℕ) → f ≡ At i → (r : Row) → r ≡ rowAt t i → (b : Bool) → b ≡ isLostBy c hop r → b ≡ matches t c hop m
-  unfolding matches rowFor
-  match-found i e r re b be = rw (← fe, e, ← re) be
+  unfolding matches
+  match-found i e r re b be = rw (row-at t (m .address) f fe i e r re) be
 
 -- one after another: g says whether some match
 module _ (t : List ℕ) (c : ℕ) (hop : Address) (part : List ℕ) (n i : ℕ) (g : Bool) where

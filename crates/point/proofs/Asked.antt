@@ -15,6 +15,7 @@ use Rattle.table.specs.declared.search.Found.{Found}
 use Rattle.table.specs.declared.search.Found.the-variants.{At, Nothing}
 use Rattle.table.specs.Layout.{headAt, putHead, rowAt}
 use Rattle.table.specs.Table.{own, findRow, rowFor}
+use Rattle.table.proofs.Cases.{row-at, row-none}
 use Rattle.element.specs.declared.Item.{Item}
 use Rattle.element.specs.declared.Kind.the-variants.{Rreq}
 use Rattle.element.specs.declared.Target.{Target}
@@ -51,17 +52,17 @@ module _ (s : List ℕ) (n i : ℕ) (g : Bool) (l : i < n) (x : Item) (xe : x �
 
 module _ (t : List ℕ) (d : Address) (f : Found) (fe : f ≡ findRow t d) where
   pub number-absent : f ≡ Nothing → record { 0 = 0 } ≡ knownNumber (rowFor t d)
-  unfolding knownNumber rowFor
-  number-absent e = cc
+  unfolding knownNumber
+  number-absent e = rw (row-none t d f fe e)
 
   module _ (i : ℕ) (at-i : f ≡ At i) (r : Row) (re : r ≡ rowAt t i) where
     pub number-unknown : (r .known ≡ 1 → ⊥) → record { 0 = 0 } ≡ knownNumber (rowFor t d)
-    unfolding knownNumber rowFor
-    number-unknown k = cc (ne-eqb (r .known) 1 k)
+    unfolding knownNumber
+    number-unknown k = rw (row-at t d f fe i at-i r re, ne-eqb (r .known) 1 k)
 
     pub number-known : r .known ≡ 1 → r .number ≡ knownNumber (rowFor t d)
-    unfolding knownNumber rowFor
-    number-known k = cc (eq-eqb (r .known) 1 k)
+    unfolding knownNumber
+    number-known k = rw (row-at t d f fe i at-i r re, eq-eqb (r .known) 1 k)
 
 -- ---- its destinations one by one, by what is left to write: g is the whole
 

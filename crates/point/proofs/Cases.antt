@@ -1,11 +1,11 @@
 -- The definitions of the calls by cases, each as a `return` asks it. Each section adds the test that was passed.
 -- Assumes nothing.
 use Prim.Native.Nat.{ℕ, _+_, _≤_, _<_}
-use mathlib.Core.Path.{_≡_}
+use mathlib.Core.Path.{_≡_, refl}
 use mathlib.Core.Bool.{Bool, true, false, not}
 use mathlib.Core.List.{List}
 use lib.ListN.{length}
-use borrow.Author.Tests.{not-false, lt-ltb, le-ltb}
+use borrow.Author.Tests.{not-true, not-false, lt-ltb, le-ltb}
 use Rattle.counters.specs.declared.SequenceNumber.{SequenceNumber}
 use Rattle.table.specs.declared.address.Address.{Address}
 use Rattle.table.specs.declared.row.Head.{Head}
@@ -16,7 +16,7 @@ use Rattle.table.specs.Address.{individual}
 use Rattle.table.specs.Row.{freeRow, active}
 use Rattle.table.specs.Layout.{sized, place, headAt, rowAt, putRow}
 use Rattle.table.specs.Table.{isTable, findRow, rowFor, fresh, freed}
-use Rattle.table.proofs.Cases.{sized-long, found-within}
+use Rattle.table.proofs.Cases.{sized-long, found-within, row-at, row-none}
 use Rattle.rules.specs.Decision.{decide, left}
 use Rattle.rules.specs.Fresh.{makeFresh}
 use Rattle.rules.specs.Forget.{forget}
@@ -68,12 +68,12 @@ module _ (t : List ℕ) (d : Address) (a : Bool) (ae : a ≡ sized t) where
 
       module _ (yes-c : not c ≡ false) (f : Found) (fe : f ≡ findRow t d) where
         pub forget-29 : f ≡ Nothing → ToFree t d (Refusal 29)
-        unfolding forget rowFor
-        forget-29 no-row = cc
+        unfolding forget
+        forget-29 no-row = cc (row-none t d f fe no-row)
 
         pub forget-row : (i : ℕ) → f ≡ At i → ToFree t d (Row i)
-        unfolding forget rowFor freed
-        forget-row i at-i = (found-within t d f i fe at-i (head-there t a ae yes-a), cc)
+        unfolding forget freed
+        forget-row i at-i = (found-within t d f i fe at-i (head-there t a ae yes-a), cc (row-at t d f fe i at-i (rowAt t i) refl))
 
 module _ (t : List ℕ) (d : Address) (k : Check) (ke : ToFree t d k) where
   pub row-within : (i : ℕ) → k ≡ Row i → place i + 32 ≤ length t
@@ -89,17 +89,17 @@ module _ (t : List ℕ) (d : Address) (k : Check) (ke : ToFree t d k) where
 
 module _ (t : List ℕ) (c : ℕ) (d : Address) (f : Found) (fe : f ≡ findRow t d) where
   pub along-none : f ≡ Nothing → decisionOf (NoHop 28) ≡ decide (alongRow c (rowFor t d))
-  unfolding alongRow rowFor
-  along-none no-row = cc
+  unfolding alongRow
+  along-none no-row = rw (row-none t d f fe no-row)
 
   module _ (i : ℕ) (at-i : f ≡ At i) (r : TableRow) (re : r ≡ rowAt t i) (a : Bool) (ae : a ≡ active c r) where
     pub along-inactive : not a ≡ true → decisionOf (NoHop 28) ≡ decide (alongRow c (rowFor t d))
-    unfolding alongRow rowFor
-    along-inactive no-a = cc
+    unfolding alongRow
+    along-inactive no-a = rw (row-at t d f fe i at-i r re, ← ae, not-true a no-a)
 
     pub along-row : not a ≡ false → decisionOf (Via (r .next)) ≡ decide (alongRow c (rowFor t d))
-    unfolding alongRow rowFor
-    along-row yes-a = cc
+    unfolding alongRow
+    along-row yes-a = rw (row-at t d f fe i at-i r re, ← ae, not-false a yes-a)
 
 module _ (t : List ℕ) (c : ℕ) (d : Address) (a : Bool) (ae : a ≡ sized t) where
   pub hop-1 : not a ≡ true → decisionOf (NoHop 1) ≡ nextHop t c d

@@ -8,6 +8,7 @@ use native.Mathlib.Omega.{arith}
 use borrow.Author.Tests.{leb-true, eqb-true, eq-eqb, ne-eqb}
 use mathlib.Core.Bool.{Bool, true, false, _&&_, _||_, not, and-eq-true-iff}
 use mathlib.Core.List.{List}
+use mathlib.Core.Option.{none, some}
 use Rattle.table.specs.declared.address.Address.{Address}
 use Rattle.table.specs.declared.row.Head.{Head}
 use Rattle.table.specs.declared.row.Row.{Row}
@@ -18,7 +19,7 @@ use Rattle.table.specs.Layout.{sized, rows, allZero, place, rowAt, headA
 use Rattle.table.specs.declared.search.Found.the-variants.{At, Nothing}
 use Rattle.table.proofs.Places.{first-below}
 use Rattle.table.specs.Places.{first, every, isNothing, orElse}
-use Rattle.table.specs.Table.{vacant, holds, findRow, firstFree, putAt, placeFor, store, alone, passes, isTable}
+use Rattle.table.specs.Table.{vacant, holds, findRow, rowFor, firstFree, putAt, placeFor, store, alone, passes, isTable}
 
 both : (a b : Bool) → (a && b) ≡ true → (a ≡ true) × (b ≡ true)
 both a b = and-eq-true-iff a b .0
@@ -47,6 +48,15 @@ module _ (t : List ℕ) where
   unfolding findRow
   found-within d f i e at-i h = within (holds t d) i (sym e ∙ at-i) h
 
+  -- the row of a destination, by the place where it was found
+  pub row-at : (d : Address) (f : Found) → f ≡ findRow t d → (i : ℕ) → f ≡ At i → (r : Row) → r ≡ rowAt t i → rowFor t d ≡ some r
+  unfolding rowFor
+  row-at d f fe i at-i r re = rw (← fe, at-i, re)
+
+  pub row-none : (d : Address) (f : Found) → f ≡ findRow t d → f ≡ Nothing → rowFor t d ≡ none
+  unfolding rowFor
+  row-none d f fe no-row = rw (← fe, no-row)
+
   module _ (d : Address) (f : Found) (fe : f ≡ findRow t d) (g : Found) (ge : g ≡ orElse f (firstFree t)) where
     place-is : g ≡ placeFor t d
     unfolding placeFor
@@ -67,7 +77,7 @@ module _ (t : List ℕ) where
 
     pub stored-none : g ≡ Nothing → t ≡ store t r
     unfolding store
-    stored-none none = ap (putAt t r) (sym none ∙ place-is (r .destination) f fe g ge)
+    stored-none no-place = ap (putAt t r) (sym no-place ∙ place-is (r .destination) f fe g ge)
 
   pub alone-free : (i : ℕ) (b : Bool) → b ≡ vacant t i → b ≡ true → true ≡ alone t i
   unfolding alone
