@@ -42,12 +42,11 @@ fn receive_element(table: &mut [u8], output: &mut [u8], a: Arrival, element: &[u
     requires { ⌜ a .clock ≤ 281474976710655 ⌝ }
     ensures { λ r. ⌜ exits r (now (table .exit)) (now (output .exit)) ≡ atExit (now (table .entry)) (now (output .entry)) (read (now (table .entry)) a (now (element .entry))) ⌝ }
 {
-    let part = read::list_part(element);
     match read::read(element) {
         Reading::Announcement(p) => announcement::receive(table, output, a, p),
-        Reading::Request(f) => request::receive(table, output, a, f, part),
-        Reading::Reply(f) => reply::receive(table, output, a, f, part),
-        Reading::Error(flags) => error::receive(table, output, a, flags, part),
+        Reading::Request(f) => request::receive(table, output, a, f, read::list_part(element)),
+        Reading::Reply(f) => reply::receive(table, output, a, f, read::list_part(element)),
+        Reading::Error(flags) => error::receive(table, output, a, flags, read::list_part(element)),
         Reading::Refused(n) => Outcome::Refused(n),
     }
 }

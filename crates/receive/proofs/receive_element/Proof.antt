@@ -10,14 +10,16 @@ receive-element-spec =
     tie.close
     (tie.spec
     (λ c κs. search needs)
-    (λ c κs. search needs)
     (λ c. search needs)
     (λ c κs. search needs)
     (λ c. search needs)
+    (λ c κs. search needs)
     (λ c κs. (search needs, (search needs, (search needs, (search needs, (search request-some, search request-short))))))
     (λ c. search needs)
+    (λ c κs. search needs)
     (λ c κs. (search needs, (search needs, (search needs, (search needs, (search reply-short, search reply-whole))))))
     (λ c. search needs)
+    (λ c κs. search needs)
     (λ c κs. (search needs, (search needs, search error-short)))
     (λ c. search needs)
     (λ c. search needs)
