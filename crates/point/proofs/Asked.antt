@@ -33,6 +33,7 @@ use Rattle.rules.proofs.AnyOf.{any-found, any-more}
 use Rattle.rules.proofs.Rulings.{Passed, passed-check}
 use Rattle.point.specs.declared.Answer.{Answer}
 use Rattle.point.specs.declared.Answer.the-variants.{Accepted, Refused}
+use Rattle.point.specs.declared.Emitted.{Emitted}
 use Rattle.point.specs.declared.Outcome.the-variants.{Accepted as Done, Refused as NotDone}
 use Rattle.point.specs.Answers.{answerTo, exits}
 use Rattle.point.specs.Checks.{itemChecks}
@@ -101,7 +102,8 @@ asked-written t s w output v h lifetime = request-finished w output v h 0 lifeti
 module _ (t s output u v : List ℕ) (octets : ℕ) (size : octets ≡ 34 + 11 * (length s / 7)) where
   pub asked-exit : (lifetime : ℕ) (h₀ h : Head) → h₀ ≡ headAt t → h ≡ rreqNumbered h₀
       → v ≡ over output 0 (writeFrame allOnes (rreq (ownRequest h 0 lifetime) (map (askedFor t) (itemsIn s)))) → u ≡ putHead t h
-      → exits (Done (record { frames = 1; octets = octets })) u v ≡ atExit t output (accepted (requested t 0 lifetime (map (askedFor t) (itemsIn s))))
+      → (em : Emitted) → em ≡ record { frames = 1; octets = octets }
+      → exits (Done em) u v ≡ atExit t output (accepted (requested t 0 lifetime (map (askedFor t) (itemsIn s))))
   asked-exit lifetime h₀ h e₀ he ve ue =
       requested-exit t output u v 0 lifetime h₀ h e₀ he ue (map (askedFor t) (itemsIn s)) (length s / 7) (asked-many t s) ve octets size
 

@@ -24,25 +24,26 @@ use Rattle.rules.specs.Originate.{rannNumbered, rreqNumbered, ownPath, ownReque
 use Rattle.rules.proofs.FrameOctets.{one-frame}
 use Rattle.point.specs.declared.Answer.{Answer}
 use Rattle.point.specs.declared.Answer.the-variants.{Accepted, Refused}
+use Rattle.point.specs.declared.Emitted.{Emitted}
 use Rattle.point.specs.declared.Outcome.the-variants.{Accepted as Done, Refused as NotDone}
 use Rattle.point.specs.Answers.{answerTo, exits}
-use Rattle.point.proofs.Checks.{refusal, acceptance}
+use Rattle.point.proofs.Checks.{refusal, acceptance, accepted-exit}
 
 -- ---- one frame to all ones
 
 one-frame-exit : (t output u v : List ℕ) (n : ℕ) (e : Element) → v ≡ over output 0 (writeFrame allOnes e) → n ≡ length (writeFrame allOnes e)
-    → exits (Done (record { frames = 1; octets = n })) u v ≡ atExit t output (accepted (record { table = u; frames = toAll e }))
-unfolding atExit
-one-frame-exit t output u v n e ve ne = rw (one-frame, ve, ne)
+    → (em : Emitted) → em ≡ record { frames = 1; octets = n } → exits (Done em) u v ≡ atExit t output (accepted (record { table = u; frames = toAll e }))
+one-frame-exit t output u v n e ve ne em eme =
+    accepted-exit t output (record { table = u; frames = toAll e }) u v em refl (rw one-frame ve) (eme ∙ rw (one-frame, ne))
 
 -- ---- announce
 
 pub announced-exit : (t output u v : List ℕ) (flags lifetime : ℕ) (h₀ h : Head) → h₀ ≡ headAt t → h ≡ rannNumbered h₀ → u ≡ putHead t h
     → (p : PathInfo) → p ≡ ownPath h flags lifetime → v ≡ over output 0 (writeFrame allOnes (rann p)) → (octets : ℕ) → octets ≡ 0 + 29
-    → exits (Done (record { frames = 1; octets = octets })) u v ≡ atExit t output (accepted (announced t flags lifetime))
+    → (em : Emitted) → em ≡ record { frames = 1; octets = octets } → exits (Done em) u v ≡ atExit t output (accepted (announced t flags lifetime))
 unfolding announced
-announced-exit t output u v flags lifetime h₀ h e₀ he ue p pe ve octets size =
-    one-frame-exit t output u v octets (rann p) ve (size ∙ sym (frame-length allOnes (rann p)))
+announced-exit t output u v flags lifetime h₀ h e₀ he ue p pe ve octets size em eme =
+    one-frame-exit t output u v octets (rann p) ve (size ∙ sym (frame-length allOnes (rann p))) em eme
     ∙ ap₂ (λ (w : List ℕ) (q : PathInfo). atExit t output (accepted (record { table = w; frames = toAll (rann q) })))
     (ue ∙ ap (putHead t) stepped) (pe ∙ ap (λ (k : Head). ownPath k flags lifetime) stepped)
   where
@@ -68,11 +69,11 @@ request-finished w output v h flags lifetime targets n ne we at ate ve =
 module _ (t output u v : List ℕ) (flags lifetime : ℕ) (h₀ h : Head) (e₀ : h₀ ≡ headAt t) (he : h ≡ rreqNumbered h₀) (ue : u ≡ putHead t h) where
   pub requested-exit : (targets : List Target) (n : ℕ) → n ≡ length targets
       → v ≡ over output 0 (writeFrame allOnes (rreq (ownRequest h flags lifetime) targets)) → (octets : ℕ) → octets ≡ 34 + 11 * n
-      → exits (Done (record { frames = 1; octets = octets })) u v ≡ atExit t output (accepted (requested t flags lifetime targets))
+      → (em : Emitted) → em ≡ record { frames = 1; octets = octets } → exits (Done em) u v ≡ atExit t output (accepted (requested t flags lifetime targets))
   unfolding requested
-  requested-exit targets n ne ve octets size =
+  requested-exit targets n ne ve octets size em eme =
       one-frame-exit t output u v octets (rreq (ownRequest h flags lifetime) targets) ve
-      (omega (arith, size, ne, frame-length allOnes (rreq (ownRequest h flags lifetime) targets)))
+      (omega (arith, size, ne, frame-length allOnes (rreq (ownRequest h flags lifetime) targets))) em eme
       ∙ ap₂ (λ (x : List ℕ) (k : Head). atExit t output (accepted (record { table = x; frames = toAll (rreq (ownRequest k flags lifetime) targets) })))
       (ue ∙ ap (putHead t) stepped) stepped
     where
@@ -82,7 +83,8 @@ module _ (t output u v : List ℕ) (flags lifetime : ℕ) (h₀ h : Head) (e₀ 
   -- with one destination
   pub root-exit : (w : List ℕ) → w ≡ over output 0 (frameStart allOnes Rreq 1 (rreqNumbers (ownRequest h flags lifetime)))
       → (at : ℕ) → at ≡ 34 → v ≡ over w at (targetOctets allWithDOAndRF) → (octets : ℕ) → octets ≡ at + 11
-      → exits (Done (record { frames = 1; octets = octets })) u v ≡ atExit t output (accepted (requested t flags lifetime (allWithDOAndRF ∷ [])))
+      → (em : Emitted) → em ≡ record { frames = 1; octets = octets }
+      → exits (Done em) u v ≡ atExit t output (accepted (requested t flags lifetime (allWithDOAndRF ∷ [])))
   unfolding flatMap
   root-exit w we at ate ve octets size =
       requested-exit (allWithDOAndRF ∷ []) 1 refl

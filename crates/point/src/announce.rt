@@ -25,11 +25,7 @@ fn send(table: &mut [u8], output: &mut [u8], flags: u8, lifetime: u32) -> Outcom
     row::write_head(table, head);
     let path = originate::own_path(head, flags, lifetime);
     let octets = write::write_rann(output, 0, Address(list::ALL_ONES), path);
-    let emitted = Emitted {
-        frames: 1,
-        octets: octets as u32,
-    };
-    Outcome::Accepted(emitted)
+    Outcome::Accepted(Emitted::one_frame(octets))
 }
 
 pub fn announce(table: &mut [u8], output: &mut [u8], flags: u8, lifetime: u32) -> Outcome

@@ -162,11 +162,7 @@ fn send(table: &mut [u8], output: &mut [u8], lifetime: u32, items: &[u8]) -> Out
     let head = originate::number_rreq(row::read_head(table));
     let octets = write_request(output, head, lifetime, table, items);
     row::write_head(table, head);
-    let emitted = Emitted {
-        frames: 1,
-        octets: octets as u32,
-    };
-    Outcome::Accepted(emitted)
+    Outcome::Accepted(Emitted::one_frame(octets))
 }
 
 pub fn ask(table: &mut [u8], output: &mut [u8], lifetime: u32, items: &[u8]) -> Outcome

@@ -40,11 +40,7 @@ fn send(table: &mut [u8], output: &mut [u8], flags: u8, lifetime: u32) -> Outcom
         number: SequenceNumber(0),
     };
     let octets = write::write_target(output, place, target);
-    let emitted = Emitted {
-        frames: 1,
-        octets: octets as u32,
-    };
-    Outcome::Accepted(emitted)
+    Outcome::Accepted(Emitted::one_frame(octets))
 }
 
 pub fn root_request(table: &mut [u8], output: &mut [u8], flags: u8, lifetime: u32) -> Outcome
