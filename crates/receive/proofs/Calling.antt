@@ -26,7 +26,7 @@ use Rattle.point.specs.declared.Outcome.the-variants.{Refused as NotDone}
 use Rattle.point.specs.Answers.{answerTo, exits}
 use Rattle.point.proofs.Checks.{answer-passed, part-refused, part-decided, refusal, table-long, table-short, output-long}
 use Rattle.receive.specs.Checks.{arrivalChecks}
-use Rattle.receive.specs.Judged.{judged, readingIn, read}
+use Rattle.receive.specs.Judged.{judged, readingOctets, judgedOctets}
 
 -- ---- the first checks
 
@@ -35,13 +35,13 @@ module _ (t output : List ℕ) (a : Arrival) (r : Answer) (re : r ≡ answerTo (
   unfolding receive arrivalChecks
   arrival-refused s n e =
       refusal t output (receiving t (length output) a s) (Refused n)
-      (part-refused (arrivalChecks t (length output) a) (readingIn t a s .checks) n (sym e ∙ re)) n refl
+      (part-refused (arrivalChecks t (length output) a) (readingOctets t a s .checks) n (sym e ∙ re)) n refl
 
   module _ (ok : r ≡ Accepted) where
-    pub arrival-accepted : (s : List ℕ) (x : Exit) → x ≡ atExit t output (read t a s) → x ≡ atExit t output (receive t (length output) a s)
-    unfolding receive read arrivalChecks
+    pub arrival-accepted : (s : List ℕ) (x : Exit) → x ≡ atExit t output (judgedOctets t a s) → x ≡ atExit t output (receive t (length output) a s)
+    unfolding receive judgedOctets arrivalChecks
     arrival-accepted s x xe =
-        xe ∙ ap (atExit t output) (part-decided (readingIn t a s .otherwise) (arrivalChecks t (length output) a) (readingIn t a s .checks) (sym ok ∙ re))
+        xe ∙ ap (atExit t output) (part-decided (readingOctets t a s .otherwise) (arrivalChecks t (length output) a) (readingOctets t a s .checks) (sym ok ∙ re))
 
     pub arrival-table-long : 32 ≤ length t
     unfolding arrivalChecks
@@ -70,8 +70,8 @@ module _ (t : List ℕ) (a : Arrival) (s : List ℕ) (r : Reading) (re : r ≡ r
   never-unread (rrep f dependents) n h = let z : _≡_ {A = ℕ} 0 1 = cc in omega arith
   never-unread (rerr flags destinations) n h = let z : _≡_ {A = ℕ} 0 1 = cc in omega arith
 
-  unread : (n : ℕ) → r ≡ Unread n → refused n ≡ read t a s
-  unfolding reading read judged
+  unread : (n : ℕ) → r ≡ Unread n → refused n ≡ judgedOctets t a s
+  unfolding reading judgedOctets judged
   unread n e = by (wrongLength s) (otherId s) (misfit s) (sym e ∙ re)
     where
       by : (x y z : Bool) → Unread n ≡ cond x (Unread 6) (cond y (Unread 7) (cond z (Unread 8) (fixedFields (readElement s))))
@@ -81,7 +81,7 @@ module _ (t : List ℕ) (a : Arrival) (s : List ℕ) (r : Reading) (re : r ≡ r
       by false false true h = cc
       by false false false h = absurd (never-unread (readElement s) n h)
 
-  pub read-refused : (output : List ℕ) (n : ℕ) → r ≡ Unread n → exits (NotDone n) t output ≡ atExit t output (read t a s)
+  pub read-refused : (output : List ℕ) (n : ℕ) → r ≡ Unread n → exits (NotDone n) t output ≡ atExit t output (judgedOctets t a s)
   unfolding atExit
   read-refused output n e = ap (atExit t output) (unread n e)
 
@@ -92,8 +92,8 @@ module _ (t : List ℕ) (a : Arrival) (s : List ℕ) (r : Reading) (re : r ≡ r
   isUnread (Error flags) = false
   isUnread (Unread n) = true
 
-  read-so : isUnread r ≡ false → judged t a (readElement s) ≡ read t a s
-  unfolding reading read judged
+  read-so : isUnread r ≡ false → judged t a (readElement s) ≡ judgedOctets t a s
+  unfolding reading judgedOctets judged
   read-so e = by (wrongLength s) (otherId s) (misfit s) re
     where
       by : (x y z : Bool) → r ≡ cond x (Unread 6) (cond y (Unread 7) (cond z (Unread 8) (fixedFields (readElement s))))
@@ -104,19 +104,19 @@ module _ (t : List ℕ) (a : Arrival) (s : List ℕ) (r : Reading) (re : r ≡ r
       by false false false h = refl
 
   module _ (output : List ℕ) (x : Exit) where
-    read-as : (q : Reading) → r ≡ q → isUnread q ≡ false → (e : Element) → readElement s ≡ e → x ≡ atExit t output (judged t a e) → x ≡ atExit t output (read t a s)
+    read-as : (q : Reading) → r ≡ q → isUnread q ≡ false → (e : Element) → readElement s ≡ e → x ≡ atExit t output (judged t a e) → x ≡ atExit t output (judgedOctets t a s)
     read-as q rq so e ee xe =
         xe ∙ ap (λ (y : Element). atExit t output (judged t a y)) (sym ee) ∙ ap (atExit t output) (read-so (ap isUnread rq ∙ so))
 
-    pub rann-read : (p : PathInfo) → r ≡ Announcement p → x ≡ atExit t output (judged t a (rann p)) → x ≡ atExit t output (read t a s)
+    pub rann-read : (p : PathInfo) → r ≡ Announcement p → x ≡ atExit t output (judged t a (rann p)) → x ≡ atExit t output (judgedOctets t a s)
     rann-read p e = read-as (Announcement p) e refl (rann p) (announcement-element s r re p e)
 
     module _ (part : List ℕ) (pe : part ≡ listPart s) where
-      pub rreq-read : (f : RreqFields) → r ≡ Request f → x ≡ atExit t output (judged t a (rreq f (targetsIn part))) → x ≡ atExit t output (read t a s)
+      pub rreq-read : (f : RreqFields) → r ≡ Request f → x ≡ atExit t output (judged t a (rreq f (targetsIn part))) → x ≡ atExit t output (judgedOctets t a s)
       rreq-read f e = read-as (Request f) e refl (rreq f (targetsIn part)) (request-element s r re f e part pe)
 
-      pub rrep-read : (f : RrepFields) → r ≡ Reply f → x ≡ atExit t output (judged t a (rrep f (numberedIn part))) → x ≡ atExit t output (read t a s)
+      pub rrep-read : (f : RrepFields) → r ≡ Reply f → x ≡ atExit t output (judged t a (rrep f (numberedIn part))) → x ≡ atExit t output (judgedOctets t a s)
       rrep-read f e = read-as (Reply f) e refl (rrep f (numberedIn part)) (reply-element s r re f e part pe)
 
-      pub rerr-read : (flags : ℕ) → r ≡ Error flags → x ≡ atExit t output (judged t a (rerr flags (numberedIn part))) → x ≡ atExit t output (read t a s)
+      pub rerr-read : (flags : ℕ) → r ≡ Error flags → x ≡ atExit t output (judged t a (rerr flags (numberedIn part))) → x ≡ atExit t output (judgedOctets t a s)
       rerr-read flags e = read-as (Error flags) e refl (rerr flags (numberedIn part)) (error-element s r re flags e part pe)

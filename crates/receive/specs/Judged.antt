@@ -17,12 +17,12 @@ unfoldable pub judged : List ℕ → Arrival → Element → Decision Effect
 judged t a e = decide (judging t a e)
 
 -- the octets of an element: from 6 on
-abbrev pub readingIn : List ℕ → Arrival → List ℕ → Ruling Effect
-readingIn t a s = do
+abbrev pub readingOctets : List ℕ → Arrival → List ℕ → Ruling Effect
+readingOctets t a s = do
   refuse 6 when wrongLength s
   refuse 7 when otherId s
   refuse 8 when misfit s
   judging t a (readElement s)
 
-unfoldable pub read : List ℕ → Arrival → List ℕ → Decision Effect
-read t a s = decide (readingIn t a s)
+unfoldable pub judgedOctets : List ℕ → Arrival → List ℕ → Decision Effect
+judgedOctets t a s = decide (readingOctets t a s)

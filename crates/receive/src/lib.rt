@@ -19,7 +19,7 @@ ghost use Rattle.rules.specs.Outcome.{atExit};
 ghost use Rattle.rules.specs.Receive.{receive};
 ghost use Rattle.point.specs.Answers.{answerTo, exits};
 ghost use Rattle.receive.specs.Checks.{arrivalChecks};
-ghost use Rattle.receive.specs.Judged.{read};
+ghost use Rattle.receive.specs.Judged.{judgedOctets};
 
 // The refusals 1 to 5.
 fn check_arrival(table: &[u8], output: &[u8], a: Arrival) -> Answer
@@ -40,7 +40,7 @@ fn receive_element(table: &mut [u8], output: &mut [u8], a: Arrival, element: &[u
     requires { ⌜ length (now table) ≤ 4128 ⌝ }
     requires { ⌜ 1560 ≤ length (now output) ⌝ }
     requires { ⌜ a .clock ≤ 281474976710655 ⌝ }
-    ensures { λ r. ⌜ exits r (now (table .exit)) (now (output .exit)) ≡ atExit (now (table .entry)) (now (output .entry)) (read (now (table .entry)) a (now (element .entry))) ⌝ }
+    ensures { λ r. ⌜ exits r (now (table .exit)) (now (output .exit)) ≡ atExit (now (table .entry)) (now (output .entry)) (judgedOctets (now (table .entry)) a (now (element .entry))) ⌝ }
 {
     match read::read(element) {
         Reading::Announcement(p) => announcement::receive(table, output, a, p),
