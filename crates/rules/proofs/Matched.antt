@@ -2,7 +2,7 @@
 -- number beside it. The rules say which destinations match (`matches`) and which rows are changed (`isMatch`, `erred`) in two
 -- definitions; where no destination stands twice they agree. Assumes nothing.
 use mathlib.Core.Path.{_≡_, refl, sym, ap, _∙_}
-use mathlib.Core.Bool.{Bool, true, false, _&&_, _||_, cond, and-true}
+use mathlib.Core.Bool.{Bool, true, false, _||_, and-true}
 use mathlib.Core.List.{List, [], _∷_}
 use mathlib.Core.Option.{Option, some}
 use Prim.Native.Nat.{ℕ}

@@ -1,5 +1,4 @@
 -- `destinations::flags::has_do` meets its contract: the lowest bit. Assumes nothing.
-use borrow.Author.Needs.{needs}
 use Rattle.destinations.proofs.Bits.{bit-0}
 use Rattle.destinations.proofs.flags.has_do.Statement.{statement}
 use Rattle.destinations.proofs.flags.has_do.Tie as tie

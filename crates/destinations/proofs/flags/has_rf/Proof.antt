@@ -1,5 +1,4 @@
 -- `destinations::flags::has_rf` meets its contract: the second bit. Assumes nothing.
-use borrow.Author.Needs.{needs}
 use Rattle.destinations.proofs.Bits.{bit-1}
 use Rattle.destinations.proofs.flags.has_rf.Statement.{statement}
 use Rattle.destinations.proofs.flags.has_rf.Tie as tie

@@ -1,5 +1,4 @@
 -- `destinations::flags::is_reply_wanted` meets its contract: the third bit. Assumes nothing.
-use borrow.Author.Needs.{needs}
 use Rattle.destinations.proofs.Bits.{bit-2}
 use Rattle.destinations.proofs.flags.is_reply_wanted.Statement.{statement}
 use Rattle.destinations.proofs.flags.is_reply_wanted.Tie as tie

@@ -1,5 +1,4 @@
 -- `destinations::flags::is_unicast` meets its contract: the second bit. Assumes nothing.
-use borrow.Author.Needs.{needs}
 use Rattle.destinations.proofs.Bits.{bit-1}
 use Rattle.destinations.proofs.flags.is_unicast.Statement.{statement}
 use Rattle.destinations.proofs.flags.is_unicast.Tie as tie
