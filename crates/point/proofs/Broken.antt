@@ -23,7 +23,7 @@ use Rattle.element.specs.declared.NumberedAddress.{NumberedAddress}
 use Rattle.element.specs.Entries.{each}
 use Rattle.element.proofs.Scans.{each-length, each-next, each-end}
 use Rattle.rules.specs.Errors.{isThrough, broken, brokenEntry, brokenEntries, errorsFor}
-use Rattle.rules.specs.Outcome.{Exit, frameOctets, underHead, atExit}
+use Rattle.rules.specs.Outcome.{Exit, frameOctets, atExit}
 use Rattle.rules.specs.Break.{brokenOff, breaking, breakNeighbour}
 use Rattle.rules.specs.Decision.{accepted}
 use Rattle.rules.proofs.Room.{entry-one, entries-few}
@@ -34,7 +34,8 @@ use Rattle.point.specs.declared.Outcome.the-variants.{Accepted as Done, 
 use Rattle.point.specs.Answers.{answerTo, exits}
 use Rattle.point.specs.Reports.{framesFor, octetsFor, begunAfter, closed}
 use Rattle.point.proofs.Reported.{begun-append, begun-length, closes, errors-many, errors-long}
-use Rattle.point.proofs.Checks.{table-long, table-short, output-long, refusal, acceptance}
+use Rattle.point.proofs.Checks.{table-long, table-short, output-long, refusal, acceptance, accepted-exit}
+use Rattle.point.proofs.Neighbours.{same-number}
 
 -- ---- a row that is lost
 
@@ -208,14 +209,13 @@ pub broken-exit : (t output w u v : List ℕ) (c : ℕ) (neighbour : Address) (h
     → w ≡ changeWhere (isThrough c neighbour) broken t → v ≡ over output 0 (frameOctets (errorsFor (brokenEntries t c neighbour)))
     → u ≡ putHead w (headWith (h .number) (h .request) c h) → (e : Emitted) → e ≡ record { frames = framesFor lost; octets = octetsFor lost }
     → exits (Done e) u v ≡ atExit t output (accepted (brokenOff t c neighbour))
-unfolding atExit brokenOff
+unfolding brokenOff
 broken-exit t output w u v c neighbour h he lost le few we ve ue e ee =
     let entries : List NumberedAddress = brokenEntries t c neighbour in
-    let table : u ≡ underHead t (number t) c (changeWhere (isThrough c neighbour) broken t) =
-    ue ∙ ap₂ (λ (x : List ℕ) (k : Head). putHead x (headWith (k .number) (k .request) c k)) we he in
     let frames : framesFor lost ≡ length (errorsFor entries) = ap framesFor le ∙ sym (errors-many entries) in
     let octets : octetsFor lost ≡ length (frameOctets (errorsFor entries)) = ap octetsFor le ∙ sym (errors-long 6 entries (omega (arith, le, few))) in
-    rw (ee, table, ve, octets, frames)
+    accepted-exit t output (brokenOff t c neighbour) u v e (same-number t c h he w (changeWhere (isThrough c neighbour) broken t) u we ue) ve
+    (ee ∙ ap₂ (λ (m n : ℕ). record { frames = m; octets = n }) frames octets)
 
 -- ---- decided by the check
 

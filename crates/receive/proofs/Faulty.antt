@@ -15,8 +15,6 @@ use Rattle.element.proofs.Scans.{addresses-many, target-addresses}
 use Rattle.rules.specs.Flags.{unicast}
 use Rattle.rules.specs.Receive.{hasBadAddress, hasBadList, severalOrAll}
 
--- ---- the destinations of a RREQ
-
 module _ (part : List ℕ) where
   pub several-is : (n : ℕ) → n ≡ entriesIn Targets part → (o : Bool) → o ≡ among allOnes (addressesIn Targets part)
       → (ltb 1 n || o) ≡ severalOrAll (addressesIn Targets part)

@@ -76,12 +76,18 @@ module _ (t : List ℕ) (a : Arrival) (e : Element) (r : Answer) (re : r ≡ ans
     none-applied = answer-passed (judging t a e .checks) (sym ok ∙ re)
 
     module _ (p : PathInfo) (pe : pathOf e ≡ some p) where
+      -- a test of the path that did not apply
+      of-path : (test : PathInfo → Bool) → has test (pathOf e) ≡ false → test p ≡ false
+      of-path test passes = ap (has test) (sym pe) ∙ passes
+
       pub metric-small : p .metric .0 + a .link .0 ≤ 4294967294
-      metric-small = ltb-false 4294967294 (p .metric .0 + a .link .0) (ap (has (λ (q : PathInfo). ltb 4294967294 (q .metric .0 + a .link .0))) (sym pe) ∙ passed-check 13 (judging t a e .checks) none-applied)
+      metric-small =
+          ltb-false 4294967294 (p .metric .0 + a .link .0)
+          (of-path (λ q. ltb 4294967294 (q .metric .0 + a .link .0)) (passed-check 13 (judging t a e .checks) none-applied))
 
       pub hops-small : p .hops .0 < 256 → p .hops .0 < 255
       hops-small l =
-          let other = eqb-false (p .hops .0) 255 (ap (has (λ (q : PathInfo). eqb (q .hops .0) 255)) (sym pe) ∙ passed-check 12 (judging t a e .checks) none-applied) in
+          let other = eqb-false (p .hops .0) 255 (of-path (λ q. eqb (q .hops .0) 255) (passed-check 12 (judging t a e .checks) none-applied)) in
           omega (arith, l, other)
 
 -- a RREP has TTL left, an error names a match, a unicast RREQ has one destination

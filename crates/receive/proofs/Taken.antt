@@ -35,6 +35,7 @@ use Rattle.point.specs.declared.Emitted.{Emitted}
 use Rattle.point.specs.declared.Outcome.the-variants.{Accepted as Done}
 use Rattle.point.specs.Answers.{emitted, exits}
 use Rattle.point.proofs.Checks.{accepted-exit}
+use Rattle.point.proofs.Neighbours.{head-under, same-number}
 use Rattle.destinations.specs.declared.replies.Replied.{Replied}
 use Rattle.destinations.specs.Kept.{keptAmong}
 use Rattle.destinations.specs.Replies.{repliedFrom}
@@ -43,23 +44,14 @@ use Rattle.destinations.proofs.Replying.{replies-long}
 use Rattle.receive.specs.declared.request.Sent.{Sent}
 use Rattle.receive.specs.Sent.{together, framesAfter, sentFor}
 
--- the head that the table had is stored over these rows
-head-under : (t u : List ℕ) (n : SequenceNumber) (c : ℕ) (h : Head) → h ≡ headAt t → (w : List ℕ) → w ≡ putHead u (headWith n (h .request) c h) → w ≡ underHead t n c u
-head-under t u n c h he w we = we ∙ ap (λ (k : Head). putHead u (headWith n (k .request) c k)) he
-
 module _ (t output : List ℕ) (a : Arrival) (h : Head) (he : h ≡ headAt t) where
-  -- under the own number that it had
-  same-number : (u v w : List ℕ) → u ≡ v → w ≡ putHead u (headWith (h .number) (h .request) (a .clock) h) → w ≡ underHead t (number t) (a .clock) v
-  same-number u v w e we =
-      head-under t u (h .number) (a .clock) h he w we ∙ ap₂ (λ (k : Head) (x : List ℕ). underHead t (k .number) (a .clock) x) he e
-
   -- ---- a RANN and a RREP
 
   pub rann-exit : (p : PathInfo) (u : List ℕ) → u ≡ learnt a p t → (e : Emitted) → e ≡ emitted (rannOnward a p)
       → (v : List ℕ) → v ≡ over output 0 (frameOctets (rannOnward a p))
       → (w : List ℕ) → w ≡ putHead u (headWith (h .number) (h .request) (a .clock) h) → exits (Done e) w v ≡ atExit t output (accepted (received t a (rann p)))
   unfolding received rannReceived
-  rann-exit p u ue e ee v ve w we = accepted-exit t output (received t a (rann p)) w v e (same-number u (learnt a p t) w ue we) ve ee
+  rann-exit p u ue e ee v ve w we = accepted-exit t output (received t a (rann p)) w v e (same-number t (a .clock) h he u (learnt a p t) w ue we) ve ee
 
   pub rrep-exit : (f : RrepFields) (part u : List ℕ) → u ≡ learnt a (f .path) t → (e : Emitted) → e ≡ emitted (rrepOnward u a f (numberedIn part))
       → (v : List ℕ) → v ≡ over output 0 (frameOctets (rrepOnward u a f (numberedIn part)))
@@ -67,7 +59,7 @@ module _ (t output : List ℕ) (a : Arrival) (h : Head) (he : h ≡ headAt t) wh
       → exits (Done e) w v ≡ atExit t output (accepted (received t a (rrep f (numberedIn part))))
   unfolding received rrepReceived
   rrep-exit f part u ue e ee v ve w we =
-      accepted-exit t output (received t a (rrep f (numberedIn part))) w v e (same-number u (learnt a (f .path) t) w ue we)
+      accepted-exit t output (received t a (rrep f (numberedIn part))) w v e (same-number t (a .clock) h he u (learnt a (f .path) t) w ue we)
       (ve ∙ ap (λ (x : List ℕ). over output 0 (frameOctets (rrepOnward x a f (numberedIn part)))) ue)
       (ee ∙ ap (λ (x : List ℕ). emitted (rrepOnward x a f (numberedIn part))) ue)
 
@@ -81,7 +73,7 @@ module _ (t output : List ℕ) (a : Arrival) (h : Head) (he : h ≡ headAt t) wh
       → exits (Done e) w v ≡ atExit t output (accepted (received t a (rerr flags (numberedIn part))))
   unfolding received rerrReceived
   rerr-exit flags part u ue octets oe e ee v ve w we =
-      accepted-exit t output (received t a (rerr flags (numberedIn part))) w v e (same-number u _ w ue we) ve
+      accepted-exit t output (received t a (rerr flags (numberedIn part))) w v e (same-number t (a .clock) h he u _ w ue we) ve
       (ee ∙ ap (λ (k : ℕ). record { frames = 1; octets = k }) oe)
 
   -- ---- a RREQ
