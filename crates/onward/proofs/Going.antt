@@ -38,7 +38,7 @@ use Rattle.point.specs.declared.next_hop.Hop.the-variants.{Via, Refused}
 use Rattle.point.specs.Answers.{emitted, decisionOf}
 use Rattle.onward.specs.declared.receiver.Receiver.{Receiver}
 use Rattle.onward.specs.declared.receiver.Receiver.the-variants.{To, Nobody}
-use Rattle.onward.specs.Sent.{sentTo, activeHop, replyHop, rrepForward}
+use Rattle.onward.specs.Sent.{sentTo, activeHop, replyReceiver, rrepForward}
 
 -- ---- no frame, or one
 
@@ -142,20 +142,20 @@ pub reply-room : (n k : ℕ) → n ≡ 0 + 40 + k → k ≤ 220 → n ≤ 1560
 reply-room n k e l = omega arith
 
 module _ (t : List ℕ) (c : ℕ) (source : Address) (h : Head) (he : h ≡ headAt t) where
-  pub source-own : source .0 ≡ h .own .0 → Nobody ≡ replyHop t c source
-  unfolding replyHop
+  pub source-own : source .0 ≡ h .own .0 → Nobody ≡ replyReceiver t c source
+  unfolding replyReceiver
   source-own e = rw (is-own t h he source e)
 
-  pub source-other : (source .0 ≡ h .own .0 → ⊥) → (x : Receiver) → x ≡ activeHop c (rowFor t source) → x ≡ replyHop t c source
-  unfolding replyHop
+  pub source-other : (source .0 ≡ h .own .0 → ⊥) → (x : Receiver) → x ≡ activeHop c (rowFor t source) → x ≡ replyReceiver t c source
+  unfolding replyReceiver
   source-other e x xe = rw (is-other t h he source e) xe
 
 module _ (t : List ℕ) (a : Arrival) (f : RrepFields) (part : List ℕ) where
   abbrev dependents : List NumberedAddress
   dependents = numberedIn part
 
-  reply-is : rrepOnward t a f dependents ≡ sentTo (rrep (rrepForward a f) dependents) (replyHop t (a .clock) (f .source .address))
-  unfolding rrepOnward replyHop
+  reply-is : rrepOnward t a f dependents ≡ sentTo (rrep (rrepForward a f) dependents) (replyReceiver t (a .clock) (f .source .address))
+  unfolding rrepOnward replyReceiver
   reply-is = by (same (f .source .address) (own t))
     where
       e : Element
@@ -168,7 +168,7 @@ module _ (t : List ℕ) (a : Arrival) (f : RrepFields) (part : List ℕ) where
       by true = refl
       by false = towards-is (a .clock) e o
 
-  module _ (x : Receiver) (xe : x ≡ replyHop t (a .clock) (f .source .address)) (g : RrepFields) (ge : g ≡ rrepForward a f) where
+  module _ (x : Receiver) (xe : x ≡ replyReceiver t (a .clock) (f .source .address)) (g : RrepFields) (ge : g ≡ rrepForward a f) where
     replied-by : sentTo (rrep g dependents) x ≡ rrepOnward t a f dependents
     replied-by = ap₂ (λ (k : RrepFields) (y : Receiver). sentTo (rrep k dependents) y) ge xe ∙ sym reply-is
 

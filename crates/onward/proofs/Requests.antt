@@ -28,18 +28,18 @@ use Rattle.destinations.specs.Kept.{keptOf, keptAmong}
 use Rattle.destinations.proofs.KeptOnes.{kept-address, kept-few}
 use Rattle.onward.specs.declared.receiver.Receiver.{Receiver}
 use Rattle.onward.specs.declared.receiver.Receiver.the-variants.{To, Nobody}
-use Rattle.onward.specs.Sent.{sentTo, activeHop, requestHop, rreqForward, sentWith, sentBy, requestSent, unicastToSeveral}
+use Rattle.onward.specs.Sent.{sentTo, activeHop, requestReceiver, rreqForward, sentWith, sentBy, requestSent, unicastToSeveral}
 use Rattle.onward.proofs.Going.{none-counted, none-written, one-counted, one-written, towards-is}
 
 -- ---- to whom
 
 module _ (t : List ℕ) (c : ℕ) (p : PathInfo) (part : List ℕ) (b : Bool) (be : b ≡ unicast p) where
-  pub to-all : not b ≡ true → To allOnes ≡ requestHop t c p part
-  unfolding requestHop
+  pub to-all : not b ≡ true → To allOnes ≡ requestReceiver t c p part
+  unfolding requestReceiver
   to-all e = rw (← be, not-true b e)
 
-  pub to-one : not b ≡ false → (q : Target) → q ≡ targetAt part 0 → (x : Receiver) → x ≡ activeHop c (rowFor t (q .address)) → x ≡ requestHop t c p part
-  unfolding requestHop
+  pub to-one : not b ≡ false → (q : Target) → q ≡ targetAt part 0 → (x : Receiver) → x ≡ activeHop c (rowFor t (q .address)) → x ≡ requestReceiver t c p part
+  unfolding requestReceiver
   to-one e q qe x xe = rw (← be, not-false b e, ← qe) xe
 
 -- ---- the kept destinations, and the start after them
@@ -102,7 +102,7 @@ module _ (t : List ℕ) (c : ℕ) (part : List ℕ) (to : Address) (f : RreqFiel
 
 -- ---- to its receiver, if there is one
 
-module _ (t : List ℕ) (c : ℕ) (f : RreqFields) (part : List ℕ) (x : Receiver) (xe : x ≡ requestHop t c (f .path) part) where
+module _ (t : List ℕ) (c : ℕ) (f : RreqFields) (part : List ℕ) (x : Receiver) (xe : x ≡ requestReceiver t c (f .path) part) where
   sent-by : (y : Receiver) → x ≡ y → requestSent t c f part ≡ sentBy f (keptAmong t c part) y
   unfolding requestSent
   sent-by y e = ap (sentBy f (keptAmong t c part)) (sym xe ∙ e)
@@ -181,7 +181,7 @@ module _ (t : List ℕ) (a : Arrival) (f : RreqFields) where
         (kept-address t (a .clock) (targetAt part 0)))
 
     request-is : rreqOnward t a f kept ≡ requestSent t (a .clock) (rreqForward a f) part
-    unfolding requestSent requestHop onward
+    unfolding requestSent requestReceiver onward
     request-is = goes-by left (targetAt part 0 .address) kept kept-one
 
     module _ (g : RreqFields) (ge : g ≡ rreqForward a f) where

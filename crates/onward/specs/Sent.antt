@@ -38,8 +38,8 @@ activeHop c (some r) = cond (active c r) (To (r .next)) Nobody
 
 -- ---- a RREP
 
-unfoldable pub replyHop : List ℕ → ℕ → Address → Receiver
-replyHop t c source = cond (same source (own t)) Nobody (activeHop c (rowFor t source))
+unfoldable pub replyReceiver : List ℕ → ℕ → Address → Receiver
+replyReceiver t c source = cond (same source (own t)) Nobody (activeHop c (rowFor t source))
 
 abbrev pub rrepForward : Arrival → RrepFields → RrepFields
 rrepForward a f = record { path = onward a (f .path); source = f .source }
@@ -50,8 +50,8 @@ rrepForward a f = record { path = onward a (f .path); source = f .source }
 unfoldable pub unicastToSeveral : PathInfo → List ℕ → Bool
 unicastToSeveral p part = unicast p && ltb 1 (length part / 11)
 
-unfoldable pub requestHop : List ℕ → ℕ → PathInfo → List ℕ → Receiver
-requestHop t c p part = cond (unicast p) (activeHop c (rowFor t (targetAt part 0 .address))) (To allOnes)
+unfoldable pub requestReceiver : List ℕ → ℕ → PathInfo → List ℕ → Receiver
+requestReceiver t c p part = cond (unicast p) (activeHop c (rowFor t (targetAt part 0 .address))) (To allOnes)
 
 abbrev pub rreqForward : Arrival → RreqFields → RreqFields
 rreqForward a f = record { request = f .request; path = onward a (f .path) }
@@ -68,4 +68,4 @@ sentBy f kept Nobody = []
 
 -- a RREQ with the destinations of part that are kept, to its receiver
 unfoldable pub requestSent : List ℕ → ℕ → RreqFields → List ℕ → List Frame
-requestSent t c f part = sentBy f (keptAmong t c part) (requestHop t c (f .path) part)
+requestSent t c f part = sentBy f (keptAmong t c part) (requestReceiver t c (f .path) part)

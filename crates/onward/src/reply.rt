@@ -16,12 +16,12 @@ ghost use Rattle.element.specs.Element.{rrep};
 ghost use Rattle.rules.specs.Onward.{rrepOnward};
 ghost use Rattle.rules.specs.Outcome.{frameOctets};
 ghost use Rattle.point.specs.Answers.{emitted};
-ghost use Rattle.onward.specs.Sent.{replyHop, rrepForward, sentTo};
+ghost use Rattle.onward.specs.Sent.{replyReceiver, rrepForward, sentTo};
 
 // To nobody if the source is this point.
 fn receiver_of(table: &[u8], clock: u64, source: Address) -> Receiver
     requires { ⌜ 32 ≤ length (now table) ⌝ }
-    ensures { λ r. ⌜ r ≡ replyHop (now (table .entry)) clock source ⌝ }
+    ensures { λ r. ⌜ r ≡ replyReceiver (now (table .entry)) clock source ⌝ }
 {
     if source.0 == row::read_head(table).own.0 {
         return Receiver::Nobody;

@@ -19,13 +19,13 @@ ghost use Rattle.rules.specs.Onward.{rreqOnward};
 ghost use Rattle.rules.specs.Outcome.{frameOctets};
 ghost use Rattle.point.specs.Answers.{emitted};
 ghost use Rattle.destinations.specs.Kept.{keptAmong};
-ghost use Rattle.onward.specs.Sent.{requestHop, requestSent, rreqForward, sentWith, unicastToSeveral};
+ghost use Rattle.onward.specs.Sent.{requestReceiver, requestSent, rreqForward, sentWith, unicastToSeveral};
 
 // All ones, or if unicast the active next hop of its destination.
 fn receiver_of(table: &[u8], clock: u64, p: PathInfo, part: &[u8]) -> Receiver
     requires { ⌜ 32 ≤ length (now table) ⌝ }
     requires { ⌜ 11 ≤ length (now part) ⌝ }
-    ensures { λ r. ⌜ r ≡ requestHop (now (table .entry)) clock p (now (part .entry)) ⌝ }
+    ensures { λ r. ⌜ r ≡ requestReceiver (now (table .entry)) clock p (now (part .entry)) ⌝ }
 {
     if !flags::is_unicast(p) {
         return Receiver::To(Address(list::ALL_ONES));
