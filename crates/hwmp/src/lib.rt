@@ -12,6 +12,7 @@ use point::next_hop::Hop;
 use point::root_request;
 use rules::Arrival;
 use table::address;
+use walk::Ending;
 ghost use mathlib.Core.Path.{_≡_};
 ghost use lib.ListN.{length};
 ghost use Rattle.table.specs.Address.{addressOf};
@@ -23,13 +24,21 @@ ghost use Rattle.rules.specs.NextHop.{nextHop};
 ghost use Rattle.rules.specs.Receive.{receive};
 ghost use Rattle.rules.specs.Originate.{announce, ask, rootRequest};
 ghost use Rattle.rules.specs.Break.{breakNeighbour};
+ghost use Rattle.rules.specs.Walk.{walk, walkedAtExit};
 ghost use Rattle.point.specs.Answers.{decisionOf};
-ghost use Rattle.hwmp.specs.ForC.{hopFor, leaving, outcomeFor};
+ghost use Rattle.walk.specs.Answers.{decisionOf as Walk·decisionOf};
+ghost use Rattle.hwmp.specs.ForC.{hopFor, leaving, outcomeFor, walkedAs};
 
 #[repr(C)]
 pub struct HwmpHop {
     pub answer: u32,
     pub address: [u8; 6],
+}
+
+#[repr(C)]
+pub struct HwmpWalked {
+    pub answer: u32,
+    pub hops: u32,
 }
 
 #[repr(C)]
@@ -70,6 +79,27 @@ fn outcome_for(outcome: Outcome) -> HwmpOutcome
             frames: 0,
             octets: 0,
         },
+    }
+}
+
+// A walk as C gets it: 0, 41 or 42 with the hops walked, or the refusal's number and 0.
+fn walked_for(ending: Ending) -> HwmpWalked
+    ensures { λ r. ⌜ walkedAs r ≡ walkedAtExit (Walk·decisionOf ending) ⌝ }
+{
+    match ending {
+        Ending::Arrived(hops) => HwmpWalked {
+            answer: 0,
+            hops: hops.0 as u32,
+        },
+        Ending::Stopped(hops) => HwmpWalked {
+            answer: 41,
+            hops: hops.0 as u32,
+        },
+        Ending::TooLong(hops) => HwmpWalked {
+            answer: 42,
+            hops: hops.0 as u32,
+        },
+        Ending::Refused(answer) => HwmpWalked { answer, hops: 0 },
     }
 }
 
@@ -159,4 +189,19 @@ pub extern "C" fn hwmp_break(
     ensures { λ r. ⌜ leaving r (now (table .exit)) (now (output .exit)) ≡ atExit (now (table .entry)) (now (output .entry)) (breakNeighbour (now (table .entry)) (length (now (output .entry))) clock (addressOf (now (neighbour .entry)))) ⌝ }
 {
     outcome_for(break_neighbour::break_neighbour(table, output, clock, address::read(neighbour)))
+}
+
+#[no_mangle]
+pub extern "C" fn hwmp_walk(
+    tables: &[u8],
+    count: u32,
+    clock: u64,
+    start: &[u8; 6],
+    destination: &[u8; 6],
+) -> HwmpWalked
+    ensures { λ r. ⌜ walkedAs r ≡ walkedAtExit (walk (now (tables .entry)) count clock (addressOf (now (start .entry))) (addressOf (now (destination .entry)))) ⌝ }
+{
+    let from = address::read(start);
+    let to = address::read(destination);
+    walked_for(walk::walk(tables, count, clock, from, to))
 }

@@ -92,11 +92,11 @@ pub ruleset checking = (applies, passes, all-passed, as-tested, as-denied, eithe
 
 module _ {A : Type 0} (x : A) where
   -- the answer as the decision of a call that comes to x where it is accepted
-  abbrev as-decision : Answer → Decision A
+  abbrev pub as-decision : Answer → Decision A
   as-decision Accepted = accepted x
   as-decision (Refused n) = refused n
 
-  answer-decides : (checks : List Check) (a : Answer) → a ≡ answerTo checks → judged checks x ≡ as-decision a
+  pub answer-decides : (checks : List Check) (a : Answer) → a ≡ answerTo checks → judged checks x ≡ as-decision a
   unfolding answerTo
   answer-decides [] a e = rw e
   answer-decides (k ∷ checks) a e = by (k .applies) e (answer-decides checks a)

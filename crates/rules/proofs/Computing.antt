@@ -26,7 +26,7 @@ use Rattle.rules.specs.Receive.{hasBadAddress, severalOrAll, hasBadList,
 use Rattle.rules.specs.Originate.{rannNumbered, rreqNumbered, ownPath, announced, requested, itemsFit, knownNumber, askedFor, asking, ask, announce, isRootFlags, rootRequest}
 use Rattle.rules.specs.Break.{brokenOff, breaking, breakNeighbour}
 use Rattle.rules.specs.Calls.{outcome}
-use Rattle.rules.specs.Walk.{tableAt, sideBySide, rowOfPoint, follow, walk}
+use Rattle.rules.specs.Walk.{tableAt, sideBySide, hasLaterClock, rowOfPoint, leadsTo, follow, walk}
 
 unfoldable pub computing : Unit {0}
 unfolding flatMap numberOctets numberAt over withNumber fieldsAt withFields fieldOctets
@@ -44,5 +44,5 @@ unfolding flatMap numberOctets numberAt over withNumber fieldsAt withFields fiel
     hasBadAddress severalOrAll hasBadList isLowTtlReply isStaleFor isStale matchesNothing rowsNeeded
     rannReceived rrepReceived rreqReceived rerrReceived received receive
     rannNumbered rreqNumbered ownPath announced requested itemsFit knownNumber askedFor asking ask announce isRootFlags rootRequest
-    brokenOff breaking breakNeighbour outcome tableAt sideBySide rowOfPoint follow walk
+    brokenOff breaking breakNeighbour outcome tableAt sideBySide hasLaterClock rowOfPoint leadsTo follow walk
 computing = tt

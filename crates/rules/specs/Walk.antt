@@ -1,6 +1,6 @@
 -- The walk of document 01 over tables side by side, along rows that are active at a clock. (The walk of demand 3 goes along
 -- valid rows, expired or not: `met` in crate `loops`.) Assumes nothing.
-use Prim.Native.Nat.{ℕ, zero, suc, _+_, _-_, _*_, _/_, _^_}
+use Prim.Native.Nat.{ℕ, zero, suc, _+_, _-_, _*_, _/_, _%_, _^_}
 use mathlib.Core.Bool.{Bool, not, _&&_, _||_, cond}
 use mathlib.Core.List.{List, [], _∷_, map}
 use mathlib.Core.Option.{Option, none, some}
@@ -31,12 +31,15 @@ tablesIn s count = each (tableAt s (lengthOfEach s count)) 0 count
 
 -- what 1 asks: count 1 to 16, and the octets are that many pieces of one length that a table may have
 unfoldable pub sideBySide : List ℕ → ℕ → Bool
-sideBySide s count =
-    leb 1 count && leb count 16 && eqb (count * lengthOfEach s count) (length s) && sized (tableAt s (lengthOfEach s count) 0)
+sideBySide s count = leb 1 count && leb count 16 && eqb (length s % count) 0 && sized (tableAt s (lengthOfEach s count) 0)
 
 -- The own address is in the first six octets, table or not: 10 is judged before 21.
 abbrev pub points : List (List ℕ) → List Address
 points tables = map addressOf tables
+
+-- a table whose latest clock is above c
+unfoldable pub hasLaterClock : ℕ → List ℕ → Bool
+hasLaterClock c t = c below clock t
 
 -- ---- the way
 
@@ -59,19 +62,20 @@ rowOfPoint [] a d = none
 rowOfPoint (t ∷ tables) a d = cond (same (addressOf t) a) (rowFor t d) (rowOfPoint tables a d)
 
 module _ (tables : List (List ℕ)) (c : ℕ) (d : Address) where
-  -- the next hop is the destination, a point, or neither: the last is not counted
-  abbrev pub onTo : Address → ℕ → Walked → Walked
-  onTo next hops further = cond (same next d || among next (points tables)) further (stopped hops)
+  -- where a row leads: to its next hop, if the row is active and that is the destination or a point
+  unfoldable pub leadsTo : Option Row → Option Address
+  leadsTo none = none
+  leadsTo (some r) = cond (active c r && (same (r .next) d || among (r .next) (points tables))) (some (r .next)) none
 
-  abbrev pub along : Option Row → ℕ → (Address → Walked) → Walked
-  along none hops further = stopped hops
-  along (some r) hops further = cond (active c r) (onTo (r .next) hops (further (r .next))) (stopped hops)
+  -- a next hop that is neither is not counted
+  abbrev pub goOn : Option Address → (hops : ℕ) → (Address → ℕ → Walked) → Walked
+  goOn none hops further = stopped hops
+  goOn (some next) hops further = further next (hops + 1)
 
   -- from a, with so many hops walked and so many remaining before there are as many as points
   unfoldable pub follow : (remaining : ℕ) → Address → (hops : ℕ) → Walked
   follow zero a hops = cond (same a d) (arrived hops) (tooLong hops)
-  follow (suc remaining) a hops =
-      cond (same a d) (arrived hops) (along (rowOfPoint tables a d) hops (λ next. follow remaining next (hops + 1)))
+  follow (suc remaining) a hops = cond (same a d) (arrived hops) (goOn (leadsTo (rowOfPoint tables a d)) hops (follow remaining))
 
 -- a refusal returns its number and else zeros, hops too
 abbrev pub walkedAtExit : Decision Walked → Walked
@@ -87,7 +91,7 @@ walking s count c start d = do
   refuse 9 when not (individual d)
   refuse 10 when not (among start (points (tablesIn s count))) || twice (points (tablesIn s count))
   refuse 21 when any (λ (t : List ℕ). not (isTable t)) (tablesIn s count)
-  refuse 22 when any (λ (t : List ℕ). c below clock t) (tablesIn s count)
+  refuse 22 when any (hasLaterClock c) (tablesIn s count)
   accept (follow (tablesIn s count) c d count start 0)
 
 unfoldable pub walk : List ℕ → ℕ → ℕ → Address → Address → Decision Walked

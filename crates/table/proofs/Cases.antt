@@ -21,7 +21,7 @@ use Rattle.table.proofs.Places.{first-below}
 use Rattle.table.specs.Places.{first, every, isNothing, orElse}
 use Rattle.table.specs.Table.{vacant, holds, findRow, rowFor, firstFree, putAt, placeFor, store, alone, passes, isTable}
 
-both : (a b : Bool) → (a && b) ≡ true → (a ≡ true) × (b ≡ true)
+pub both : (a b : Bool) → (a && b) ≡ true → (a ≡ true) × (b ≡ true)
 both a b = and-eq-true-iff a b .0
 
 module _ (t : List ℕ) where

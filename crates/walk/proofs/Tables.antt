@@ -1,0 +1,180 @@
+-- The tables side by side by their octets: where each lies, that it is as long as the others, and what the checks find of
+-- them all. Assumes nothing.
+use Prim.Native.Nat.{ℕ, suc, _+_, _-_, _*_, _/_, _%_, _<_, _≤_}
+use mathlib.Core.Path.{_≡_, refl, sym, ap, _∙_}
+use mathlib.Core.Bool.{Bool, true, false, not, _&&_, _||_}
+use mathlib.Core.List.{List, [], _∷_, map}
+use lib.Dec.{eqb, leb, ltb}
+use lib.ListN.{length, take, drop, length-take, length-drop}
+use native.Mathlib.Omega.{arith}
+use native.Mathlib.Nat.{sub-zero, mul-zero, mul-suc, mul-comm, mul-le-mul-left, min-eq-left, div-le-self, mod-add-div}
+use borrow.Author.Tests.{eq-eqb, ne-eqb, lt-ltb, le-ltb, eqb-true, le-leb, lt-leb, leb-true, not-false}
+use Rattle.octets.specs.LittleEndian.{numberAt}
+use Rattle.table.specs.declared.address.Address.{Address}
+use Rattle.table.specs.Address.{addressOf, same}
+use Rattle.table.specs.declared.row.Head.{Head}
+use Rattle.table.specs.Layout.{sized, headAt}
+use Rattle.table.specs.Table.{clock, isTable}
+use Rattle.table.proofs.Cases.{both, sized-long}
+use Rattle.element.specs.Entries.{each}
+use Rattle.element.specs.Lists.{among, twice}
+use Rattle.element.proofs.Scans.{map-each, scan-found, scan-more, scan-ended}
+use Rattle.rules.specs.Lists.{any}
+use Rattle.rules.specs.Walk.{tableAt, lengthOfEach, tablesIn, sideBySide, points, hasLaterClock}
+use Rattle.rules.proofs.AnyOf.{any-found, any-more}
+use Rattle.walk.specs.Pieces.{Pieces, pieces, pointAt}
+
+-- ---- one table
+
+module _ (s : List ℕ) (long i : ℕ) where
+  pub piece-is : (from : ℕ) → from ≡ long * i → take (from + long - from) (drop from s) ≡ tableAt s long i
+  unfolding tableAt
+  piece-is from e = let n : from + long - from ≡ long = omega arith in rw (n, e)
+
+  pub piece-long : long * i + long ≤ length s → length (tableAt s long i) ≡ long
+  unfolding tableAt
+  piece-long l =
+      length-take long (drop (long * i) s)
+      ∙ min-eq-left (let n = length-drop (long * i) s in omega (arith, n))
+
+module _ (s : List ℕ) (long count : ℕ) (p : Pieces s long count) (i : ℕ) (l : i < count) where
+  pub piece-within : long * i + long ≤ length s
+  piece-within = omega (arith, mul-le-mul-left long l, mul-suc long i, mul-comm long count, p .whole)
+
+  pub piece-head : (t : List ℕ) → t ≡ tableAt s long i → 32 ≤ length t
+  piece-head t e = let n = ap length e ∙ piece-long s long i piece-within in omega (arith, p .with-head, n)
+
+  pub piece-address : (t : List ℕ) → t ≡ tableAt s long i → 6 ≤ length t
+  piece-address t e = omega (arith, piece-head t e)
+
+-- ---- 1 to 16 of one length
+
+module _ (s : List ℕ) (count : ℕ) where
+  pub first-within : lengthOfEach s count * 0 + lengthOfEach s count ≤ length s
+  first-within = omega (arith, mul-zero (lengthOfEach s count), div-le-self (length s) count)
+
+  pub none-at-all : count < 1 → false ≡ sideBySide s count
+  unfolding sideBySide
+  none-at-all l = rw (lt-leb 1 count l)
+
+  module _ (least : 1 ≤ count) where
+    pub too-many : 16 < count → false ≡ sideBySide s count
+    unfolding sideBySide
+    too-many l = rw (le-leb 1 count least, lt-leb count 16 l)
+
+    module _ (most : count ≤ 16) where
+      pub uneven : (length s % count ≡ 0 → ⊥) → false ≡ sideBySide s count
+      unfolding sideBySide
+      uneven ne = rw (le-leb 1 count least, le-leb count 16 most, ne-eqb (length s % count) 0 ne)
+
+      pub even : length s % count ≡ 0 → (t : List ℕ) → t ≡ tableAt s (lengthOfEach s count) 0 → (b : Bool) → b ≡ sized t → b ≡ sideBySide s count
+      unfolding sideBySide
+      even e t te b be = rw (le-leb 1 count least, le-leb count 16 most, eq-eqb (length s % count) 0 e, ← te) be
+
+pub pieces-there : (s : List ℕ) (count : ℕ) (b : Bool) → b ≡ sideBySide s count → not b ≡ false → Pieces s (length s / count) count
+unfolding sideBySide
+pieces-there s count b be yes-b =
+    let many = leb 1 count in
+    let few = leb count 16 in
+    let whole = eqb (length s % count) 0 in
+    let first = tableAt s (lengthOfEach s count) 0 in
+    let all = both (many && few && whole) (sized first) (sym be ∙ not-false b yes-b) in
+    let counted = both (many && few) whole (all .0) in
+    let ranged = both many few (counted .0) in
+    let long = piece-long s (lengthOfEach s count) 0 (first-within s count) in
+    record {
+      some-piece = leb-true 1 count (ranged .0);
+      few = leb-true count 16 (ranged .1);
+      whole = omega (arith, mod-add-div (length s) count, eqb-true (length s % count) 0 (counted .1));
+      with-head = omega (arith, sized-long first (sized first) refl (all .1), long);
+    }
+
+pub divisible : (s : List ℕ) (count : ℕ) (b : Bool) → b ≡ sideBySide s count → not b ≡ false → 0 < count
+divisible s count b be yes-b = pieces-there s count b be yes-b .some-piece
+
+-- the test of check 10, by those of the code
+pub ten-tested : (a b c d : Bool) → a ≡ b → c ≡ d → (v : Bool) → (not a || c) ≡ v → (not b || d) ≡ v
+ten-tested a b c d e f v h = rw (← e, ← f) h
+
+-- ---- own addresses
+
+module _ (s : List ℕ) (long i : ℕ) where
+  pub point-read : (t : List ℕ) → t ≡ tableAt s long i → (n : ℕ) → n ≡ numberAt 6 t 0 → record { 0 = n } ≡ pointAt s long i
+  point-read t te n ne = rw (ne, te)
+
+-- as the loops over the points ask it: at point i of n, and g what the whole loop gives
+module _ (s : List ℕ) (long n i : ℕ) (g : Bool) where
+  abbrev from : List Address
+  from = each (pointAt s long) i (n - i)
+
+  abbrev after : List Address
+  after = each (pointAt s long) (i + 1) (n - (i + 1))
+
+  module _ (l : i < n) (a : Address) (ae : a ≡ pointAt s long i) where
+    module _ (b : Address) where
+      same-is : same a b ≡ same (pointAt s long i) b
+      same-is = ap (λ (x : Address). same x b) ae
+
+      pub point-found : a .0 ≡ b .0 → among b from ≡ g → true ≡ g
+      unfolding among
+      point-found e = scan-found (among b) (λ x _. same x b) refl (λ _ _. refl) (pointAt s long) n i g l (sym same-is ∙ eq-eqb (a .0) (b .0) e)
+
+      pub point-more : (a .0 ≡ b .0 → ⊥) → among b from ≡ g → among b after ≡ g
+      unfolding among
+      point-more ne = scan-more (among b) (λ x _. same x b) refl (λ _ _. refl) (pointAt s long) n i g l (sym same-is ∙ ne-eqb (a .0) (b .0) ne)
+
+    module _ (b : Bool) (be : b ≡ among a after) where
+      again-is : b ≡ among (pointAt s long i) after
+      again-is = be ∙ ap (λ (x : Address). among x after) ae
+
+      pub twice-found : b ≡ true → twice from ≡ g → true ≡ g
+      unfolding twice
+      twice-found e = scan-found twice among refl (λ _ _. refl) (pointAt s long) n i g l (sym again-is ∙ e)
+
+      pub twice-more : b ≡ false → twice from ≡ g → twice after ≡ g
+      unfolding twice
+      twice-more e = scan-more twice among refl (λ _ _. refl) (pointAt s long) n i g l (sym again-is ∙ e)
+
+  module _ (l : n ≤ i) where
+    pub point-ended : (b : Address) → among b from ≡ g → false ≡ g
+    unfolding among
+    point-ended b = scan-ended (among b) (λ x _. same x b) refl (λ _ _. refl) (pointAt s long) n i g l
+
+    pub twice-ended : twice from ≡ g → false ≡ g
+    unfolding twice
+    twice-ended = scan-ended twice among refl (λ _ _. refl) (pointAt s long) n i g l
+
+-- the points of the pieces are read from the pieces one by one
+module _ (s : List ℕ) (long n : ℕ) where
+  points-each : points (pieces s long n) ≡ each (pointAt s long) 0 (n - 0)
+  points-each = map-each addressOf (tableAt s long) 0 n ∙ ap (each (pointAt s long) 0) (sym (sub-zero n))
+
+  pub point-among : (a : Address) (b : Bool) → b ≡ among a (each (pointAt s long) 0 (n - 0)) → b ≡ among a (points (pieces s long n))
+  point-among a b e = e ∙ ap (among a) (sym points-each)
+
+  pub twice-start : twice (each (pointAt s long) 0 (n - 0)) ≡ twice (points (pieces s long n))
+  twice-start = ap twice (sym points-each)
+
+-- ---- which pieces are tables, and their clocks
+
+module _ (s : List ℕ) (long n i : ℕ) (g : Bool) (l : i < n) (t : List ℕ) (te : t ≡ tableAt s long i) where
+  module _ (b : Bool) (be : b ≡ isTable t) where
+    pub other-found : not b ≡ true → any (λ u. not (isTable u)) (each (tableAt s long) i (n - i)) ≡ g → true ≡ g
+    other-found e = any-found (λ u. not (isTable u)) (tableAt s long) n i g l t te (ap not (sym be) ∙ e)
+
+    pub other-more : not b ≡ false → any (λ u. not (isTable u)) (each (tableAt s long) i (n - i)) ≡ g
+        → any (λ u. not (isTable u)) (each (tableAt s long) (i + 1) (n - (i + 1))) ≡ g
+    other-more e = any-more (λ u. not (isTable u)) (tableAt s long) n i g l t te (ap not (sym be) ∙ e)
+
+module _ (s : List ℕ) (long n i : ℕ) (g : Bool) (l : i < n) (c x : ℕ) (xe : x ≡ clock (tableAt s long i)) where
+  pub later-found : c < x → any (hasLaterClock c) (each (tableAt s long) i (n - i)) ≡ g → true ≡ g
+  unfolding hasLaterClock
+  later-found e = any-found (hasLaterClock c) (tableAt s long) n i g l (tableAt s long i) refl (ap (λ (y : ℕ). ltb c y) (sym xe) ∙ lt-ltb c x e)
+
+  pub later-more : x ≤ c → any (hasLaterClock c) (each (tableAt s long) i (n - i)) ≡ g
+      → any (hasLaterClock c) (each (tableAt s long) (i + 1) (n - (i + 1))) ≡ g
+  unfolding hasLaterClock
+  later-more e = any-more (hasLaterClock c) (tableAt s long) n i g l (tableAt s long i) refl (ap (λ (y : ℕ). ltb c y) (sym xe) ∙ le-ltb c x e)
+
+pub clock-read : (t u : List ℕ) → t ≡ u → (h : Head) → h ≡ headAt t → h .clock ≡ clock u
+clock-read t u e h he = rw (he, e)

@@ -1,0 +1,33 @@
+-- What the functions of the walk know of the octets once they are tables side by side: for the code's own functions, no part
+-- of what a walk is. Assumes nothing.
+use Prim.Native.Nat.{ℕ, _*_, _≤_}
+use mathlib.Core.Path.{_≡_}
+use mathlib.Core.Bool.{not}
+use mathlib.Core.List.{List, [], _∷_}
+use lib.ListN.{length}
+use Rattle.table.specs.declared.address.Address.{Address}
+use Rattle.table.specs.Address.{addressOf}
+use Rattle.table.specs.Table.{isTable}
+use Rattle.element.specs.Entries.{each}
+use Rattle.rules.specs.Decision.{Check, refuse_when_}
+use Rattle.rules.specs.Lists.{any}
+use Rattle.rules.specs.Walk.{hasLaterClock, tableAt}
+
+-- 1 to 16 pieces of this length, which has room for a head
+pub record Pieces (s : List ℕ) (long count : ℕ) : Type 0 where
+  pub some-piece : 1 ≤ count
+  pub few : count ≤ 16
+  pub whole : count * long ≡ length s
+  pub with-head : 32 ≤ long
+
+abbrev pub pieces : List ℕ → ℕ → ℕ → List (List ℕ)
+pieces s long count = each (tableAt s long) 0 count
+
+-- the own address of piece i
+abbrev pub pointAt : List ℕ → ℕ → ℕ → Address
+pointAt s long i = addressOf (tableAt s long i)
+
+-- the checks that look at the state
+abbrev pub stateChecks : List ℕ → ℕ → ℕ → ℕ → List Check
+stateChecks s long count c =
+    (refuse 21 when any (λ (t : List ℕ). not (isTable t)) (pieces s long count)) ∷ (refuse 22 when any (hasLaterClock c) (pieces s long count)) ∷ []

@@ -1,0 +1,82 @@
+// The walk over tables side by side: which rows a scan would follow from a start to a destination.
+mod pieces;
+mod way;
+
+use counters::HopCount;
+use pieces::table_at;
+use point::Answer;
+use table::address::Address;
+use table::legal;
+ghost use mathlib.Core.Path.{_≡_};
+ghost use Rattle.rules.specs.Walk.{sideBySide, walk, walking};
+ghost use Rattle.point.specs.Answers.{answerTo};
+ghost use Rattle.walk.specs.Answers.{decisionOf};
+ghost use Rattle.walk.specs.Pieces.{Pieces, stateChecks};
+
+// How a walk ends, with the hops walked, or a refusal.
+pub enum Ending {
+    Arrived(HopCount),
+    Stopped(HopCount),
+    TooLong(HopCount),
+    Refused(u32),
+}
+
+// Whether the octets are 1 to 16 pieces of one length that a table may have.
+fn are_side_by_side(tables: &[u8], count: usize) -> bool
+    ensures { λ r. ⌜ r ≡ sideBySide (now (tables .entry)) count ⌝ }
+{
+    if count < 1 {
+        return false;
+    }
+    if 16 < count {
+        return false;
+    }
+    if tables.len() % count != 0 {
+        return false;
+    }
+    legal::is_sized(table_at(tables, tables.len() / count, 0))
+}
+
+// The refusals by the state.
+fn check_state(tables: &[u8], long: usize, count: usize, clock: u64) -> Answer
+    requires { ⌜ Pieces (now tables) long count ⌝ }
+    ensures { λ r. ⌜ r ≡ answerTo (stateChecks (now (tables .entry)) long count clock) ⌝ }
+{
+    if pieces::has_no_table(tables, long, count) {
+        return Answer::Refused(21);
+    }
+    if pieces::has_later_clock(tables, long, count, clock) {
+        return Answer::Refused(22);
+    }
+    Answer::Accepted
+}
+
+// All refusals in their order.
+fn check(tables: &[u8], count: usize, clock: u64, start: Address, destination: Address) -> Answer
+    ensures { λ r. ⌜ r ≡ answerTo (walking (now (tables .entry)) count clock start destination .checks) ⌝ }
+{
+    if !are_side_by_side(tables, count) {
+        return Answer::Refused(1);
+    }
+    if legal::MAX_CLOCK < clock {
+        return Answer::Refused(3);
+    }
+    if !destination.is_individual() {
+        return Answer::Refused(9);
+    }
+    let long = tables.len() / count;
+    if !pieces::is_point(tables, long, count, start) | pieces::has_twice(tables, long, count) {
+        return Answer::Refused(10);
+    }
+    check_state(tables, long, count, clock)
+}
+
+pub fn walk(tables: &[u8], count: u32, clock: u64, start: Address, destination: Address) -> Ending
+    ensures { λ r. ⌜ decisionOf r ≡ walk (now (tables .entry)) count clock start destination ⌝ }
+{
+    let n = count as usize;
+    match check(tables, n, clock, start, destination) {
+        Answer::Accepted => way::follow(tables, tables.len() / n, n, clock, start, destination),
+        Answer::Refused(number) => Ending::Refused(number),
+    }
+}
