@@ -1,5 +1,5 @@
 // The walk over tables side by side: which rows a scan would follow from a start to a destination.
-mod pieces;
+pub mod pieces;
 mod way;
 
 use counters::HopCount;

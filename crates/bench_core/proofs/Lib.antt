@@ -1,0 +1,5 @@
+mod Slots
+mod Settling
+mod Calling
+mod Standing
+mod Obeying

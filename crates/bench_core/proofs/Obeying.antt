@@ -1,0 +1,112 @@
+-- Commands by their octets. Assumes nothing.
+use Prim.Native.Nat.{ℕ, _<_, _≤_}
+use mathlib.Core.Path.{_≡_, refl, sym, ap, _∙_}
+use mathlib.Core.List.{List, [], _∷_}
+use lib.Dec.{eqb}
+use lib.ListN.{length, getD, take, drop, List·getD-eq-default}
+use native.Mathlib.Omega.{arith}
+use borrow.Author.Tests.{eq-eqb, ne-eqb, lt-ltb, le-ltb}
+use Rattle.octets.specs.LittleEndian.{numberAt}
+use Rattle.bench_core.specs.declared.State.{State}
+use Rattle.bench_core.specs.declared.Done.{Done}
+use Rattle.bench_core.specs.declared.Done.the-variants.{Fault}
+use Rattle.bench_core.specs.Bench.{Bench}
+use Rattle.bench_core.specs.Commands.{Linking, addPoint, advance, link, askFor, announceSelf, deliver, breakOff, walkTo}
+use Rattle.bench_core.specs.InCode.{benchOf, doneIn, Adds, Advances, Links, Walks}
+use Rattle.bench_core.specs.Interpreter.{lengthOf, obeyed, command}
+
+pub no-command : (c : ℕ) → 9 ≤ c → 0 ≡ lengthOf c
+no-command c l = sym (List·getD-eq-default (0 ∷ 11 ∷ 5 ∷ 7 ∷ 13 ∷ 6 ∷ 4 ∷ 3 ∷ 3 ∷ []) 0 l)
+
+-- the operands of command k are there
+pub enough : (k c n : ℕ) → c ≡ k → lengthOf c ≤ n → lengthOf k ≤ n
+enough k c n e l = rw (← e) l
+
+-- ---- with operands as they were read
+
+module _ (r : Done) (st : State) where
+  pub adds-read : (x n x′ n′ : ℕ) (t t′ : List ℕ) → x ≡ x′ → n ≡ n′ → Adds r st (record { 0 = x }) (record { 0 = n }) t t′
+      → Adds r st (record { 0 = x′ }) (record { 0 = n′ }) t t′
+  adds-read x n x′ n′ t t′ xe ne h = rw (← xe, ← ne) h
+
+  pub advances-read : (n n′ : ℕ) → n ≡ n′ → Advances r st n → Advances r st n′
+  advances-read n n′ ne h = rw (← ne) h
+
+  pub links-read : (p q n p′ q′ n′ : ℕ) (l l′ : List (List ℕ)) → p ≡ p′ → q ≡ q′ → n ≡ n′ → Links r st p q n l l′ → Links r st p′ q′ n′ l l′
+  links-read p q n p′ q′ n′ l l′ pe qe ne h = rw (← pe, ← qe, ← ne) h
+
+  pub walks-read : (p q p′ q′ : ℕ) (t : List ℕ) → p ≡ p′ → q ≡ q′ → Walks r st p q t → Walks r st p′ q′ t
+  walks-read p q p′ q′ t pe qe h = rw (← pe, ← qe) h
+
+-- ---- each command, by what its function leaves
+
+module _ (st : State) (tables slots : List ℕ) (links : List (List ℕ)) (s : List ℕ) (c : ℕ) (r : Done) where
+  abbrev b : Bench
+  b = benchOf st tables slots
+
+  abbrev leaving : List ℕ → List ℕ → List (List ℕ) → Linking
+  leaving tables′ slots′ links′ = record { done = doneIn r tables′ slots′; links = links′ }
+
+  pub obeyed-1 : c ≡ 1 → (tables′ : List ℕ) → Adds r st (record { 0 = numberAt 6 s 1 }) (record { 0 = numberAt 4 s 7 }) tables tables′
+      → leaving tables′ slots links ≡ obeyed b links s c
+  unfolding obeyed Adds
+  obeyed-1 e tables′ h = rw (e, h slots)
+
+  pub obeyed-2 : c ≡ 2 → Advances r st (numberAt 4 s 1) → leaving tables slots links ≡ obeyed b links s c
+  unfolding obeyed Advances
+  obeyed-2 e h = rw (e, h tables slots)
+
+  pub obeyed-3 : c ≡ 3 → (links′ : List (List ℕ)) → Links r st (numberAt 1 s 1) (numberAt 1 s 2) (numberAt 4 s 3) links links′
+      → leaving tables slots links′ ≡ obeyed b links s c
+  unfolding obeyed Links
+  obeyed-3 e links′ h = rw e (h tables slots)
+
+  module _ (tables′ slots′ : List ℕ) where
+    pub obeyed-4 : c ≡ 4 → doneIn r tables′ slots′ ≡ askFor b (numberAt 1 s 1) (take 7 (drop 2 s)) (numberAt 4 s 9)
+        → leaving tables′ slots′ links ≡ obeyed b links s c
+    unfolding obeyed
+    obeyed-4 e h = rw (e, h)
+
+    pub obeyed-5 : c ≡ 5 → doneIn r tables′ slots′ ≡ announceSelf b (numberAt 1 s 1) (numberAt 4 s 2)
+        → leaving tables′ slots′ links ≡ obeyed b links s c
+    unfolding obeyed
+    obeyed-5 e h = rw (e, h)
+
+    pub obeyed-6 : c ≡ 6 → doneIn r tables′ slots′ ≡ deliver b links (numberAt 2 s 1) (numberAt 1 s 3)
+        → leaving tables′ slots′ links ≡ obeyed b links s c
+    unfolding obeyed
+    obeyed-6 e h = rw (e, h)
+
+    pub obeyed-7 : c ≡ 7 → doneIn r tables′ slots′ ≡ breakOff b (numberAt 1 s 1) (numberAt 1 s 2)
+        → leaving tables′ slots′ links ≡ obeyed b links s c
+    unfolding obeyed
+    obeyed-7 e h = rw (e, h)
+
+  pub obeyed-8 : c ≡ 8 → Walks r st (numberAt 1 s 1) (numberAt 1 s 2) tables → leaving tables slots links ≡ obeyed b links s c
+  unfolding obeyed Walks
+  obeyed-8 e h = rw (e, h slots)
+
+module _ (st : State) (tables slots : List ℕ) (links : List (List ℕ)) (s : List ℕ) (c : ℕ) where
+  abbrev faulty : Linking
+  faulty = record { done = doneIn Fault tables slots; links = links }
+
+  pub obeyed-none : (c ≡ 1 → ⊥) → (c ≡ 2 → ⊥) → (c ≡ 3 → ⊥) → (c ≡ 4 → ⊥) → (c ≡ 5 → ⊥) → (c ≡ 6 → ⊥) → (c ≡ 7 → ⊥) → (c ≡ 8 → ⊥)
+      → faulty ≡ obeyed (benchOf st tables slots) links s c
+  unfolding obeyed
+  obeyed-none e₁ e₂ e₃ e₄ e₅ e₆ e₇ e₈ =
+      rw (ne-eqb c 1 e₁, ne-eqb c 2 e₂, ne-eqb c 3 e₃, ne-eqb c 4 e₄, ne-eqb c 5 e₅, ne-eqb c 6 e₆, ne-eqb c 7 e₇, ne-eqb c 8 e₈)
+
+  module _ (ce : c ≡ numberAt 1 s 0) (n : ℕ) (ne : n ≡ lengthOf c) where
+    pub command-unknown : n ≡ 0 → faulty ≡ command (benchOf st tables slots) links s
+    unfolding command
+    command-unknown z = rw (← ce, ← ne, z)
+
+    module _ (nz : n ≡ 0 → ⊥) where
+      pub command-cut : length s < n → faulty ≡ command (benchOf st tables slots) links s
+      unfolding command
+      command-cut l = rw (← ce, ← ne, ne-eqb n 0 nz, lt-ltb (length s) n l)
+
+      pub command-obeyed : n ≤ length s → (x : Linking) → x ≡ obeyed (benchOf st tables slots) links s c
+          → x ≡ command (benchOf st tables slots) links s
+      unfolding command
+      command-obeyed l x xe = rw (← ce, ← ne, ne-eqb n 0 nz, le-ltb (length s) n l) xe

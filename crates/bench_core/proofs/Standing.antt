@@ -1,0 +1,153 @@
+-- The commands that make no point emit: point, advance, link and walk. Assumes nothing.
+use Prim.Native.Nat.{ℕ, _+_, _-_, _*_, _^_, _<_, _≤_}
+use mathlib.Core.Path.{_≡_, refl, sym, ap, _∙_}
+use mathlib.Core.Bool.{Bool, true, false, not, cond}
+use mathlib.Core.List.{List}
+use lib.ListN.{length, take, drop, length-take}
+use native.Mathlib.Omega.{arith}
+use native.Mathlib.Nat.{min-eq-left}
+use borrow.Author.Tests.{lt-ltb, le-ltb}
+use borrow.Rule.Slice.PartMut.{putMid, put-same}
+use Rattle.counters.specs.declared.HopCount.{HopCount}
+use Rattle.counters.specs.declared.SequenceNumber.{SequenceNumber}
+use Rattle.table.specs.declared.address.Address.{Address}
+use Rattle.table.specs.Address.{individual, addressOf}
+use Rattle.table.specs.Layout.{sized}
+use Rattle.table.specs.Table.{fresh}
+use Rattle.rules.specs.Decision.{Decision, refused, accepted, Left, left}
+use Rattle.rules.specs.Fresh.{makeFresh}
+use Rattle.rules.specs.Walk.{tableAt, walkedAtExit, walk}
+use Rattle.point.specs.declared.Answer.{Answer}
+use Rattle.point.specs.Answers.{answerOf, leaves}
+use Rattle.walk.specs.declared.Ending.{Ending}
+use Rattle.walk.specs.declared.Ending.the-variants.{Arrived, Stopped, TooLong, Refused}
+use Rattle.walk.specs.Answers.{decisionOf}
+use Rattle.walk.specs.Pieces.{Pieces}
+use Rattle.bench_core.specs.declared.State.{State}
+use Rattle.bench_core.specs.declared.Done.{Done}
+use Rattle.bench_core.specs.declared.Done.the-variants.{Fault}
+use Rattle.bench_core.specs.Links.{linked}
+use Rattle.bench_core.specs.Bench.{withTable}
+use Rattle.bench_core.specs.Commands.{addPoint, advance, link, walkTo}
+use Rattle.bench_core.specs.InCode.{benchOf, doneIn, printed, walkedAs, Adds, Advances, Links, Walks}
+use Rattle.bench_core.proofs.Settling.{put-back}
+use Rattle.bench_core.proofs.Calling.{lent-table}
+
+pub sixteen-tables : (tables : List ℕ) → length tables ≡ 8704 → Pieces tables 544 16
+sixteen-tables tables e = record { some-piece = omega arith; few = omega arith; whole = sym e; with-head = omega arith }
+
+-- ---- 1 point
+
+-- The answer is 0 exactly if the table is made: no refusal has that number.
+module _ (t u : List ℕ) (own : Address) (number : SequenceNumber) (a : Answer) (ae : leaves a u ≡ left t (makeFresh t own number)) where
+  abbrev byChecks : Bool → Bool → Decision (List ℕ)
+  byChecks b d = cond b (refused 1) (cond d (refused 9) (accepted (fresh (length t) own number)))
+
+  not-made : (answerOf a ≡ 0 → ⊥) → (makeFresh t own number ≡ refused (answerOf a)) × (u ≡ t)
+  unfolding makeFresh
+  not-made ne = by (not (sized t)) (not (individual own)) ae
+    where
+      by : (b d : Bool) → leaves a u ≡ left t (byChecks b d) → (byChecks b d ≡ refused (answerOf a)) × (u ≡ t)
+      by true d e = (ap refused (sym (ap (λ (x : Left). x .answer) e)), ap (λ (x : Left). x .table) e)
+      by false true e = (ap refused (sym (ap (λ (x : Left). x .answer) e)), ap (λ (x : Left). x .table) e)
+      by false false e = absurd (ne (ap (λ (x : Left). x .answer) e))
+
+  made : answerOf a ≡ 0 → makeFresh t own number ≡ accepted u
+  unfolding makeFresh
+  made z = by (not (sized t)) (not (individual own)) ae
+    where
+      by : (b d : Bool) → leaves a u ≡ left t (byChecks b d) → byChecks b d ≡ accepted u
+      by true d e = let q = ap (λ (x : Left). x .answer) e in absurd (omega arith)
+      by false true e = let q = ap (λ (x : Left). x .answer) e in absurd (omega arith)
+      by false false e = ap accepted (sym (ap (λ (x : Left). x .table) e))
+
+module _ (s : State) (own : Address) (number : SequenceNumber) (tables : List ℕ) where
+  pub seventeenth : (tables′ : List ℕ) → 16 ≤ s .points → Adds Fault s own number tables tables′
+  unfolding Adds addPoint
+  seventeenth tables′ l slots = rw (le-ltb (s .points) 16 l)
+
+  abbrev place : ℕ
+  place = 544 * s .points
+
+  module _ (l : s .points < 16) (t u : List ℕ) (a : Answer) (ae : leaves a u ≡ left t (makeFresh t own number))
+      (te : t ≡ take (place + 544 - place) (drop place tables)) (n : ℕ) (ne : n ≡ answerOf a) where
+    table-is : t ≡ tableAt tables 544 (s .points)
+    table-is = te ∙ lent-table tables (s .points)
+
+    pub not-added : (n ≡ 0 → ⊥) → (r : Done) → r ≡ printed s n 0 → Adds r s own number tables (putMid place (place + 544 - place) tables u)
+    unfolding Adds addPoint
+    not-added nz r re slots =
+        let no = not-made t u own number a ae (λ z. nz (ne ∙ z)) in
+        let same : putMid place (place + 544 - place) tables u ≡ tables =
+        ap (putMid place (place + 544 - place) tables) (no .1 ∙ te) ∙ put-same place (place + 544 - place) tables in
+        rw (re, same, lt-ltb (s .points) 16 l, ← table-is, no .0, ne)
+
+    pub point-added : n ≡ 0 → (r : Done) → r ≡ printed (record { points = s .points + 1; frames = s .frames; clock = s .clock }) 0 0
+        → Adds r s own number tables (putMid place (place + 544 - place) tables u)
+    unfolding Adds addPoint
+    point-added z r re slots =
+        rw (re, put-back tables u (s .points), lt-ltb (s .points) 16 l, ← table-is, made t u own number a ae (sym ne ∙ z))
+
+-- ---- 2 advance clock
+
+module _ (s : State) (by : ℕ) where
+  pub too-late : 281474976710655 < s .clock + by → Advances Fault s by
+  unfolding Advances advance
+  too-late l tables slots = rw (lt-ltb 281474976710655 (s .clock + by) l)
+
+  pub advanced : s .clock + by ≤ 281474976710655 → (r : Done)
+      → r ≡ printed (record { points = s .points; frames = s .frames; clock = s .clock + by }) 0 0 → Advances r s by
+  unfolding Advances advance
+  advanced l r re tables slots = rw (re, le-ltb 281474976710655 (s .clock + by) l)
+
+-- ---- 3 link
+
+module _ (s : State) (p q metric : ℕ) (links : List (List ℕ)) where
+  pub first-unknown : s .points ≤ p → Links Fault s p q metric links links
+  unfolding Links link
+  first-unknown no-p tables slots = rw (le-ltb p (s .points) no-p)
+
+  module _ (l : p < s .points) where
+    pub second-unknown : s .points ≤ q → Links Fault s p q metric links links
+    unfolding Links link
+    second-unknown no-q tables slots = rw (lt-ltb p (s .points) l, le-ltb q (s .points) no-q)
+
+    pub both-linked : q < s .points → (links′ : List (List ℕ)) → links′ ≡ linked links p q metric → (r : Done) → r ≡ printed s 0 0
+        → Links r s p q metric links links′
+    unfolding Links link
+    both-linked m links′ le r re tables slots = rw (re, le, lt-ltb p (s .points) l, lt-ltb q (s .points) m)
+
+-- ---- 8 walk
+
+module _ (s : State) (e : Ending) (r : Done) where
+  module _ (h : HopCount) where
+    pub line-arrived : e ≡ Arrived h → r ≡ printed s 0 (h .0) → r ≡ walkedAs s (walkedAtExit (decisionOf e))
+    line-arrived ee re = rw ee re
+
+    pub line-stopped : e ≡ Stopped h → r ≡ printed s 41 (h .0) → r ≡ walkedAs s (walkedAtExit (decisionOf e))
+    line-stopped ee re = rw ee re
+
+    pub line-too-long : e ≡ TooLong h → r ≡ printed s 42 (h .0) → r ≡ walkedAs s (walkedAtExit (decisionOf e))
+    line-too-long ee re = rw ee re
+
+  pub line-refused : (n : ℕ) → e ≡ Refused n → r ≡ printed s n 0 → r ≡ walkedAs s (walkedAtExit (decisionOf e))
+  line-refused n ee re = rw ee re
+
+pub front-long : (tables : List ℕ) → length tables ≡ 8704 → (n : ℕ) → n ≤ 16 → 544 * n ≡ length (take (544 * n) tables)
+front-long tables e n few = sym (length-take (544 * n) tables ∙ min-eq-left (omega arith))
+
+module _ (s : State) (p q : ℕ) (tables : List ℕ) where
+  pub start-unknown : s .points ≤ p → Walks Fault s p q tables
+  unfolding Walks walkTo
+  start-unknown no-p slots = rw (le-ltb p (s .points) no-p)
+
+  module _ (l : p < s .points) where
+    pub end-unknown : s .points ≤ q → Walks Fault s p q tables
+    unfolding Walks walkTo
+    end-unknown no-q slots = rw (lt-ltb p (s .points) l, le-ltb q (s .points) no-q)
+
+    pub walked : q < s .points → (part : List ℕ) → part ≡ take (544 * s .points) tables → (start d : Address) → start ≡ addressOf (tableAt tables 544 p)
+        → d ≡ addressOf (tableAt tables 544 q) → (e : Ending) → decisionOf e ≡ walk part (s .points) (s .clock) start d
+        → (r : Done) → r ≡ walkedAs s (walkedAtExit (decisionOf e)) → Walks r s p q tables
+    unfolding Walks walkTo
+    walked m part pe start d se de e ee r re slots = rw (re, ee, pe, se, de, lt-ltb p (s .points) l, lt-ltb q (s .points) m)

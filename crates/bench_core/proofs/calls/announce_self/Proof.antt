@@ -1,0 +1,23 @@
+-- `bench_core::calls::announce_self` meets its contract: no point, or as its call leaves it. Assumes nothing.
+use borrow.Author.Needs.{needs}
+use Rattle.bench_core.proofs.Calling.{lent-table, announce-fault, announce-done}
+use Rattle.bench_core.proofs.calls.announce_self.Statement.{statement}
+use Rattle.bench_core.proofs.calls.announce_self.Tie as tie
+
+pub announce-self-spec : {M : Type 1} → statement M
+announce-self-spec =
+    tie.close
+    (tie.spec
+    (λ c. search announce-fault)
+    (λ c. search needs)
+    (λ c. search needs)
+    (λ c. search needs)
+    (λ c. search needs)
+    (λ c. search needs)
+    (λ c. search needs)
+    (λ c κs. search needs)
+    (λ c. search needs)
+    (λ c κs. search needs)
+    (λ c. search needs)
+    (λ c. search needs)
+    (λ c. search (announce-done, lent-table)))

@@ -1,0 +1,25 @@
+-- `bench_core::calls::break_off` meets its contract: no point, no neighbour, or as its call leaves it. Assumes nothing.
+use borrow.Author.Needs.{needs}
+use Rattle.bench_core.proofs.Calling.{lent-table, break-fault, neighbour-fault, break-done}
+use Rattle.bench_core.proofs.calls.break_off.Statement.{statement}
+use Rattle.bench_core.proofs.calls.break_off.Tie as tie
+
+pub break-off-spec : {M : Type 1} → statement M
+break-off-spec =
+    tie.close
+    (tie.spec
+    (λ c. search break-fault)
+    (λ c. search neighbour-fault)
+    (λ c κs. search needs)
+    (λ c. search needs)
+    (λ c. search needs)
+    (λ c. search needs)
+    (λ c. search needs)
+    (λ c. search needs)
+    (λ c. search needs)
+    (λ c κs. search needs)
+    (λ c. search needs)
+    (λ c κs. search needs)
+    (λ c. search needs)
+    (λ c. search needs)
+    (λ c. search (break-done, lent-table)))

@@ -1,0 +1,21 @@
+-- `bench_core::frames::element_of` meets its contract: the octets that Length counts, and the two before them. Assumes nothing.
+use borrow.Author.Needs.{needs}
+use Rattle.bench_core.proofs.Slots.{element-read}
+use Rattle.bench_core.proofs.frames.element_of.Statement.{statement}
+use Rattle.bench_core.proofs.frames.element_of.Tie as tie
+
+pub element-of-spec : {M : Type 1} → statement M
+element-of-spec =
+    tie.close
+    (tie.spec
+    (λ c. search needs)
+    (λ c. search needs)
+    (λ c. search needs)
+    (λ c κs. search needs)
+    (λ c. search needs)
+    (λ c. search needs)
+    (λ c. search needs)
+    (λ c. search needs)
+    (λ c. search needs)
+    (λ c. search needs)
+    (λ c. search element-read))

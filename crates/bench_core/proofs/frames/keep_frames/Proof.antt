@@ -1,0 +1,36 @@
+-- `bench_core::frames::keep_frames` meets its contract: what is left to keep makes the whole. Assumes nothing.
+use Prim.Native.Nat.{_+_, _-_, _≤_}
+use mathlib.Core.Path.{_≡_}
+use lib.ListN.{length}
+use borrow.Author.Needs.{needs}
+use Rattle.bench_core.specs.Frames.{keep}
+use Rattle.bench_core.proofs.Slots.{keep-start, keep-more, keep-ended}
+use Rattle.bench_core.proofs.frames.keep_frames.Statement.{statement}
+use Rattle.bench_core.proofs.frames.keep_frames.Tie as tie
+
+abbrev Inv-loop : tie.InvT-loop
+Inv-loop slots₀ output sender first n at₀ i₀ slots at i =
+    (keep slots output sender (first + i) (n - i) at ≡ keep slots₀ output sender first n 0)
+    × (at ≤ length output) × (length slots ≡ length slots₀)
+
+abbrev μ-loop : tie.MeasureT-loop
+μ-loop slots₀ output sender first n at₀ i₀ slots at i = n - i
+
+pub keep-frames-spec : {M : Type 1} → statement M
+keep-frames-spec =
+    tie.close
+    (tie.spec
+    Inv-loop
+    μ-loop
+    (λ c. (search (needs, keep-start), search needs, search needs))
+    (λ c κs. search needs)
+    (λ c. search needs)
+    (λ c. search needs)
+    (λ c. search needs)
+    (λ c. search needs)
+    (λ c κs. search needs)
+    (λ c. search needs)
+    (λ c. search needs)
+    (λ c. (search (needs, keep-more), search needs, search needs))
+    (λ c. search needs)
+    (λ c. search keep-ended))

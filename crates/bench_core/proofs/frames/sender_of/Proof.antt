@@ -1,0 +1,13 @@
+-- `bench_core::frames::sender_of` meets its contract: the first octet of the slot. Assumes nothing.
+use borrow.Author.Needs.{needs}
+use Rattle.bench_core.proofs.Slots.{sender-read}
+use Rattle.bench_core.proofs.frames.sender_of.Statement.{statement}
+use Rattle.bench_core.proofs.frames.sender_of.Tie as tie
+
+pub sender-of-spec : {M : Type 1} → statement M
+sender-of-spec =
+    tie.close
+    (tie.spec
+    (λ c. search needs)
+    (λ c κs. search needs)
+    (λ c. search sender-read))

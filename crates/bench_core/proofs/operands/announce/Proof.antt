@@ -1,0 +1,15 @@
+-- `bench_core::operands::announce` meets its contract: its operands as they were read. Assumes nothing.
+use borrow.Author.Needs.{needs}
+use Rattle.bench_core.proofs.operands.announce.Statement.{statement}
+use Rattle.bench_core.proofs.operands.announce.Tie as tie
+
+pub announce-spec : {M : Type 1} → statement M
+announce-spec =
+    tie.close
+    (tie.spec
+    (λ c κs. search needs)
+    (λ c κs. search needs)
+    (λ c κs. search needs)
+    (λ c. search needs)
+    (λ c. search needs)
+    (λ c. cc))

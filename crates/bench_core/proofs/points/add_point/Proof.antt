@@ -1,0 +1,25 @@
+-- `bench_core::points::add_point` meets its contract: a 17th point, refused, or added. Assumes nothing.
+use borrow.Author.Needs.{needs}
+use Rattle.bench_core.proofs.Standing.{seventeenth, not-added, point-added}
+use Rattle.bench_core.proofs.points.add_point.Statement.{statement}
+use Rattle.bench_core.proofs.points.add_point.Tie as tie
+
+pub add-point-spec : {M : Type 1} → statement M
+add-point-spec =
+    tie.close
+    (tie.spec
+    (λ c. search seventeenth)
+    (λ c. search needs)
+    (λ c. search needs)
+    (λ c. search needs)
+    (λ c. search needs)
+    (λ c. search needs)
+    (λ c κs. search needs)
+    (λ c κs. search needs)
+    (λ c κs. search needs)
+    (λ c. search needs)
+    (λ c. search not-added)
+    (λ c. search needs)
+    (λ c κs. search needs)
+    (λ c. search needs)
+    (λ c. search point-added))

@@ -1,0 +1,20 @@
+-- `bench_core::points::walk_to` meets its contract: an index of no point, or the walk. Assumes nothing.
+use borrow.Author.Needs.{needs}
+use Rattle.bench_core.proofs.Standing.{start-unknown, end-unknown, front-long, walked}
+use Rattle.bench_core.proofs.points.walk_to.Statement.{statement}
+use Rattle.bench_core.proofs.points.walk_to.Tie as tie
+
+pub walk-to-spec : {M : Type 1} → statement M
+walk-to-spec =
+    tie.close
+    (tie.spec
+    (λ c. search start-unknown)
+    (λ c. search end-unknown)
+    (λ c κs. search needs)
+    (λ c κs. search needs)
+    (λ c. search needs)
+    (λ c. search front-long)
+    (λ c. search needs)
+    (λ c κs. search needs)
+    (λ c κs. search needs)
+    (λ c. search walked))

@@ -1,0 +1,62 @@
+-- What the bench holds, and what a command comes to. Assumes nothing.
+use Prim.Native.Nat.{ℕ, _+_, _-_, _*_, _^_, _≤_}
+use mathlib.Core.Bool.{Bool, cond}
+use mathlib.Core.List.{List, _++_}
+use lib.Dec.{ltb}
+use lib.ListN.{length, take, drop}
+use Rattle.octets.specs.LittleEndian.{zeros}
+use Rattle.table.specs.declared.address.Address.{Address}
+use Rattle.table.specs.Address.{addressOf}
+use Rattle.rules.specs.Decision.{Decision, _above_}
+use Rattle.rules.specs.Outcome.{Effect, Exit, atExit}
+use Rattle.rules.specs.Walk.{tableAt}
+use Rattle.bench_core.specs.Frames.{keep}
+
+-- tables of 16 rows side by side, and how many are points; the frames kept, and how many there are; the clock. (The link metrics
+-- stand by themselves: only the link command changes them.)
+pub record Bench : Type 0 where
+  pub tables : List ℕ
+  pub points : ℕ
+  pub slots : List ℕ
+  pub frames : ℕ
+  pub clock : ℕ
+
+-- a command prints a line, its answer and what stands third, and goes on; or it is at fault, and the bench ends
+pub data Done : Type 0 where
+  fault : Done
+  line : (answer third : ℕ) → Bench → Done
+
+-- ---- points, numbered from 0
+
+-- 32 octets and 16 rows of 32
+abbrev pub tableOf : Bench → ℕ → List ℕ
+tableOf b p = tableAt (b .tables) 544 p
+
+abbrev pub addressIn : Bench → ℕ → Address
+addressIn b p = addressOf (tableOf b p)
+
+abbrev pub isPoint : Bench → ℕ → Bool
+isPoint b p = ltb p (b .points)
+
+-- the tables with u as that of point p
+unfoldable pub withTable : List ℕ → ℕ → List ℕ → List ℕ
+withTable tables p u = take (544 * p) tables ++ (u ++ drop 544 (drop (544 * p) tables))
+
+-- ---- a call of point p that may emit frames
+
+-- The output that the bench lends has the least length, and is zero.
+abbrev pub calledBy : Bench → ℕ → Decision Effect → Exit
+calledBy b p d = atExit (tableOf b p) (zeros 1560) d
+
+-- its table is kept, and its frames with their sender, unless there were more than 128
+unfoldable pub settled : Bench → ℕ → Exit → Done
+settled b p x =
+    cond ((b .frames + x .frames) above 128) fault
+    (line (x .answer) (x .frames)
+    (record {
+      tables = withTable (b .tables) p (x .table);
+      points = b .points;
+      slots = keep (b .slots) (x .output) p (b .frames) (x .frames) 0;
+      frames = b .frames + x .frames;
+      clock = b .clock;
+    }))

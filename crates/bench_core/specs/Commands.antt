@@ -1,0 +1,94 @@
+-- The eight commands, in the order of document 01, by their operands. An index of no point or frame, a 17th point, a 129th frame
+-- and a clock above 2^48 - 1 are faults. Assumes nothing.
+use Prim.Native.Nat.{ℕ, _+_, _-_, _*_, _^_}
+use mathlib.Core.Bool.{Bool, _&&_, cond}
+use mathlib.Core.List.{List}
+use lib.Dec.{ltb}
+use lib.ListN.{take}
+use Rattle.counters.specs.declared.SequenceNumber.{SequenceNumber}
+use Rattle.table.specs.declared.address.Address.{Address}
+use Rattle.rules.specs.Decision.{Decision, refused, accepted, _above_, _below_}
+use Rattle.rules.specs.declared.Arrival.{Arrival}
+use Rattle.rules.specs.Fresh.{makeFresh}
+use Rattle.rules.specs.Originate.{ask, announce}
+use Rattle.rules.specs.Receive.{receive}
+use Rattle.rules.specs.Break.{breakNeighbour}
+use Rattle.rules.specs.Walk.{Walked, walkedAtExit, walk}
+use Rattle.bench_core.specs.Links.{metricOf, linked}
+use Rattle.bench_core.specs.Frames.{senderOf, elementOf}
+use Rattle.bench_core.specs.Bench.{Bench, Done, fault, line, tableOf, addressIn, isPoint, withTable, calledBy, settled}
+
+-- 1 point. If refused, it is not added.
+abbrev pub added : Bench → Decision (List ℕ) → Done
+added b (refused n) = line n 0 b
+added b (accepted u) =
+    line 0 0
+    (record {
+      tables = withTable (b .tables) (b .points) u;
+      points = b .points + 1;
+      slots = b .slots;
+      frames = b .frames;
+      clock = b .clock;
+    })
+
+unfoldable pub addPoint : Bench → Address → SequenceNumber → Done
+addPoint b own number = cond ((b .points) below 16) (added b (makeFresh (tableOf b (b .points)) own number)) fault
+
+-- 2 advance clock
+unfoldable pub advance : Bench → ℕ → Done
+advance b by =
+    cond ((b .clock + by) above 2 ^ 48 - 1) fault
+    (line 0 0
+    (record {
+      tables = b .tables;
+      points = b .points;
+      slots = b .slots;
+      frames = b .frames;
+      clock = b .clock + by;
+    }))
+
+-- 3 link: a metric for both ways; 0 is no link
+pub record Linking : Type 0 where
+  pub done : Done
+  pub links : List (List ℕ)
+
+unfoldable pub link : Bench → List (List ℕ) → ℕ → ℕ → ℕ → Linking
+link b links p q metric =
+    cond (isPoint b p && isPoint b q) (record { done = line 0 0 b; links = linked links p q metric }) (record { done = fault; links = links })
+
+-- 4 ask for one destination: its item is flags and address
+unfoldable pub askFor : Bench → ℕ → (item : List ℕ) → (lifetime : ℕ) → Done
+askFor b p item lifetime = cond (isPoint b p) (settled b p (calledBy b p (ask (tableOf b p) 1560 lifetime item))) fault
+
+-- 5 announce, flags 0
+unfoldable pub announceSelf : Bench → ℕ → (lifetime : ℕ) → Done
+announceSelf b p lifetime = cond (isPoint b p) (settled b p (calledBy b p (announce (tableOf b p) 1560 0 lifetime))) fault
+
+-- 6 deliver frame k: from its sender, over the link between the two, whoever its receiver is. (The sender of a frame is always a
+-- point.)
+unfoldable pub handedOver : Bench → (k p : ℕ) → Arrival → Done
+handedOver b k p arrival = settled b p (calledBy b p (receive (tableOf b p) 1560 arrival (elementOf (b .slots) k)))
+
+abbrev pub arrivalFrom : Bench → List (List ℕ) → (sender p : ℕ) → Arrival
+arrivalFrom b links sender p =
+    record { clock = b .clock; transmitter = addressIn b sender; link = record { 0 = metricOf links sender p } }
+
+unfoldable pub deliver : Bench → List (List ℕ) → (k p : ℕ) → Done
+deliver b links k p =
+    let sender = senderOf (b .slots) k in
+    cond (ltb k (b .frames) && isPoint b p && isPoint b sender) (handedOver b k p (arrivalFrom b links sender p)) fault
+
+-- 7 break: the neighbour is a point
+unfoldable pub breakOff : Bench → (p q : ℕ) → Done
+breakOff b p q =
+    cond (isPoint b p && isPoint b q) (settled b p (calledBy b p (breakNeighbour (tableOf b p) 1560 (b .clock) (addressIn b q)))) fault
+
+-- 8 walk over the points, from one to another
+abbrev pub walkedLine : Bench → Walked → Done
+walkedLine b w = line (w .answer) (w .hops) b
+
+unfoldable pub walkTo : Bench → (p q : ℕ) → Done
+walkTo b p q =
+    cond (isPoint b p && isPoint b q)
+    (walkedLine b (walkedAtExit (walk (take (544 * b .points) (b .tables)) (b .points) (b .clock) (addressIn b p) (addressIn b q))))
+    fault

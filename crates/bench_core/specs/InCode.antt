@@ -1,0 +1,84 @@
+-- What the code holds of the bench, as the definitions have it. Assumes nothing.
+use Prim.Native.Nat.{ℕ, _+_, _≤_}
+use mathlib.Core.Path.{_≡_}
+use mathlib.Core.Bool.{cond}
+use mathlib.Core.List.{List}
+use lib.ListN.{length}
+use Rattle.counters.specs.declared.SequenceNumber.{SequenceNumber}
+use Rattle.table.specs.declared.address.Address.{Address}
+use Rattle.table.specs.Address.{addressOf}
+use Rattle.rules.specs.declared.Arrival.{Arrival}
+use Rattle.rules.specs.Decision.{_above_}
+use Rattle.rules.specs.Walk.{Walked, tableAt}
+use Rattle.point.specs.declared.Outcome.{Outcome}
+use Rattle.point.specs.declared.Outcome.the-variants.{Accepted, Refused}
+use Rattle.bench_core.specs.declared.State.{State}
+use Rattle.bench_core.specs.declared.Printed.{Printed}
+use Rattle.bench_core.specs.declared.Done.{Done}
+use Rattle.bench_core.specs.declared.Done.the-variants.{Line, Fault}
+use Rattle.bench_core.specs.Links.{metricOf}
+use Rattle.bench_core.specs.Frames.{keep}
+use Rattle.bench_core.specs.Bench.{Bench, fault, line}
+use Rattle.bench_core.specs.Bench.{Done as Came}
+use Rattle.bench_core.specs.Commands.{addPoint, advance, link, walkTo}
+
+abbrev pub benchOf : State → List ℕ → List ℕ → Bench
+benchOf s tables slots = record { tables = tables; points = s .points; slots = slots; frames = s .frames; clock = s .clock }
+
+-- with what stands in the memory after the command; after a fault that plays no part
+abbrev pub doneIn : Done → List ℕ → List ℕ → Came
+doneIn Fault tables slots = fault
+doneIn (Line x) tables slots =
+    line (x .answer) (x .third) (record { tables = tables; points = x .points; slots = slots; frames = x .frames; clock = x .clock })
+
+-- a line after which the bench holds what it did
+abbrev pub printed : State → ℕ → ℕ → Done
+printed s answer third = Line (record { answer = answer; third = third; points = s .points; frames = s .frames; clock = s .clock })
+
+-- what is printed after n frames were emitted, and what stands in the slots
+abbrev pub keptAs : State → ℕ → Done
+keptAs s n = cond ((s .frames + n) above 128) Fault (printed (record { points = s .points; frames = s .frames + n; clock = s .clock }) 0 n)
+
+abbrev pub keptSlots : State → ℕ → (sender : ℕ) → (output slots : List ℕ) → List ℕ
+keptSlots s n sender output slots = cond ((s .frames + n) above 128) slots (keep slots output sender (s .frames) n 0)
+
+-- and after a call that may emit frames
+abbrev pub settledAs : State → Outcome → Done
+settledAs s (Refused n) = printed s n 0
+settledAs s (Accepted e) = keptAs s (e .frames)
+
+abbrev pub settledSlots : State → Outcome → (sender : ℕ) → (output slots : List ℕ) → List ℕ
+settledSlots s (Refused n) sender output slots = slots
+settledSlots s (Accepted e) sender output slots = keptSlots s (e .frames) sender output slots
+
+-- what the code's functions know of the memory and of the numbers beside it
+pub record Memory (s : State) (tables slots : List ℕ) : Type 0 where
+  pub tables-long : length tables ≡ 8704
+  pub slots-long : length slots ≡ 33792
+  pub few-points : s .points ≤ 16
+  pub few-frames : s .frames ≤ 128
+  pub in-time : s .clock ≤ 281474976710655
+
+-- a walk's line
+abbrev pub walkedAs : State → Walked → Done
+walkedAs s w = printed s (w .answer) (w .hops)
+
+-- how a frame of this sender comes in at point p
+abbrev pub arrivalOf : List ℕ → List (List ℕ) → ℕ → ℕ → ℕ → Arrival
+arrivalOf tables links clock sender p =
+    record { clock = clock; transmitter = addressOf (tableAt tables 544 sender); link = record { 0 = metricOf links sender p } }
+
+-- ---- commands that leave a part of the memory alone, whatever stands there
+
+unfoldable pub Adds : Done → State → Address → SequenceNumber → (tables tables′ : List ℕ) → Type 0
+Adds r s own number tables tables′ = (slots : List ℕ) → doneIn r tables′ slots ≡ addPoint (benchOf s tables slots) own number
+
+unfoldable pub Advances : Done → State → ℕ → Type 0
+Advances r s by = (tables slots : List ℕ) → doneIn r tables slots ≡ advance (benchOf s tables slots) by
+
+unfoldable pub Links : Done → State → (p q metric : ℕ) → (links links′ : List (List ℕ)) → Type 0
+Links r s p q metric links links′ =
+    (tables slots : List ℕ) → record { done = doneIn r tables slots; links = links′ } ≡ link (benchOf s tables slots) links p q metric
+
+unfoldable pub Walks : Done → State → (p q : ℕ) → (tables : List ℕ) → Type 0
+Walks r s p q tables = (slots : List ℕ) → doneIn r tables slots ≡ walkTo (benchOf s tables slots) p q

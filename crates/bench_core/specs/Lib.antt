@@ -1,0 +1,6 @@
+pub mod Links
+pub mod Frames
+pub mod Bench
+pub mod Commands
+pub mod Interpreter
+pub mod InCode

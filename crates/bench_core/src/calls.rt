@@ -1,0 +1,133 @@
+// The commands that make a point call: ask, announce, deliver and break.
+use crate::Done;
+use crate::State;
+use crate::frames;
+use crate::links;
+use crate::points;
+use crate::points::TABLE;
+use crate::settle;
+use counters::Metric;
+use point::announce;
+use point::ask;
+use point::break_neighbour;
+use rules::Arrival;
+ghost use mathlib.Core.Path.{_≡_};
+ghost use Prim.Native.Nat.{_<_, _≤_};
+ghost use lib.ListN.{length};
+ghost use Rattle.bench_core.specs.Commands.{announceSelf, askFor, breakOff, deliver, handedOver};
+ghost use Rattle.bench_core.specs.InCode.{Memory, arrivalOf, benchOf, doneIn};
+
+// Octets of the output that the bench lends to a call.
+const OUTPUT: usize = 1560;
+
+pub fn announce_self(s: State, p: u8, lifetime: u32, tables: &mut [u8], slots: &mut [u8]) -> Done
+    requires { ⌜ Memory s (now tables) (now slots) ⌝ }
+    ensures { λ r. ⌜ doneIn r (now (tables .exit)) (now (slots .exit)) ≡ announceSelf (benchOf s (now (tables .entry)) (now (slots .entry))) p lifetime ⌝ }
+{
+    if s.points <= p as usize {
+        return Done::Fault;
+    }
+    let at = TABLE * p as usize;
+    let mut output = [0u8; OUTPUT];
+    let outcome = announce::announce(&mut tables[at..at + TABLE], &mut output, 0, lifetime);
+    settle::settle(s, p, outcome, &output, slots)
+}
+
+// The item of the one destination is its flags and its address.
+pub fn ask_for(
+    s: State,
+    p: u8,
+    item: &[u8],
+    lifetime: u32,
+    tables: &mut [u8],
+    slots: &mut [u8],
+) -> Done
+    requires { ⌜ Memory s (now tables) (now slots) ⌝ }
+    ensures { λ r. ⌜ doneIn r (now (tables .exit)) (now (slots .exit)) ≡ askFor (benchOf s (now (tables .entry)) (now (slots .entry))) p (now (item .entry)) lifetime ⌝ }
+{
+    if s.points <= p as usize {
+        return Done::Fault;
+    }
+    let at = TABLE * p as usize;
+    let mut output = [0u8; OUTPUT];
+    let outcome = ask::ask(&mut tables[at..at + TABLE], &mut output, lifetime, item);
+    settle::settle(s, p, outcome, &output, slots)
+}
+
+// The neighbour is another point, or the point itself, which is refused.
+pub fn break_off(s: State, p: u8, q: u8, tables: &mut [u8], slots: &mut [u8]) -> Done
+    requires { ⌜ Memory s (now tables) (now slots) ⌝ }
+    ensures { λ r. ⌜ doneIn r (now (tables .exit)) (now (slots .exit)) ≡ breakOff (benchOf s (now (tables .entry)) (now (slots .entry))) p q ⌝ }
+{
+    if s.points <= p as usize {
+        return Done::Fault;
+    }
+    if s.points <= q as usize {
+        return Done::Fault;
+    }
+    let neighbour = points::address_of(tables, q as usize);
+    let at = TABLE * p as usize;
+    let mut output = [0u8; OUTPUT];
+    let part = &mut tables[at..at + TABLE];
+    let outcome = break_neighbour::break_neighbour(part, &mut output, s.clock, neighbour);
+    settle::settle(s, p, outcome, &output, slots)
+}
+
+// How a frame comes in from its sender: over the link between the two points.
+fn arrival_from(tables: &[u8], links: &[[u32; 16]; 16], clock: u64, sender: u8, p: u8) -> Arrival
+    requires { ⌜ length (now tables) ≡ 8704 ⌝ }
+    requires { ⌜ (sender < 16) × (p < 16) ⌝ }
+    ensures { λ r. ⌜ r ≡ arrivalOf (now (tables .entry)) (now (links .entry)) clock sender p ⌝ }
+{
+    Arrival {
+        clock,
+        transmitter: points::address_of(tables, sender as usize),
+        link: Metric(links::metric_between(links, sender as usize, p as usize)),
+    }
+}
+
+// Point p receives the element of frame k.
+fn hand_over(
+    s: State,
+    k: usize,
+    p: u8,
+    arrival: Arrival,
+    tables: &mut [u8],
+    slots: &mut [u8],
+) -> Done
+    requires { ⌜ Memory s (now tables) (now slots) ⌝ }
+    requires { ⌜ (k < s .frames) × (p < s .points) ⌝ }
+    ensures { λ r. ⌜ doneIn r (now (tables .exit)) (now (slots .exit)) ≡ handedOver (benchOf s (now (tables .entry)) (now (slots .entry))) k p arrival ⌝ }
+{
+    let at = TABLE * p as usize;
+    let mut output = [0u8; OUTPUT];
+    let part = &mut tables[at..at + TABLE];
+    let outcome = receive::receive(part, &mut output, arrival, frames::element_of(slots, k));
+    settle::settle(s, p, outcome, &output, slots)
+}
+
+// Frame k from its sender to point p, whoever its receiver is.
+pub fn deliver_frame(
+    s: State,
+    k: u16,
+    p: u8,
+    tables: &mut [u8],
+    slots: &mut [u8],
+    links: &[[u32; 16]; 16],
+) -> Done
+    requires { ⌜ Memory s (now tables) (now slots) ⌝ }
+    ensures { λ r. ⌜ doneIn r (now (tables .exit)) (now (slots .exit)) ≡ deliver (benchOf s (now (tables .entry)) (now (slots .entry))) (now (links .entry)) k p ⌝ }
+{
+    if s.frames <= k as usize {
+        return Done::Fault;
+    }
+    if s.points <= p as usize {
+        return Done::Fault;
+    }
+    let sender = frames::sender_of(slots, k as usize);
+    if s.points <= sender as usize {
+        return Done::Fault;
+    }
+    let arrival = arrival_from(tables, links, s.clock, sender, p);
+    hand_over(s, k as usize, p, arrival, tables, slots)
+}

@@ -1,0 +1,83 @@
+// Which command it is, and whether all its operands are there.
+use crate::Done;
+use crate::State;
+use crate::operands;
+ghost use mathlib.Core.Path.{_≡_};
+ghost use Prim.Native.Nat.{_<_, _≤_};
+ghost use lib.ListN.{length};
+ghost use Rattle.bench_core.specs.InCode.{Memory, benchOf, doneIn};
+ghost use Rattle.bench_core.specs.Interpreter.{command, lengthOf, obeyed};
+
+// Octets of a command with its operands; 0 if there is no such command.
+pub fn length_of(command: u8) -> usize
+    ensures { λ r. ⌜ r ≡ lengthOf command ⌝ }
+{
+    let lengths = [0usize, 11, 5, 7, 13, 6, 4, 3, 3];
+    let i = command as usize;
+    if lengths.len() <= i {
+        return 0;
+    }
+    lengths[i]
+}
+
+fn obey(
+    command: u8,
+    input: &[u8],
+    s: State,
+    tables: &mut [u8],
+    slots: &mut [u8],
+    links: &mut [[u32; 16]; 16],
+) -> Done
+    requires { ⌜ lengthOf command ≤ length (now input) ⌝ }
+    requires { ⌜ Memory s (now tables) (now slots) ⌝ }
+    ensures { λ r. ⌜ record { done = doneIn r (now (tables .exit)) (now (slots .exit)); links = now (links .exit) } ≡ obeyed (benchOf s (now (tables .entry)) (now (slots .entry))) (now (links .entry)) (now (input .entry)) command ⌝ }
+{
+    if command == 1 {
+        return operands::point(input, s, tables);
+    }
+    if command == 2 {
+        return operands::advance(input, s);
+    }
+    if command == 3 {
+        return operands::link(input, s, links);
+    }
+    if command == 4 {
+        return operands::ask(input, s, tables, slots);
+    }
+    if command == 5 {
+        return operands::announce(input, s, tables, slots);
+    }
+    if command == 6 {
+        return operands::deliver(input, s, tables, slots, links);
+    }
+    if command == 7 {
+        return operands::break_off(input, s, tables, slots);
+    }
+    if command == 8 {
+        return operands::walk(input, s, tables);
+    }
+    Done::Fault
+}
+
+// The command at the start of the input.
+pub fn obey_first(
+    input: &[u8],
+    s: State,
+    tables: &mut [u8],
+    slots: &mut [u8],
+    links: &mut [[u32; 16]; 16],
+) -> Done
+    requires { ⌜ 0 < length (now input) ⌝ }
+    requires { ⌜ Memory s (now tables) (now slots) ⌝ }
+    ensures { λ r. ⌜ record { done = doneIn r (now (tables .exit)) (now (slots .exit)); links = now (links .exit) } ≡ command (benchOf s (now (tables .entry)) (now (slots .entry))) (now (links .entry)) (now (input .entry)) ⌝ }
+{
+    let command = octets::read_u8(input, 0);
+    let length = length_of(command);
+    if length == 0 {
+        return Done::Fault;
+    }
+    if input.len() < length {
+        return Done::Fault;
+    }
+    obey(command, input, s, tables, slots, links)
+}

@@ -1,0 +1,105 @@
+// The points: their tables side by side, and the commands that add one, walk between two and advance their clock.
+use crate::Done;
+use crate::State;
+use counters::SequenceNumber;
+use point::fresh;
+use table::address::Address;
+use table::legal;
+use walk::Ending;
+use walk::pieces;
+ghost use mathlib.Core.Path.{_≡_};
+ghost use Prim.Native.Nat.{_<_, _≤_};
+ghost use lib.ListN.{length};
+ghost use Rattle.table.specs.Address.{addressOf};
+ghost use Rattle.rules.specs.Walk.{tableAt, walkedAtExit};
+ghost use Rattle.walk.specs.Answers.{decisionOf};
+ghost use Rattle.bench_core.specs.InCode.{Adds, Advances, Walks, walkedAs};
+
+pub const MOST_POINTS: usize = 16;
+
+// Octets of a table with 16 rows.
+pub const TABLE: usize = 544;
+
+// The address of a point.
+pub fn address_of(tables: &[u8], p: usize) -> Address
+    requires { ⌜ length (now tables) ≡ 8704 ⌝ }
+    requires { ⌜ p < 16 ⌝ }
+    ensures { λ r. ⌜ r ≡ addressOf (tableAt (now (tables .entry)) 544 p) ⌝ }
+{
+    pieces::point_at(tables, TABLE, MOST_POINTS, p)
+}
+
+pub fn add_point(s: State, own: Address, number: SequenceNumber, tables: &mut [u8]) -> Done
+    requires { ⌜ length (now tables) ≡ 8704 ⌝ }
+    ensures { λ r. ⌜ Adds r s own number (now (tables .entry)) (now (tables .exit)) ⌝ }
+{
+    let p = s.points;
+    if MOST_POINTS <= p {
+        return Done::Fault;
+    }
+    let at = TABLE * p;
+    let part = &mut tables[at..at + TABLE];
+    let answer = point::number_of(fresh::make_fresh(part, own, number));
+    if answer != 0 {
+        return s.prints(answer, 0);
+    }
+    let after = State {
+        points: p + 1,
+        frames: s.frames,
+        clock: s.clock,
+    };
+    after.prints(0, 0)
+}
+
+pub fn advance_clock(s: State, by: u32) -> Done
+    requires { ⌜ s .clock ≤ 281474976710655 ⌝ }
+    ensures { λ r. ⌜ Advances r s by ⌝ }
+{
+    let clock = s.clock + by as u64;
+    if legal::MAX_CLOCK < clock {
+        return Done::Fault;
+    }
+    let after = State {
+        points: s.points,
+        frames: s.frames,
+        clock,
+    };
+    after.prints(0, 0)
+}
+
+// A walk's line: its answer and the hops walked.
+fn walked_line(s: State, ending: Ending) -> Done
+    ensures { λ r. ⌜ r ≡ walkedAs s (walkedAtExit (decisionOf ending)) ⌝ }
+{
+    match ending {
+        Ending::Arrived(hops) => s.prints(0, hops.0 as u32),
+        Ending::Stopped(hops) => s.prints(41, hops.0 as u32),
+        Ending::TooLong(hops) => s.prints(42, hops.0 as u32),
+        Ending::Refused(n) => s.prints(n, 0),
+    }
+}
+
+pub fn walk_to(s: State, p: u8, q: u8, tables: &[u8]) -> Done
+    requires { ⌜ length (now tables) ≡ 8704 ⌝ }
+    requires { ⌜ s .points ≤ 16 ⌝ }
+    ensures { λ r. ⌜ Walks r s p q (now (tables .entry)) ⌝ }
+{
+    let points = s.points;
+    if points <= p as usize {
+        return Done::Fault;
+    }
+    if points <= q as usize {
+        return Done::Fault;
+    }
+    let start = address_of(tables, p as usize);
+    let destination = address_of(tables, q as usize);
+    let octets = TABLE * points;
+    let ending = walk::walk(
+        &tables[..octets],
+        points as u32,
+        s.clock,
+        start,
+        destination,
+    );
+    walked_line(s, ending)
+}
