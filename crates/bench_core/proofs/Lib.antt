@@ -3,3 +3,5 @@ mod Settling
 mod Calling
 mod Standing
 mod Obeying
+mod Printing
+mod Bounds

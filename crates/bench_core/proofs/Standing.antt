@@ -3,9 +3,8 @@ use Prim.Native.Nat.{ℕ, _+_, _-_, _*_, _^_, _<_, _≤_}
 use mathlib.Core.Path.{_≡_, refl, sym, ap, _∙_}
 use mathlib.Core.Bool.{Bool, true, false, not, cond}
 use mathlib.Core.List.{List}
-use lib.ListN.{length, take, drop, length-take}
+use lib.ListN.{length, take, drop}
 use native.Mathlib.Omega.{arith}
-use native.Mathlib.Nat.{min-eq-left}
 use borrow.Author.Tests.{lt-ltb, le-ltb}
 use borrow.Rule.Slice.PartMut.{putMid, put-same}
 use Rattle.counters.specs.declared.HopCount.{HopCount}
@@ -32,6 +31,7 @@ use Rattle.bench_core.specs.Commands.{addPoint, advance, link, walkTo}
 use Rattle.bench_core.specs.InCode.{benchOf, doneIn, printed, walkedAs, Adds, Advances, Links, Walks}
 use Rattle.bench_core.proofs.Settling.{put-back}
 use Rattle.bench_core.proofs.Calling.{lent-table}
+use Rattle.bench_core.proofs.Printing.{front-long}
 
 pub sixteen-tables : (tables : List ℕ) → length tables ≡ 8704 → Pieces tables 544 16
 sixteen-tables tables e = record { some-piece = omega arith; few = omega arith; whole = sym e; with-head = omega arith }
@@ -133,8 +133,8 @@ module _ (s : State) (e : Ending) (r : Done) where
   pub line-refused : (n : ℕ) → e ≡ Refused n → r ≡ printed s n 0 → r ≡ walkedAs s (walkedAtExit (decisionOf e))
   line-refused n ee re = rw ee re
 
-pub front-long : (tables : List ℕ) → length tables ≡ 8704 → (n : ℕ) → n ≤ 16 → 544 * n ≡ length (take (544 * n) tables)
-front-long tables e n few = sym (length-take (544 * n) tables ∙ min-eq-left (omega arith))
+pub points-long : (tables : List ℕ) → length tables ≡ 8704 → (n : ℕ) → n ≤ 16 → 544 * n ≡ length (take (544 * n) tables)
+points-long tables e n few = front-long tables (544 * n) (omega arith)
 
 module _ (s : State) (p q : ℕ) (tables : List ℕ) where
   pub start-unknown : s .points ≤ p → Walks Fault s p q tables

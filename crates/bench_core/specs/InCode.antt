@@ -12,6 +12,7 @@ use Rattle.rules.specs.Decision.{_above_}
 use Rattle.rules.specs.Walk.{Walked, tableAt}
 use Rattle.point.specs.declared.Outcome.{Outcome}
 use Rattle.point.specs.declared.Outcome.the-variants.{Accepted, Refused}
+use Rattle.bench_core.specs.declared.block.Progress.{Progress}
 use Rattle.bench_core.specs.declared.State.{State}
 use Rattle.bench_core.specs.declared.Printed.{Printed}
 use Rattle.bench_core.specs.declared.Done.{Done}
@@ -51,6 +52,10 @@ abbrev pub settledSlots : State → Outcome → (sender : ℕ) → (output slots
 settledSlots s (Refused n) sender output slots = slots
 settledSlots s (Accepted e) sender output slots = keptSlots s (e .frames) sender output slots
 
+-- what holds of the numbers beside the memory
+abbrev pub Bounded : (points frames clock : ℕ) → Type 0
+Bounded points frames clock = (points ≤ 16) × (frames ≤ 128) × (clock ≤ 281474976710655)
+
 -- what the code's functions know of the memory and of the numbers beside it
 pub record Memory (s : State) (tables slots : List ℕ) : Type 0 where
   pub tables-long : length tables ≡ 8704
@@ -82,3 +87,7 @@ Links r s p q metric links links′ =
 
 unfoldable pub Walks : Done → State → (p q : ℕ) → (tables : List ℕ) → Type 0
 Walks r s p q tables = (slots : List ℕ) → doneIn r tables slots ≡ walkTo (benchOf s tables slots) p q
+
+-- a block of n octets may be so far, with a text of so many octets
+abbrev pub Stands : Progress → (n room : ℕ) → Type 0
+Stands p n room = (p .used ≤ n) × (p .written ≤ room) × Bounded (p .points) (p .frames) (p .clock)

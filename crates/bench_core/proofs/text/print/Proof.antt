@@ -1,0 +1,13 @@
+-- `bench_core::text::print` meets its contract. Assumes nothing.
+use borrow.Author.Needs.{needs}
+use Rattle.bench_core.proofs.Printing.{front-long}
+use Rattle.bench_core.proofs.text.print.Statement.{statement}
+use Rattle.bench_core.proofs.text.print.Tie as tie
+
+pub print-spec : {M : Type 1} → statement M
+print-spec =
+    tie.close
+    (tie.spec
+    (λ c. search front-long)
+    (λ c κs. search needs)
+    (λ c. search needs))

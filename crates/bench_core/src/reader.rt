@@ -1,0 +1,86 @@
+// Commands come in blocks of standard input, and a block may end inside a command.
+use libc::STDIN_FILENO;
+ghost use mathlib.Core.Path.{_≡_};
+ghost use Prim.Native.Nat.{_+_, _-_, _<_, _≤_};
+ghost use lib.ListN.{length};
+
+// No command is longer.
+pub const LONGEST_COMMAND: usize = 13;
+
+// Which octets of the buffer are still to be obeyed, whether standard input has ended, and the offset of the first of them.
+pub struct Cursor {
+    pub from: usize,
+    pub filled: usize,
+    pub last: bool,
+    pub offset: u64,
+}
+
+pub fn start() -> Cursor
+    ensures { λ r. ⌜ (r .from ≡ 0) × (r .filled ≡ 0) ⌝ }
+{
+    Cursor {
+        from: 0,
+        filled: 0,
+        last: false,
+        offset: 0,
+    }
+}
+
+// Moves what is left to the start of the buffer, and answers how much that is.
+fn move_to_start(buffer: &mut [u8], from: usize, filled: usize) -> usize
+    requires { ⌜ (from ≤ filled) × (filled ≤ length (now buffer)) ⌝ }
+    ensures { λ r. ⌜ r ≤ filled - from ⌝ }
+{
+    let n = filled - from;
+    let mut i = 0;
+    while i < n {
+        buffer[i] = buffer[from + i];
+        i += 1;
+    }
+    n
+}
+
+// One read into the buffer from a place on: how many octets came.
+fn read_from(buffer: &mut [u8], at: usize) -> usize
+    requires { ⌜ at ≤ length (now buffer) ⌝ }
+    ensures { λ r. ⌜ at + r ≤ length (now (buffer .exit)) ⌝ }
+{
+    let part = &mut buffer[at..];
+    let got = libc::read(STDIN_FILENO, part);
+    io::count(got, part)
+}
+
+// Reads on where less than a command may be left.
+pub fn refill(buffer: &mut [u8], c: Cursor) -> Cursor
+    requires { ⌜ (c .from ≤ c .filled) × (c .filled ≤ length (now buffer)) ⌝ }
+    ensures { λ r. ⌜ (r .from ≤ r .filled) × (r .filled ≤ length (now (buffer .exit))) ⌝ }
+{
+    let from = c.from;
+    let filled = c.filled;
+    if c.last | (LONGEST_COMMAND <= filled - from) {
+        return c;
+    }
+    let left = move_to_start(buffer, from, filled);
+    let got = read_from(buffer, left);
+    Cursor {
+        from: 0,
+        filled: left + got,
+        last: got == 0,
+        offset: c.offset,
+    }
+}
+
+// After so many octets were obeyed.
+pub fn go_past(c: Cursor, used: usize) -> Cursor
+    requires { ⌜ c .from + used ≤ c .filled ⌝ }
+    ensures { λ r. ⌜ (r .from ≤ r .filled) × (r .filled ≡ c .filled) ⌝ }
+{
+    let from = c.from;
+    let offset = c.offset;
+    Cursor {
+        from: from + used,
+        filled: c.filled,
+        last: c.last,
+        offset: std::num::wrapping_add_u64(offset, used as u64),
+    }
+}
