@@ -1,9 +1,10 @@
 //! The calls as values, so that tests and benchmarks run one text on each of the
 //! implementations.
 
-use crate::library::{self, Hop, Outcome};
+use crate::library::{self, Hop, Outcome, Walked};
 use crate::reference::{
     Address, Emitted, Metric, Refusal, SequenceNumber, answer, breaks, calls, originate, receive,
+    walk,
 };
 
 pub struct Implementation {
@@ -16,6 +17,7 @@ pub struct Implementation {
     pub root_request: Originate,
     pub report_break: Break,
     pub receive: Receive,
+    pub walk: Walk,
 }
 
 /// On a table and an output, with lifetime and items.
@@ -30,6 +32,9 @@ pub type Break = fn(&mut [u8], &mut [u8], u64, &[u8; 6]) -> Outcome;
 /// With clock, transmitter, link metric and element.
 pub type Receive = fn(&mut [u8], &mut [u8], u64, &[u8; 6], u32, &[u8]) -> Outcome;
 
+/// On tables side by side, with their count, clock, start and destination.
+pub type Walk = fn(&[u8], u32, u64, &[u8; 6], &[u8; 6]) -> Walked;
+
 pub const LIBRARY: Implementation = Implementation {
     name: "library",
     fresh: library::fresh,
@@ -40,6 +45,7 @@ pub const LIBRARY: Implementation = Implementation {
     root_request: library::root_request,
     report_break: library::report_break,
     receive: library::receive,
+    walk: library::walk,
 };
 
 pub const REFERENCE: Implementation = Implementation {
@@ -72,6 +78,15 @@ pub const REFERENCE: Implementation = Implementation {
             element,
         ))
     },
+    walk: |tables, count, clock, start, destination| {
+        walked(walk::walk(
+            tables,
+            count,
+            clock,
+            Address(*start),
+            Address(*destination),
+        ))
+    },
 };
 
 /// A refusal carries zeros beside its number.
@@ -89,5 +104,19 @@ fn outcome(emitted: Result<Emitted, Refusal>) -> Outcome {
         answer: answer(emitted),
         frames: frames as u32,
         octets: octets as u32,
+    }
+}
+
+/// 41 and 42 are answers and carry the hops; a refusal carries zero.
+fn walked(walked: Result<walk::Walked, Refusal>) -> Walked {
+    match walked {
+        Ok(walk::Walked { end, hops }) => Walked {
+            answer: end as u32,
+            hops: hops as u32,
+        },
+        Err(refusal) => Walked {
+            answer: refusal as u32,
+            hops: 0,
+        },
     }
 }

@@ -17,8 +17,16 @@ pub struct Outcome {
     pub octets: u32,
 }
 
+/// `struct hwmp_walked`
+#[repr(C)]
+#[derive(Clone, Copy, Debug, PartialEq, Eq)]
+pub struct Walked {
+    pub answer: u32,
+    pub hops: u32,
+}
+
 pub mod raw {
-    use super::{Hop, Outcome};
+    use super::{Hop, Outcome, Walked};
 
     unsafe extern "C" {
         pub fn hwmp_fresh(table: *mut u8, table_len: usize, own: *const u8, number: u32) -> u32;
@@ -73,6 +81,14 @@ pub mod raw {
             element: *const u8,
             element_len: usize,
         ) -> Outcome;
+        pub fn hwmp_walk(
+            tables: *const u8,
+            tables_len: usize,
+            count: u32,
+            clock: u64,
+            start: *const u8,
+            destination: *const u8,
+        ) -> Walked;
     }
 }
 
@@ -151,4 +167,16 @@ pub fn receive(
             element_len,
         )
     }
+}
+
+pub fn walk(
+    tables: &[u8],
+    count: u32,
+    clock: u64,
+    start: &[u8; 6],
+    destination: &[u8; 6],
+) -> Walked {
+    let (tables, tables_len) = (tables.as_ptr(), tables.len());
+    let (start, destination) = (start.as_ptr(), destination.as_ptr());
+    unsafe { raw::hwmp_walk(tables, tables_len, count, clock, start, destination) }
 }

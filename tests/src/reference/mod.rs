@@ -14,6 +14,7 @@ pub mod originate;
 pub mod receive;
 mod refusal;
 pub mod table;
+pub mod walk;
 
 pub use address::Address;
 pub use counters::{HopCount, Metric, RequestId, SequenceNumber};
