@@ -1,11 +1,10 @@
 //! Calls made on the library and on the reference, with equal operands on equal tables, and
 //! held together octet by octet.
 
-mod frames;
 mod pair;
 mod point;
 mod tally;
 
-pub use frames::frames;
+pub use crate::reference::cut_frames as frames;
 pub use point::{Point, Run};
 pub use tally::{Listed, Tally};

@@ -2,6 +2,7 @@
 //! against it, and the benchmarks take it as the plain Rust version.
 
 mod address;
+pub mod bench;
 pub mod breaks;
 pub mod calls;
 mod checks;
@@ -18,5 +19,5 @@ pub mod walk;
 
 pub use address::Address;
 pub use counters::{HopCount, Metric, RequestId, SequenceNumber};
-pub use frames::{Emitted, LEAST_OUTPUT};
+pub use frames::{Emitted, LEAST_OUTPUT, cut_frames};
 pub use refusal::{Refusal, answer};

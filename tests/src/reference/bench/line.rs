@@ -1,0 +1,39 @@
+use std::fmt::{self, Display};
+
+/// What the bench prints: a line for each command, or the one that ends the run.
+#[derive(Clone, Copy, Debug, PartialEq, Eq)]
+pub enum Line {
+    Done(Done),
+    Ended { offset: usize, fault: Fault },
+}
+
+/// What came of a command.
+#[derive(Clone, Copy, Debug, PartialEq, Eq)]
+pub struct Done {
+    /// The command's octet.
+    pub command: u8,
+    /// The answer or refusal of its call.
+    pub answer: u32,
+    /// The frames emitted; for a walk the hops.
+    pub third: usize,
+}
+
+/// Why a run ends. Its line does not show which it was.
+#[derive(Clone, Copy, Debug, PartialEq, Eq)]
+pub enum Fault {
+    UnknownCommand,
+    CutOperand,
+    BadIndex,
+    SeventeenthPoint,
+    FrameBeyond128,
+    Clock,
+}
+
+impl Display for Line {
+    fn fmt(&self, to: &mut fmt::Formatter) -> fmt::Result {
+        match self {
+            Line::Done(done) => writeln!(to, "{} {} {}", done.command, done.answer, done.third),
+            Line::Ended { offset, .. } => writeln!(to, "E {offset}"),
+        }
+    }
+}
