@@ -22,8 +22,8 @@ const NO_ACCESS: c_int = 0;
 const READ_AND_WRITE: c_int = 1 | 2;
 const PRIVATE_AND_ANONYMOUS: c_int = 2 | 0x20;
 
-/// A multiple of any page size.
-const SPAN: usize = 1 << 16;
+/// A multiple of any page size, with room for the longest tables of a walk.
+const SPAN: usize = 1 << 17;
 
 /// Which end of the lent octets touches the fence.
 #[derive(Clone, Copy, Debug)]

@@ -1,10 +1,11 @@
-use crate::fence::{Fence, Side};
+use crate::fence::Fence;
 use crate::implementation::{Implementation, LIBRARY, REFERENCE};
 use crate::library::Outcome;
 use crate::random::Random;
 use crate::received::Received;
 use crate::tables;
 
+use super::lending::{lend, lend_address};
 use super::pair::Pair;
 use super::tally::Tally;
 
@@ -25,15 +26,6 @@ impl Run {
             element_fence: Fence::build(),
         }
     }
-}
-
-fn lend<'a>(octets: &[u8], fence: &'a mut Fence, random: &mut Random) -> &'a [u8] {
-    fence.lend(octets, random.pick(&Side::BOTH))
-}
-
-fn lend_address<'a>(address: [u8; 6], fence: &'a mut Fence, random: &mut Random) -> &'a [u8; 6] {
-    let lent = lend(&address, fence, random);
-    lent.try_into().expect("as many octets as were lent")
 }
 
 /// A table that both implementations have, and the calls compared on it.

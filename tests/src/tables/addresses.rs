@@ -82,3 +82,17 @@ pub fn one_bit_off(mut address: [u8; 6], random: &mut Random) -> [u8; 6] {
     address[random.below(6)] ^= 1 << random.below(8);
     address
 }
+
+/// Different addresses that differ in one octet only, or in all.
+pub fn some_addresses(count: usize, random: &mut Random) -> Vec<[u8; 6]> {
+    let base = individual(random).0;
+    let octet = random.below(6);
+    let alike = random.one_in(2);
+    let address = |place: usize| {
+        let mut address = if alike { base } else { individual(random).0 };
+        // Even, as the first octet of an individual address is.
+        address[octet] = 2 + 2 * place as u8;
+        address
+    };
+    (0..count).map(address).collect()
+}

@@ -46,10 +46,15 @@ fn in_row<const N: usize>(octets: &mut [u8], at: usize, value: [u8; N], random: 
     octets[start..start + N].copy_from_slice(&value);
 }
 
+/// Does one damage to a table.
+pub fn damage(octets: &mut [u8], random: &mut Random) {
+    let damage = random.pick(&DAMAGES);
+    damage(octets, random);
+}
+
 /// A legal table with one damage done to it.
 pub fn damaged(rows: usize, random: &mut Random) -> Vec<u8> {
     let mut octets = legal(rows, random);
-    let damage = random.pick(&DAMAGES);
     damage(&mut octets, random);
     octets
 }

@@ -14,8 +14,8 @@ use crate::reference::{Address, HopCount, Metric, RequestId, SequenceNumber};
 
 use addresses::Family;
 
-pub use addresses::{individual, not_individual, one_bit_off};
-pub use damage::{damaged, junk, resized};
+pub use addresses::{individual, not_individual, one_bit_off, some_addresses};
+pub use damage::{damage, damaged, junk, resized};
 pub use items::some_items;
 pub use operands::{
     some_clock, some_destination, some_flags, some_lifetime, some_neighbour, some_output_length,

@@ -9,7 +9,7 @@ mod table_octets;
 use std::collections::BTreeMap;
 
 use hwmp_tests::implementation::{Implementation, LIBRARY, REFERENCE};
-use hwmp_tests::library::Outcome;
+use hwmp_tests::library::{Outcome, Walked};
 use hwmp_tests::reference::table::{Flaw, Table};
 
 use sample::{PLACES, Sample};
@@ -21,12 +21,15 @@ const NEXT_HOP: [u8; 6] = [0x20, 0, 0, 0, 0, 2];
 const ABSENT: [u8; 6] = [0x30, 0, 0, 0, 0, 3];
 const LAST_CLOCK: u64 = (1 << 48) - 1;
 
-/// Asks both implementations for a destination without a row, so that a table gives 29 and
-/// 28; the clock is the last one, which no table is ahead of.
+/// Asks both implementations for a destination without a row, so that a table gives 29, 28 and
+/// 41; the clock is the last one, which no table is ahead of.
 fn judge(octets: &[u8], breaks: Option<Flaw>, what: &str) {
     let flaw = Table::cut(octets).expect("a table's length").check().err();
     assert_eq!(flaw, breaks, "{what}: the case breaks another clause");
-    let (forget, next_hop) = if breaks.is_some() { (21, 21) } else { (29, 28) };
+    let [forget, next_hop, walk] = match breaks {
+        Some(_) => [21, 21, 21],
+        None => [29, 28, 41],
+    };
     for by in [&LIBRARY, &REFERENCE] {
         let mut lent = octets.to_vec();
         let answer = (by.forget)(&mut lent, &ABSENT);
@@ -34,6 +37,13 @@ fn judge(octets: &[u8], breaks: Option<Flaw>, what: &str) {
         let hop = (by.next_hop)(&lent, LAST_CLOCK, &ABSENT);
         assert_eq!(hop.answer, next_hop, "{what}: next hop by the {}", by.name);
         assert_eq!(hop.address, ZERO, "{what}: next hop by the {}", by.name);
+        let own = octets.first_chunk().expect("a table's length");
+        let walked = (by.walk)(&lent, 1, LAST_CLOCK, own, &ABSENT);
+        let expected = Walked {
+            answer: walk,
+            hops: 0,
+        };
+        assert_eq!(walked, expected, "{what}: walk by the {}", by.name);
         assert_eq!(lent, octets, "{what}: octets changed by the {}", by.name);
         judge_emitting(by, octets, breaks, what);
     }

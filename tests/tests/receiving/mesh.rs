@@ -44,7 +44,7 @@ impl Mesh {
         let few = 1 + random.below(3);
         let many = count + random.below(16);
         let rows = random.pick(&[few, count - 1, many, many]);
-        let addresses = some_addresses(count, random);
+        let addresses = tables::some_addresses(count, random);
         let start = some_start(random);
         let points = addresses.iter().map(|address| {
             let mut point = Point::new(&vec![0xEE; tables::length(rows)], &mut run.random);
@@ -254,23 +254,6 @@ impl Mesh {
             }
         }
     }
-}
-
-/// Addresses that differ in one octet only, or in all.
-fn some_addresses(count: usize, random: &mut Random) -> Vec<[u8; 6]> {
-    let base = tables::individual(random).0;
-    let octet = 1 + random.below(5);
-    let alike = random.one_in(2);
-    let address = |place: usize| {
-        let mut address = if alike {
-            base
-        } else {
-            tables::individual(random).0
-        };
-        address[octet] = 1 + place as u8;
-        address
-    };
-    (0..count).map(address).collect()
 }
 
 /// Near which number the points of a mesh start; each near another one if there is none.

@@ -1,0 +1,62 @@
+use crate::fence::Fence;
+use crate::implementation::{LIBRARY, REFERENCE};
+use crate::library::Walked;
+use crate::random::Random;
+
+use super::lending::{lend, lend_address};
+use super::tally::Tally;
+
+/// The operands of a walk.
+#[derive(Clone, Debug)]
+pub struct Walk {
+    /// Tables side by side.
+    pub tables: Vec<u8>,
+    pub count: u32,
+    pub clock: u64,
+    pub start: [u8; 6],
+    pub destination: [u8; 6],
+}
+
+/// What the comparisons of walks share. All octets are lent beside a fence of their own.
+pub struct Walks {
+    pub random: Random,
+    pub answers: Tally,
+    tables: Fence,
+    start: Fence,
+    destination: Fence,
+}
+
+impl Walks {
+    pub fn announced(purpose: &str, seed: u64) -> Walks {
+        Walks {
+            random: Random::announced(purpose, seed),
+            answers: Tally::default(),
+            tables: Fence::build(),
+            start: Fence::build(),
+            destination: Fence::build(),
+        }
+    }
+
+    /// Walks by both, which must agree. That nothing is changed, what a refusal carries and how
+    /// many hops there can be is known without the reference.
+    pub fn compare(&mut self, walk: &Walk) -> Walked {
+        let random = &mut self.random;
+        let tables = lend(&walk.tables, &mut self.tables, random);
+        let start = lend_address(walk.start, &mut self.start, random);
+        let destination = lend_address(walk.destination, &mut self.destination, random);
+        let [found, expected] = [LIBRARY, REFERENCE]
+            .map(|by| (by.walk)(tables, walk.count, walk.clock, start, destination));
+        assert_eq!(found, expected, "{walk:?}");
+        assert!(tables == walk.tables, "tables changed: {walk:?}");
+        let addresses = (*start, *destination);
+        assert_eq!(addresses, (walk.start, walk.destination), "{walk:?}");
+        let most = if [0, 41, 42].contains(&found.answer) {
+            walk.count
+        } else {
+            0
+        };
+        assert!(found.hops <= most, "{found:?} for {walk:?}");
+        self.answers.count("walk", found.answer);
+        found
+    }
+}

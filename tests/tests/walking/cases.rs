@@ -1,0 +1,308 @@
+//! Walks worked out by hand, a sentence of document 01 after the other.
+
+use hwmp_tests::fence::{Fence, Side};
+use hwmp_tests::library::Walked;
+use hwmp_tests::worked::{Address, BOTH, FREE, Row, table};
+
+pub const CLOCK: u64 = 1000;
+const EXPIRY: u64 = 6000;
+
+/// No point.
+pub const STRANGER: Address = [2, 0, 0, 0, 1, 1];
+
+pub fn address(point: usize) -> Address {
+    [2, 0, 0, 0, 0, 1 + point as u8]
+}
+
+/// A row that is active until EXPIRY.
+pub fn row(destination: Address, next_hop: Address) -> Row {
+    Row {
+        status: 1,
+        known: 1,
+        hop_count: 2,
+        destination,
+        next_hop,
+        number: 7,
+        metric: 30,
+        expiry: EXPIRY,
+    }
+}
+
+/// A point with these rows, which has heard nothing later than CLOCK.
+pub fn point(place: usize, rows: &[Row]) -> Vec<u8> {
+    let mut octets = table(5, 7, CLOCK, rows);
+    octets[..6].copy_from_slice(&address(place));
+    octets
+}
+
+/// A point without a row, in a table of one.
+fn ignorant(place: usize) -> Vec<u8> {
+    point(place, &[FREE])
+}
+
+/// A point whose one row leads to the destination through the next hop.
+fn leading(place: usize, destination: Address, next_hop: Address) -> Vec<u8> {
+    point(place, &[row(destination, next_hop)])
+}
+
+/// Points of which each leads to the destination through the one after it; the last has the
+/// row that is given.
+fn line(count: usize, destination: Address, last: Row) -> Vec<Vec<u8>> {
+    let next = |place| row(destination, address(place + 1));
+    let rows = (0..count - 1).map(next).chain([last]);
+    let points = rows.enumerate().map(|(place, row)| point(place, &[row]));
+    points.collect()
+}
+
+/// Both, on either side of a fence, must give that answer and those hops and change nothing.
+pub fn gives(
+    what: &str,
+    tables: &[Vec<u8>],
+    [start, destination]: [Address; 2],
+    (answer, hops): (u32, u32),
+) {
+    gives_at(what, CLOCK, tables, [start, destination], (answer, hops));
+}
+
+fn gives_at(
+    what: &str,
+    clock: u64,
+    tables: &[Vec<u8>],
+    [start, destination]: [Address; 2],
+    (answer, hops): (u32, u32),
+) {
+    let (fence, count) = (&mut Fence::build(), tables.len() as u32);
+    let octets = tables.concat();
+    for by in BOTH {
+        for side in Side::BOTH {
+            let lent = fence.lend(&octets, side);
+            let walked = (by.walk)(lent, count, clock, &start, &destination);
+            let name = by.name;
+            assert_eq!(walked, Walked { answer, hops }, "{what}: {name}, {side:?}");
+            assert!(lent == octets, "{what}: tables changed by {name}");
+        }
+    }
+}
+
+/// 'The walk's answer carries the hops walked, 0 from the destination itself.'
+#[test]
+fn from_the_destination_itself_there_are_no_hops() {
+    let [own, other] = [address(0), address(1)];
+    gives("alone", &[ignorant(0)], [own, own], (0, 0));
+    let both = [leading(0, other, other), leading(1, own, own)];
+    gives("beside another", &both, [other, other], (0, 0));
+}
+
+/// 'Answer 0: destination met, among the points or not.'
+#[test]
+fn a_destination_is_met_at_the_end_of_a_line() {
+    for count in 1..=16 {
+        let last = address(count - 1);
+        let known = line(count, last, FREE);
+        gives("a point", &known, [address(0), last], (0, count as u32 - 1));
+        let beyond = line(count, STRANGER, row(STRANGER, STRANGER));
+        gives(
+            "no point",
+            &beyond,
+            [address(0), STRANGER],
+            (0, count as u32),
+        );
+        for start in 0..count {
+            let hops = (count - start) as u32;
+            gives("on the way", &beyond, [address(start), STRANGER], (0, hops));
+        }
+    }
+}
+
+/// The tables stand side by side in any order.
+#[test]
+fn the_order_of_the_tables_plays_no_part() {
+    let mut tables = line(5, STRANGER, row(STRANGER, STRANGER));
+    for _ in 0..5 {
+        tables.rotate_left(1);
+        gives("turned", &tables, [address(0), STRANGER], (0, 5));
+        tables.reverse();
+        gives("reversed", &tables, [address(1), STRANGER], (0, 4));
+        tables.reverse();
+    }
+}
+
+/// '41: no active row.'
+#[test]
+fn without_a_row_there_is_no_way() {
+    let destination = address(3);
+    gives(
+        "at the start",
+        &[ignorant(0)],
+        [address(0), STRANGER],
+        (41, 0),
+    );
+    let cut = [
+        leading(0, destination, address(1)),
+        leading(1, destination, address(2)),
+        ignorant(2),
+        ignorant(3),
+    ];
+    gives("after two hops", &cut, [address(0), destination], (41, 2));
+    gives("after one", &cut, [address(1), destination], (41, 1));
+    gives("at once", &cut, [address(2), destination], (41, 0));
+    for count in 1..=16 {
+        let all = line(count, STRANGER, FREE);
+        let hops = count as u32 - 1;
+        gives("at the end", &all, [address(0), STRANGER], (41, hops));
+    }
+}
+
+/// Only the row for the destination counts, not one for the next hop or for another address.
+#[test]
+fn only_rows_for_the_destination_are_followed() {
+    let tables = [
+        point(
+            0,
+            &[row(address(1), address(1)), row(address(2), address(1))],
+        ),
+        point(1, &[row(address(0), address(0)), row(STRANGER, address(2))]),
+        point(2, &[row(STRANGER, STRANGER), FREE]),
+    ];
+    gives("none", &tables, [address(0), STRANGER], (41, 0));
+    gives("for it", &tables, [address(1), STRANGER], (0, 2));
+    gives("to a neighbour", &tables, [address(0), address(1)], (0, 1));
+    gives("half the way", &tables, [address(0), address(2)], (41, 1));
+}
+
+/// 'or a next hop that is neither a point nor the destination (not counted)'.
+#[test]
+fn a_hop_out_of_the_mesh_is_not_counted() {
+    let elsewhere = [2, 0, 0, 0, 1, 2];
+    for count in 1..=16 {
+        let tables = line(count, STRANGER, row(STRANGER, elsewhere));
+        let hops = count as u32 - 1;
+        gives("leaves", &tables, [address(0), STRANGER], (41, hops));
+    }
+    for count in 1..16 {
+        let destination = address(count);
+        let mut tables = line(count, destination, row(destination, elsewhere));
+        tables.push(ignorant(count));
+        let (way, hops) = ([address(0), destination], count as u32 - 1);
+        gives("leaves before a point", &tables, way, (41, hops));
+    }
+}
+
+/// A next hop that differs from a point in any one bit is no point.
+#[test]
+fn a_next_hop_much_like_a_point_is_none() {
+    for octet in 0..6 {
+        for bit in 0..8 {
+            let mut near = address(1);
+            near[octet] ^= 1 << bit;
+            let individual = near[0] & 1 == 0;
+            if !individual || near == address(0) {
+                continue;
+            }
+            let tables = [leading(0, STRANGER, near), leading(1, STRANGER, STRANGER)];
+            gives("near", &tables, [address(0), STRANGER], (41, 0));
+            let tables = [leading(0, near, address(1)), leading(1, STRANGER, STRANGER)];
+            gives("another", &tables, [address(0), STRANGER], (41, 0));
+        }
+    }
+}
+
+/// '42: as many hops as points without either.'
+#[test]
+fn in_a_ring_there_are_as_many_hops_as_points() {
+    for count in 2..=16 {
+        let hops = count as u32;
+        let ring = line(count, STRANGER, row(STRANGER, address(0)));
+        for start in 0..count {
+            gives("ring", &ring, [address(start), STRANGER], (42, hops));
+        }
+        // The last two lead to each other, and the others to them.
+        let into_a_ring = line(count, STRANGER, row(STRANGER, address(count - 2)));
+        let way = [address(0), STRANGER];
+        gives("line into a ring", &into_a_ring, way, (42, hops));
+    }
+    let beside = [
+        leading(0, address(2), address(1)),
+        leading(1, address(2), address(0)),
+        ignorant(2),
+    ];
+    gives("to a point", &beside, [address(0), address(2)], (42, 3));
+}
+
+/// 'follows rows active then': status 1, and the clock below expiry.
+#[test]
+fn rows_count_while_they_are_active() {
+    let way = [address(0), STRANGER];
+    let second = |row: Row| [leading(0, STRANGER, address(1)), point(1, &[row])];
+    let sound = row(STRANGER, STRANGER);
+    gives("lasting", &second(sound), way, (0, 2));
+    let invalidated = Row { status: 2, ..sound };
+    gives("invalidated", &second(invalidated), way, (41, 1));
+    for (expiry, outcome) in [
+        (CLOCK + 1, (0, 2)),
+        (CLOCK, (41, 1)),
+        (CLOCK - 1, (41, 1)),
+        (0, (41, 1)),
+    ] {
+        let expiring = Row { expiry, ..sound };
+        gives("expiring", &second(expiring), way, outcome);
+        let first = [point(0, &[expiring])];
+        let hops = outcome.1 - 1;
+        gives("expiring first", &first, way, (outcome.0, hops));
+    }
+    // The clock of the walk counts, not the latest clock of a table.
+    for (clock, outcome) in [(CLOCK, (0, 2)), (EXPIRY - 1, (0, 2)), (EXPIRY, (41, 0))] {
+        gives_at("later", clock, &second(sound), way, outcome);
+    }
+    // A clock whose low 32 bits alone are below the expiry.
+    gives_at("much later", 1 << 32, &second(sound), way, (41, 0));
+    let last = (1 << 48) - 1;
+    let lasting = Row {
+        expiry: 1 << 48,
+        ..sound
+    };
+    gives_at("last clock", last, &[point(0, &[lasting])], way, (0, 1));
+}
+
+/// Whether its number is known or not, and whatever its metric and hop count, a row is followed.
+#[test]
+fn every_kind_of_active_row_is_followed() {
+    let way = [address(0), address(1)];
+    let sound = row(address(1), address(1));
+    let rows = [
+        sound.unknown(3),
+        Row {
+            metric: u32::MAX,
+            hop_count: 255,
+            ..sound
+        },
+        Row {
+            metric: 1,
+            hop_count: 0,
+            number: u32::MAX,
+            ..sound
+        },
+    ];
+    for row in rows {
+        gives("any row", &[point(0, &[row]), ignorant(1)], way, (0, 1));
+    }
+}
+
+/// The row may stand in any place of any number of rows.
+#[test]
+fn a_row_is_found_in_every_place() {
+    let among_others = |rows: usize, place: usize, row: Row| {
+        let other = |place: usize| self::row([4, 0, 0, 0, 0, 1 + place as u8], STRANGER);
+        let mut all: Vec<Row> = (0..rows).map(other).collect();
+        all[place] = row;
+        all
+    };
+    for rows in [1, 2, 16, 127, 128] {
+        for place in [0, rows / 2, rows - 1] {
+            let first = among_others(rows, place, row(STRANGER, address(1)));
+            let second = among_others(rows, rows - 1 - place, row(STRANGER, STRANGER));
+            let tables = [point(0, &first), point(1, &second)];
+            gives("one of many", &tables, [address(0), STRANGER], (0, 2));
+        }
+    }
+}

@@ -1,0 +1,7 @@
+//! The walk: random calls on random tables side by side, and cases worked out by hand from
+//! document 01.
+
+mod agreement;
+mod cases;
+mod mesh;
+mod refusals;
