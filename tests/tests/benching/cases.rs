@@ -1,0 +1,247 @@
+//! What the commands do, case by case.
+
+use crate::commands::{advance, announce, ask, deliver, link, point, report_break, walk};
+use crate::script::{
+    GROUP, LIFETIME, STRANGER, address, input, line, output, points, prints, prints_all, script,
+};
+
+/// The address of an element's sender is its transmitter, and the link is that of sender and
+/// receiver, both ways.
+#[test]
+fn links_hold_both_ways_until_they_are_set_again() {
+    for [one, other] in [[0, 1], [1, 0]] {
+        let case = script(
+            points(3),
+            &[
+                (announce(0, LIFETIME), "5 0 1"),
+                (announce(1, LIFETIME), "5 0 1"),
+                (deliver(0, 1), "6 5 0"),
+                (link(one, other, 10), "3 0 0"),
+                (deliver(0, 1), "6 0 1"),
+                (deliver(1, 0), "6 0 1"),
+                (deliver(0, 2), "6 5 0"),
+                (deliver(1, 2), "6 5 0"),
+                // The same at a worse and an equal metric, then at a better one.
+                (link(one, other, 11), "3 0 0"),
+                (deliver(0, 1), "6 25 0"),
+                (link(other, one, 9), "3 0 0"),
+                (deliver(0, 1), "6 0 1"),
+                (deliver(1, 0), "6 0 1"),
+                (link(other, one, 0), "3 0 0"),
+                (deliver(0, 1), "6 5 0"),
+                (deliver(1, 0), "6 5 0"),
+                (link(one, other, u32::MAX), "3 0 0"),
+                (deliver(0, 1), "6 13 0"),
+            ],
+        );
+        prints("links", &case);
+    }
+}
+
+/// All four octets of a metric count, and all of a lifetime and of an advance.
+#[test]
+fn numbers_are_read_whole() {
+    for octet in 0..4 {
+        let step = 1_u32 << (8 * octet);
+        let metrics = script(
+            points(2),
+            &[
+                (link(0, 1, 2 * step), "3 0 0"),
+                (announce(0, LIFETIME), "5 0 1"),
+                (deliver(0, 1), "6 0 1"),
+                (link(0, 1, 2 * step), "3 0 0"),
+                (deliver(0, 1), "6 25 0"),
+                (link(0, 1, step), "3 0 0"),
+                (deliver(0, 1), "6 0 1"),
+            ],
+        );
+        prints("metric", &metrics);
+        let lifetimes = script(
+            line(2),
+            &[
+                (advance(step), "2 0 0"),
+                (announce(0, 2 * step), "5 0 1"),
+                (deliver(0, 1), "6 0 1"),
+                (advance(2 * step - 1), "2 0 0"),
+                (walk(1, 0), "8 0 1"),
+                (advance(1), "2 0 0"),
+                (walk(1, 0), "8 41 0"),
+            ],
+        );
+        prints("lifetime", &lifetimes);
+    }
+}
+
+/// A self link lets a point hear itself, which is refused as such.
+#[test]
+fn a_point_may_be_linked_to_itself() {
+    let case = script(
+        points(1),
+        &[
+            (announce(0, LIFETIME), "5 0 1"),
+            (deliver(0, 0), "6 5 0"),
+            (link(0, 0, 3), "3 0 0"),
+            (deliver(0, 0), "6 23 0"),
+            (report_break(0, 0), "7 23 0"),
+            (walk(0, 0), "8 0 0"),
+        ],
+    );
+    prints("alone", &case);
+}
+
+/// A fresh table cannot see that another point has its address.
+#[test]
+fn two_points_may_have_one_address() {
+    let twice = [
+        (point(address(0), 0), "1 0 0"),
+        (point(address(1), 0), "1 0 0"),
+    ];
+    let case = script(
+        twice.to_vec(),
+        &[
+            (walk(0, 1), "8 41 0"),
+            (point(address(0), 5), "1 0 0"),
+            (link(0, 2, 4), "3 0 0"),
+            (announce(0, LIFETIME), "5 0 1"),
+            (deliver(0, 2), "6 23 0"),
+            (report_break(0, 2), "7 23 0"),
+            (ask(0, 0, address(0), LIFETIME), "4 24 0"),
+            (walk(0, 0), "8 10 0"),
+            (walk(0, 1), "8 10 0"),
+            (walk(1, 1), "8 10 0"),
+        ],
+    );
+    prints("twice", &case);
+}
+
+/// What an ask brings is one item: its flags, and 9 and 10 in their order.
+#[test]
+fn asks_are_refused_by_their_number() {
+    let case = script(
+        points(1),
+        &[
+            (ask(0, 3, STRANGER, LIFETIME), "4 0 1"),
+            (ask(0, 4, STRANGER, 0), "4 10 0"),
+            (ask(0, 255, STRANGER, LIFETIME), "4 10 0"),
+            (ask(0, 4, GROUP, 0), "4 9 0"),
+            (ask(0, 0, [0xFF; 6], LIFETIME), "4 9 0"),
+            (ask(0, 0, STRANGER, 0), "4 11 0"),
+            (ask(0, 0, address(0), 0), "4 11 0"),
+            (ask(0, 0, address(0), LIFETIME), "4 24 0"),
+            (announce(0, 0), "5 11 0"),
+            (announce(0, 1), "5 0 1"),
+        ],
+    );
+    prints("asks", &case);
+}
+
+/// Point 2 learns the way to 0 by 1, which then loses it.
+#[test]
+fn a_break_names_the_neighbour_by_its_number() {
+    let case = script(
+        line(3),
+        &[
+            (announce(0, LIFETIME), "5 0 1"),
+            (deliver(0, 1), "6 0 1"),
+            (deliver(1, 2), "6 0 1"),
+            (walk(2, 0), "8 0 2"),
+            // No row of 2 leads through 0, and none of 1 through 2.
+            (report_break(2, 0), "7 0 0"),
+            (report_break(1, 2), "7 0 0"),
+            (walk(2, 0), "8 0 2"),
+            (report_break(1, 0), "7 0 1"),
+            (walk(1, 0), "8 41 0"),
+            (walk(2, 0), "8 41 1"),
+            (report_break(1, 0), "7 0 0"),
+            // The error is frame 3: it concerns 2, and passes on from there as frame 4.
+            (deliver(3, 0), "6 26 0"),
+            (deliver(3, 2), "6 0 1"),
+            (walk(2, 0), "8 41 0"),
+            (deliver(3, 2), "6 26 0"),
+            (deliver(4, 1), "6 26 0"),
+            (deliver(0, 1), "6 25 0"),
+        ],
+    );
+    prints("break", &case);
+}
+
+/// The clock starts at 0, and calls get it.
+#[test]
+fn ways_end_when_their_time_is_over() {
+    let case = script(
+        line(2),
+        &[
+            (announce(0, 5), "5 0 1"),
+            (deliver(0, 1), "6 0 1"),
+            (advance(4), "2 0 0"),
+            (walk(1, 0), "8 0 1"),
+            (advance(1), "2 0 0"),
+            (walk(1, 0), "8 41 0"),
+            (report_break(1, 0), "7 0 0"),
+            // Heard again it is as old, but the next one counts from now on.
+            (deliver(0, 1), "6 25 0"),
+            (announce(0, 5), "5 0 1"),
+            (deliver(2, 1), "6 0 1"),
+            (walk(1, 0), "8 0 1"),
+        ],
+    );
+    prints("clock", &case);
+}
+
+/// Own numbers go round: after 4,294,967,295 comes 0, which is newer.
+#[test]
+fn own_numbers_go_round() {
+    let first = [
+        (point(address(0), u32::MAX - 1), "1 0 0"),
+        (point(address(1), 0), "1 0 0"),
+        (link(0, 1, 10), "3 0 0"),
+    ];
+    let case = script(
+        first.to_vec(),
+        &[
+            (announce(0, LIFETIME), "5 0 1"),
+            (announce(0, LIFETIME), "5 0 1"),
+            (deliver(0, 1), "6 0 1"),
+            (deliver(1, 1), "6 0 1"),
+            (deliver(0, 1), "6 25 0"),
+        ],
+    );
+    prints("round", &case);
+}
+
+/// Numbers more than half the circle apart let two points lead to each other: as many hops as
+/// there are points, and no more.
+#[test]
+fn a_walk_in_a_ring_ends() {
+    let (near, far, asking, destination) = (0, 1, 2, 3);
+    for idle in 0..=12 {
+        let mut first = points(3);
+        first.push((point(address(3), (1 << 31) + 1), "1 0 0"));
+        first.extend((0..idle).map(|place| (point(address(4 + place), 0), "1 0 0")));
+        let case = script(
+            first,
+            &[
+                (link(near, destination, 5), "3 0 0"),
+                (link(near, far, 5), "3 0 0"),
+                (link(asking, destination, 5), "3 0 0"),
+                (announce(destination, LIFETIME), "5 0 1"),
+                (deliver(0, near), "6 0 1"),
+                (deliver(1, far), "6 0 1"),
+                (walk(far, destination), "8 0 2"),
+                (ask(asking, 1, address(3), LIFETIME), "4 0 1"),
+                (deliver(3, destination), "6 0 1"),
+                (deliver(4, near), "6 0 0"),
+                (announce(destination, LIFETIME), "5 0 1"),
+                (announce(destination, LIFETIME), "5 0 1"),
+                (deliver(6, near), "6 0 1"),
+                (deliver(2, near), "6 0 1"),
+                (walk(destination, destination), "8 0 0"),
+                (walk(asking, destination), "8 41 0"),
+            ],
+        );
+        let walks = [walk(near, destination), walk(far, destination)];
+        let input = [input(&case), walks.concat()].concat();
+        let walked = format!("8 42 {}\n", 4 + idle).repeat(walks.len());
+        prints_all("ring", &input, &(output(&case) + &walked));
+    }
+}

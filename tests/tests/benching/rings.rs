@@ -1,0 +1,63 @@
+//! Streams after which two points lead to each other. Numbers of the destination lie more than half
+//! the circle apart, where a late announcement can be newer than what came after it.
+
+use hwmp_tests::random::Random;
+use hwmp_tests::reference::walk::MOST_POINTS;
+use hwmp_tests::tables;
+
+use crate::commands::{announce, ask, deliver, link, point, walk};
+use crate::stream::Stream;
+
+const LIFETIME: u32 = 1000;
+
+/// The destination's number before its first announcement.
+const HALF_THE_CIRCLE_AND_ONE: u32 = (1 << 31) + 1;
+
+/// Four of the points, in any places, and walks from all to all in the end.
+pub fn some_ring(random: &mut Random) -> Stream {
+    let count = 4 + random.below(MOST_POINTS - 3);
+    let addresses = tables::some_addresses(count, random);
+    let first = random.below(count);
+    let [near, far, asking, destination] = [0, 1, 2, 3].map(|step| ((first + step) % count) as u8);
+    let mut stream = Stream::default();
+    for (place, &address) in addresses.iter().enumerate() {
+        let number = if place == usize::from(destination) {
+            HALF_THE_CIRCLE_AND_ONE
+        } else {
+            random.below(5) as u32
+        };
+        stream.push(&point(address, number));
+    }
+    for (one, other) in [
+        (near, far),
+        (near, destination),
+        (asking, destination),
+        (near, asking),
+    ] {
+        stream.push(&link(one, other, 1 + random.below(9) as u32));
+    }
+    let to = addresses[usize::from(destination)];
+    let commands = [
+        // Frame 0 carries 2^31 + 2, and so do frames 1 and 2, which go on.
+        announce(destination, LIFETIME),
+        deliver(0, near),
+        deliver(1, far),
+        // Frame 3 asks with 0, which the destination takes for newer: frame 4 replies with 1.
+        ask(asking, 1, to, LIFETIME),
+        deliver(3, destination),
+        deliver(4, near),
+        // Frames 5 and 6 carry 2 and 3.
+        announce(destination, LIFETIME),
+        announce(destination, LIFETIME),
+        deliver(6, near),
+        // From 3 the 2^31 + 2 of frame 2 is newer again.
+        deliver(2, near),
+    ];
+    for command in commands {
+        stream.push(&command);
+    }
+    for one in 0..count {
+        stream.push(&walk(one as u8, destination));
+    }
+    stream
+}

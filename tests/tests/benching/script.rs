@@ -1,0 +1,65 @@
+//! Streams with the lines that were worked out for them, asked of the program and of the
+//! reference alike.
+
+use hwmp_tests::reference::bench;
+
+use crate::commands::{Address, advance, link, point};
+use crate::program::{Program, same};
+
+pub const GROUP: Address = [3, 0, 0, 0, 0, 9];
+pub const STRANGER: Address = [2, 0, 0, 0, 1, 1];
+pub const LIFETIME: u32 = 1000;
+
+pub fn address(point: u8) -> Address {
+    [2, 0, 0, 0, 0, 1 + point]
+}
+
+/// A command with its line.
+pub type Step = (Vec<u8>, &'static str);
+
+pub fn input(script: &[Step]) -> Vec<u8> {
+    let commands: Vec<_> = script.iter().map(|(command, _)| &command[..]).collect();
+    commands.concat()
+}
+
+pub fn output(script: &[Step]) -> String {
+    script.iter().map(|(_, line)| format!("{line}\n")).collect()
+}
+
+/// Both must print just these lines.
+pub fn prints(what: &str, script: &[Step]) {
+    prints_all(what, &input(script), &output(script));
+}
+
+/// The same for a whole input and a whole output.
+pub fn prints_all(what: &str, input: &[u8], expected: &str) {
+    let outputs = [
+        ("program", Program::named().output(input)),
+        ("reference", bench::output(input)),
+    ];
+    for (name, found) in outputs {
+        same(&found, expected, input, &format!("{what} by the {name}"));
+    }
+}
+
+/// The lines, and then a command on which the run ends. Another that would be accepted follows.
+pub fn ends(what: &str, script: &[Step], bad: &[u8]) {
+    let good = input(script);
+    let expected = format!("{}E {}\n", output(script), good.len());
+    prints_all(what, &[&good, bad, &advance(0)].concat(), &expected);
+}
+
+pub fn points(count: u8) -> Vec<Step> {
+    let added = (0..count).map(|place| (point(address(place), 0), "1 0 0"));
+    added.collect()
+}
+
+/// Points in a line, with links at 10.
+pub fn line(count: u8) -> Vec<Step> {
+    let links = (1..count).map(|place| (link(place - 1, place, 10), "3 0 0"));
+    points(count).into_iter().chain(links).collect()
+}
+
+pub fn script(first: Vec<Step>, then: &[Step]) -> Vec<Step> {
+    [&first, then].concat()
+}
