@@ -5,6 +5,7 @@ mod element_cases;
 mod same_method;
 mod stack;
 mod timing;
+mod walk_cases;
 
 use hwmp_tests::implementation::{Implementation, LIBRARY, REFERENCE};
 use hwmp_tests::probe;
@@ -13,6 +14,7 @@ use hwmp_tests::random::Random;
 use cases::{Case, EMITTING, RECEIVING, SILENT};
 use element_cases::ELEMENT_CASES;
 use same_method::SAME_METHOD;
+use walk_cases::WALK_CASES;
 
 fn main() {
     println!("machine: {}", machine());
@@ -25,10 +27,13 @@ fn main() {
     println!();
     growth(random);
     println!();
+    compare_walks(random);
+    println!();
     compare_elements(random);
     println!();
     let mut depths = stack::depths(random).to_vec();
     depths.push(stack::receive_depth(random));
+    depths.push(stack::walk_depth(random));
     depths.extend(stack::element_depths(random));
     for (entry, octets) in depths {
         println!("stack of {entry}: {octets} octets");
@@ -105,6 +110,28 @@ fn growth(random: &mut Random) {
             "",
             library / same,
             library / rows as f64
+        );
+    }
+}
+
+fn compare_walks(random: &mut Random) {
+    println!(
+        "{:<30} {:>4} {:>9} {:>9} {:>14}",
+        "walk through all, full tables", "R", "library", "plain", "library/plain"
+    );
+    for case in &WALK_CASES {
+        let mut inputs = walk_cases::inputs(case, random);
+        let bys = [&LIBRARY, &REFERENCE];
+        walk_cases::confirm(&inputs, &bys);
+        let times = timing::nanoseconds(walk_cases::walk, &mut inputs, &bys);
+        let [library, plain] = times[..] else {
+            unreachable!("one time for each implementation")
+        };
+        println!(
+            "{:<30} {:>4} {library:>9.1} {plain:>9.1} {:>14.2}",
+            format!("points: {}", case.points),
+            case.rows,
+            library / plain
         );
     }
 }

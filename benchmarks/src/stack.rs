@@ -11,6 +11,7 @@ use hwmp_tests::tables;
 
 use crate::cases::{self, CLOCK, LIFETIME, LINK};
 use crate::element_cases;
+use crate::walk_cases::{self, WALK_CASES};
 
 const OCTETS: usize = 16 * 1024;
 const PAINT: u8 = 0xa5;
@@ -75,6 +76,7 @@ const ANNOUNCE: Entry = ("hwmp_announce", raw::hwmp_announce as _, 0);
 const ROOT_REQUEST: Entry = ("hwmp_root_request", raw::hwmp_root_request as _, 0);
 const BREAK: Entry = ("hwmp_break", raw::hwmp_break as _, 0);
 const RECEIVE: Entry = ("hwmp_receive", raw::hwmp_receive as _, 0);
+const WALK: Entry = ("hwmp_walk", raw::hwmp_walk as _, 0);
 const FRESH: Entry = ("hwmp_fresh", raw::hwmp_fresh as _, 0);
 
 /// Arguments in their order, those that belong together as one part.
@@ -121,6 +123,23 @@ pub fn receive_depth(random: &mut Random) -> (&'static str, usize) {
     });
     let deepest = depths.into_iter().max_by_key(|(_, octets)| *octets);
     deepest.expect("four types")
+}
+
+/// The walk, through as many points and rows as there can be.
+pub fn walk_depth(random: &mut Random) -> (&'static str, usize) {
+    let largest = WALK_CASES.last().expect("some case");
+    let input = walk_cases::input(largest, random);
+    let arguments = [
+        input.tables.as_ptr() as usize,
+        input.tables.len(),
+        input.count as usize,
+        CLOCK as usize,
+        input.start.as_ptr() as usize,
+        input.destination.as_ptr() as usize,
+    ];
+    // SAFETY: all that is lent outlives the call, and the entry gets the arguments that
+    // include/hwmp.h declares.
+    unsafe { depth(WALK, &arguments) }
 }
 
 const READ: Entry = ("probe_read", probe::raw::probe_read as _, 0);

@@ -1,0 +1,97 @@
+//! Walks that are timed: full tables side by side, and a way through all their points to a
+//! destination that is none of them.
+
+use hwmp_tests::implementation::Implementation;
+use hwmp_tests::library::Walked;
+use hwmp_tests::random::Random;
+use hwmp_tests::reference::table::ROW_OCTETS;
+use hwmp_tests::tables;
+
+use crate::cases::CLOCK;
+
+/// Several meshes in turn, so that the processor cannot predict every branch.
+const MESHES: usize = 8;
+
+pub struct Input {
+    pub tables: Vec<u8>,
+    pub count: u32,
+    pub start: [u8; 6],
+    pub destination: [u8; 6],
+}
+
+pub struct WalkCase {
+    pub points: usize,
+    pub rows: usize,
+}
+
+const fn case(points: usize, rows: usize) -> WalkCase {
+    WalkCase { points, rows }
+}
+
+pub const WALK_CASES: [WalkCase; 6] = [
+    case(1, 16),
+    case(4, 16),
+    case(16, 16),
+    case(1, 128),
+    case(4, 128),
+    case(16, 128),
+];
+
+fn walked(by: &Implementation, input: &Input) -> Walked {
+    let (start, destination) = (&input.start, &input.destination);
+    (by.walk)(&input.tables, input.count, CLOCK, start, destination)
+}
+
+pub fn walk(by: &Implementation, input: &mut Input) -> u32 {
+    walked(by, input).answer
+}
+
+pub fn inputs(case: &WalkCase, random: &mut Random) -> Vec<Input> {
+    (0..MESHES).map(|_| input(case, random)).collect()
+}
+
+/// The way leads through the last row of each table, so that each is searched to its end.
+pub fn input(case: &WalkCase, random: &mut Random) -> Input {
+    let tables = (0..case.points).map(|_| tables::full(case.rows, random));
+    let mut tables: Vec<Vec<u8>> = tables.collect();
+    let destination = tables::individual(random).0;
+    let addresses: Vec<[u8; 6]> = tables.iter().map(|table| own_address(table)).collect();
+    let next_hops = addresses.iter().skip(1).chain([&destination]);
+    for (table, next_hop) in tables.iter_mut().zip(next_hops) {
+        lead(table, destination, *next_hop);
+    }
+    Input {
+        tables: tables.concat(),
+        count: case.points as u32,
+        start: addresses[0],
+        destination,
+    }
+}
+
+fn own_address(table: &[u8]) -> [u8; 6] {
+    table[..6].try_into().expect("six octets")
+}
+
+/// Makes the last row one of known number that is active at the clock.
+fn lead(table: &mut [u8], destination: [u8; 6], next_hop: [u8; 6]) {
+    let at = table.len() - ROW_OCTETS;
+    let row = &mut table[at..];
+    row[..2].fill(1);
+    row[4..10].copy_from_slice(&destination);
+    row[10..16].copy_from_slice(&next_hop);
+    row[24..].copy_from_slice(&(CLOCK + 1).to_le_bytes());
+}
+
+/// Times mean little unless all do the same work: the destination is met after as many hops as
+/// there are points.
+pub fn confirm(inputs: &[Input], bys: &[&Implementation]) {
+    for input in inputs {
+        let expected = Walked {
+            answer: 0,
+            hops: input.count,
+        };
+        for by in bys {
+            assert_eq!(walked(by, input), expected, "walk by {}", by.name);
+        }
+    }
+}
