@@ -245,3 +245,23 @@ fn a_walk_in_a_ring_ends() {
         prints_all("ring", &input, &(output(&case) + &walked));
     }
 }
+
+/// A table has rows for all other points, as many as there can be.
+#[test]
+fn a_point_hears_of_all_others() {
+    let others = 1..16;
+    let mut case = points(16);
+    case.extend(others.clone().map(|other| (link(0, other, 10), "3 0 0")));
+    case.extend(
+        others
+            .clone()
+            .map(|other| (announce(other, LIFETIME), "5 0 1")),
+    );
+    case.extend(
+        others
+            .clone()
+            .map(|other| (deliver(u16::from(other) - 1, 0), "6 0 1")),
+    );
+    case.extend(others.map(|other| (walk(0, other), "8 0 1")));
+    prints("all others", &case);
+}

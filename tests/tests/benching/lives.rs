@@ -27,7 +27,7 @@ struct Life {
     linked: [[bool; MOST_POINTS]; MOST_POINTS],
     /// Frames that points within reach have not heard yet.
     pending: Vec<(usize, usize)>,
-    /// Of how many steps those beside deliveries make up fourteen.
+    /// In how many steps about fourteen are no deliveries.
     pace: usize,
 }
 
@@ -146,8 +146,8 @@ impl Life {
         self.push(&ask(asking, flags, destination, lifetime));
     }
 
-    /// Mostly something that is pending, the earlier the rather. It may be lost, or heard again. If
-    /// all was heard there are ways to walk, and then something new to hear.
+    /// Mostly one of the first that are pending. It may be lost, or heard again. If all was heard
+    /// there are ways to walk, and then something new to hear.
     fn deliver_some(&mut self, random: &mut Random) {
         let (point, other) = (self.some_point(random), self.some_point(random));
         let frames = self.stream.frames();
