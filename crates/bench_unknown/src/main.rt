@@ -1,0 +1,4 @@
+// The bench on an unknown command: examples/bench/unknown.bench in words.
+fn main() {
+    bench_core::run();
+}
