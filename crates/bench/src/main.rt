@@ -1,4 +1,4 @@
 // The bench: obeys the commands on standard input.
 fn main() {
-    bench_core::run();
+    bench_run::run();
 }

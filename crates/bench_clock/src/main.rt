@@ -1,4 +1,4 @@
 // The bench on a clock above 2^48 - 1: examples/bench/clock.bench in words.
 fn main() {
-    bench_core::run();
+    bench_run::run();
 }

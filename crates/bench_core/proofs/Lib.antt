@@ -1,7 +1,5 @@
-mod Slots
+pub mod Slots
 mod Settling
 mod Calling
 mod Standing
 mod Obeying
-mod Printing
-mod Bounds

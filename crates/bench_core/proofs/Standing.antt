@@ -31,7 +31,7 @@ use Rattle.bench_core.specs.Commands.{addPoint, advance, link, walkTo}
 use Rattle.bench_core.specs.InCode.{benchOf, doneIn, printed, walkedAs, Adds, Advances, Links, Walks}
 use Rattle.bench_core.proofs.Settling.{put-back}
 use Rattle.bench_core.proofs.Calling.{lent-table}
-use Rattle.bench_core.proofs.Printing.{front-long}
+use Rattle.bench_core.proofs.Slots.{front-long}
 
 pub sixteen-tables : (tables : List ℕ) → length tables ≡ 8704 → Pieces tables 544 16
 sixteen-tables tables e = record { some-piece = omega arith; few = omega arith; whole = sym e; with-head = omega arith }

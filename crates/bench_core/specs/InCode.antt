@@ -12,7 +12,6 @@ use Rattle.rules.specs.Decision.{_above_}
 use Rattle.rules.specs.Walk.{Walked, tableAt}
 use Rattle.point.specs.declared.Outcome.{Outcome}
 use Rattle.point.specs.declared.Outcome.the-variants.{Accepted, Refused}
-use Rattle.bench_core.specs.declared.block.Progress.{Progress}
 use Rattle.bench_core.specs.declared.State.{State}
 use Rattle.bench_core.specs.declared.Printed.{Printed}
 use Rattle.bench_core.specs.declared.Done.{Done}
@@ -87,7 +86,3 @@ Links r s p q metric links links′ =
 
 unfoldable pub Walks : Done → State → (p q : ℕ) → (tables : List ℕ) → Type 0
 Walks r s p q tables = (slots : List ℕ) → doneIn r tables slots ≡ walkTo (benchOf s tables slots) p q
-
--- a block of n octets may be so far, with a text of so many octets
-abbrev pub Stands : Progress → (n room : ℕ) → Type 0
-Stands p n room = (p .used ≤ n) × (p .written ≤ room) × Bounded (p .points) (p .frames) (p .clock)

@@ -1,4 +1,4 @@
 // The bench on a command without all its operands: examples/bench/cut.bench in words.
 fn main() {
-    bench_core::run();
+    bench_run::run();
 }

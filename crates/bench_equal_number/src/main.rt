@@ -1,4 +1,4 @@
 // The bench on an equal number with a worse metric: examples/bench/equal_number.bench in words.
 fn main() {
-    bench_core::run();
+    bench_run::run();
 }

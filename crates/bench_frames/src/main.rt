@@ -1,4 +1,4 @@
 // The bench on a 129th frame: examples/bench/frames.bench in words.
 fn main() {
-    bench_core::run();
+    bench_run::run();
 }

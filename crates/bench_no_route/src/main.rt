@@ -1,4 +1,4 @@
 // The bench on walks that stop with 41: examples/bench/no_route.bench in words.
 fn main() {
-    bench_core::run();
+    bench_run::run();
 }

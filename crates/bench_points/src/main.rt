@@ -1,4 +1,4 @@
 // The bench on a 17th point: examples/bench/points.bench in words.
 fn main() {
-    bench_core::run();
+    bench_run::run();
 }

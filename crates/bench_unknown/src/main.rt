@@ -1,4 +1,4 @@
 // The bench on an unknown command: examples/bench/unknown.bench in words.
 fn main() {
-    bench_core::run();
+    bench_run::run();
 }

@@ -1,17 +1,14 @@
 -- Room for what is printed, and for what is read. Assumes nothing.
 use Prim.Native.Nat.{ℕ, _+_, _-_, _^_, _<_, _≤_}
-use mathlib.Core.Path.{_≡_, refl, sym, _∙_}
+use mathlib.Core.Path.{_≡_, refl}
 use mathlib.Core.Bool.{Bool, true, false}
 use mathlib.Core.List.{List}
 use lib.Dec.{leb}
-use lib.ListN.{length, take, length-take}
+use lib.ListN.{length, take}
 use native.Mathlib.Omega.{arith}
-use native.Mathlib.Nat.{min-eq-left, pow-le-pow-right}
+use native.Mathlib.Nat.{pow-le-pow-right}
 use borrow.Author.Tests.{leb-true, leb-false}
 use Rattle.io.specs.Digits.{Fewest}
-
-pub front-long : (s : List ℕ) (n : ℕ) → n ≤ length s → n ≡ length (take n s)
-front-long s n l = sym (length-take n s ∙ min-eq-left l)
 
 -- a number of 64 bits has at most 20 digits
 few-digits : (n k : ℕ) → n < 2 ^ 64 → Fewest 10 1 n k → k ≤ 20

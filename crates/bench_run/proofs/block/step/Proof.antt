@@ -1,8 +1,8 @@
--- `bench_core::block::step` meets its contract: a line and the octets behind the command, or a fault and the end. Assumes nothing.
+-- `bench_run::block::step` meets its contract: a line and the octets behind the command, or a fault and the end. Assumes nothing.
 use borrow.Author.Needs.{needs}
-use Rattle.bench_core.proofs.Bounds.{some-octets, all-octets, line-points, line-frames, line-clock}
-use Rattle.bench_core.proofs.block.step.Statement.{statement}
-use Rattle.bench_core.proofs.block.step.Tie as tie
+use Rattle.bench_run.proofs.Bounds.{some-octets, all-octets, line-points, line-frames, line-clock}
+use Rattle.bench_run.proofs.block.step.Statement.{statement}
+use Rattle.bench_run.proofs.block.step.Tie as tie
 
 pub step-spec : {M : Type 1} → statement M
 step-spec =

@@ -1,8 +1,8 @@
--- `bench_core::text::put_decimal` meets its contract: at most 20 digits. Assumes nothing.
+-- `bench_run::text::put_decimal` meets its contract: at most 20 digits. Assumes nothing.
 use borrow.Author.Needs.{needs}
-use Rattle.bench_core.proofs.Printing.{digits-end, digits-room, digits-fit}
-use Rattle.bench_core.proofs.text.put_decimal.Statement.{statement}
-use Rattle.bench_core.proofs.text.put_decimal.Tie as tie
+use Rattle.bench_run.proofs.Printing.{digits-end, digits-room, digits-fit}
+use Rattle.bench_run.proofs.text.put_decimal.Statement.{statement}
+use Rattle.bench_run.proofs.text.put_decimal.Tie as tie
 
 pub put-decimal-spec : {M : Type 1} → statement M
 put-decimal-spec =

@@ -1,8 +1,8 @@
--- `bench_core::block::print_line` meets its contract: the command's octets are used, and its line has room. Assumes nothing.
+-- `bench_run::block::print_line` meets its contract: the command's octets are used, and its line has room. Assumes nothing.
 use borrow.Author.Needs.{needs}
-use Rattle.bench_core.proofs.Bounds.{end-fits, ends-later, ends-inside}
-use Rattle.bench_core.proofs.block.print_line.Statement.{statement}
-use Rattle.bench_core.proofs.block.print_line.Tie as tie
+use Rattle.bench_run.proofs.Bounds.{end-fits, ends-later, ends-inside}
+use Rattle.bench_run.proofs.block.print_line.Statement.{statement}
+use Rattle.bench_run.proofs.block.print_line.Tie as tie
 
 pub print-line-spec : {M : Type 1} → statement M
 print-line-spec =

@@ -1,10 +1,10 @@
--- `bench_core::reader::move_to_start` meets its contract: it reads and writes inside the buffer. Assumes nothing.
+-- `bench_run::reader::move_to_start` meets its contract: it reads and writes inside the buffer. Assumes nothing.
 use Prim.Native.Nat.{_-_}
 use mathlib.Core.Path.{_≡_}
 use lib.ListN.{length}
 use borrow.Author.Needs.{needs}
-use Rattle.bench_core.proofs.reader.move_to_start.Statement.{statement}
-use Rattle.bench_core.proofs.reader.move_to_start.Tie as tie
+use Rattle.bench_run.proofs.reader.move_to_start.Statement.{statement}
+use Rattle.bench_run.proofs.reader.move_to_start.Tie as tie
 
 abbrev Inv-loop : tie.InvT-loop
 Inv-loop buffer₀ from filled n i₀ buffer i = length buffer ≡ length buffer₀

@@ -1,16 +1,17 @@
 // The commands of a block, one after another, and the lines that they print.
-use crate::Done;
-use crate::Printed;
-use crate::State;
-use crate::interpreter;
 use crate::reader;
 use crate::text;
+use bench_core::Done;
+use bench_core::Printed;
+use bench_core::State;
+use bench_core::interpreter;
 ghost use mathlib.Core.Path.{_≡_};
 ghost use Prim.Native.Nat.{_+_, _<_, _≤_};
 ghost use lib.ListN.{length};
 ghost use Rattle.octets.specs.LittleEndian.{numberAt};
-ghost use Rattle.bench_core.specs.InCode.{Bounded, Stands};
+ghost use Rattle.bench_core.specs.InCode.{Bounded};
+ghost use Rattle.bench_run.specs.Standing.{Stands};
 ghost use Rattle.bench_core.specs.Interpreter.{lengthOf};
 
 // How far the commands have come: octets of the block used, octets of the text written, whether the bench has ended, and what it
 // holds.

@@ -1,11 +1,11 @@
--- `bench_core::block::obey_block` meets its contract: each command uses some octets, and leaves the rest within bounds. Assumes nothing.
+-- `bench_run::block::obey_block` meets its contract: each command uses some octets, and leaves the rest within bounds. Assumes nothing.
 use Prim.Native.Nat.{_-_}
 use mathlib.Core.Path.{_≡_}
 use lib.ListN.{length}
 use borrow.Author.Needs.{needs}
-use Rattle.bench_core.specs.InCode.{Stands}
-use Rattle.bench_core.proofs.block.obey_block.Statement.{statement}
-use Rattle.bench_core.proofs.block.obey_block.Tie as tie
+use Rattle.bench_run.specs.Standing.{Stands}
+use Rattle.bench_run.proofs.block.obey_block.Statement.{statement}
+use Rattle.bench_run.proofs.block.obey_block.Tie as tie
 
 abbrev Inv-loop : tie.InvT-loop
 Inv-loop block last offset tables₀ slots₀ links₀ text₀ n p₀ tables slots links text p =

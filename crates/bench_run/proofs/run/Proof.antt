@@ -1,11 +1,11 @@
--- `bench_core::run` is safe and ends: the measure is the number of turns that are left. Assumes nothing.
+-- `bench_run::run` is safe and ends: the measure is the number of turns that are left. Assumes nothing.
 use Prim.Native.Nat.{_≤_}
 use mathlib.Core.Path.{_≡_}
 use lib.ListN.{length}
 use borrow.Author.Needs.{needs}
 use Rattle.bench_core.specs.InCode.{Bounded}
-use Rattle.bench_core.proofs.run.Statement.{statement}
-use Rattle.bench_core.proofs.run.Tie as tie
+use Rattle.bench_run.proofs.run.Statement.{statement}
+use Rattle.bench_run.proofs.run.Tie as tie
 
 abbrev Inv-loop : tie.InvT-loop
 Inv-loop tables₀ slots₀ links₀ buffer₀ text₀ c₀ s₀ turns₀ tables slots links buffer text c s turns =
