@@ -16,9 +16,10 @@ use Rattle.rules.specs.Calls.{receives, makes, asks, announces, requestsAsRoot,
 use Rattle.rules.proofs.Alls.{all-implies}
 use Rattle.rules.proofs.CallsKeep.{Kept, call-kept}
 use Rattle.rules.proofs.Room.{call-room}
+use Rattle.rules.proofs.Hops.{walk-hops}
 use Rattle.rules.proofs.StaysTable.{fresh-stays, forget-stays}
 use Rattle.edges.proofs.AllEdges.{all-edges, all-shut-out}
-use Rattle.loops.specs.Statements.{EdgesHold, ErrorsShutOut, StaysTable, FreshIsTable, ForgetStaysTable, HasRoom, ReadsAs, ReadsBack, ActionFits, LoopFree, NotVacuous, Sharp, ElseTheRules, NeedsPremise}
+use Rattle.loops.specs.Statements.{EdgesHold, ErrorsShutOut, StaysTable, FreshIsTable, ForgetStaysTable, HasRoom, ReadsAs, ReadsBack, HopsAtMost, ActionFits, LoopFree, NotVacuous, Sharp, ElseTheRules, NeedsPremise}
 use Rattle.loops.specs.Mesh.{Event}
 use Rattle.loops.specs.WrongRules.{ruledBy}
 use Rattle.loops.specs.Runs.{D, endOf, way, outside, outsideLoops}
@@ -55,6 +56,9 @@ reads-back t octets room call fit e is =
       fields = read-back (f .element) fits;
     })
     (e .frames) (call-kept t octets room call fit e is .frames)
+
+pub hops-at-most : HopsAtMost
+hops-at-most = walk-hops
 
 pub loop-free : LoopFree
 loop-free points _ _ events fit d base small within a hops = LoopFree.loop-free d base small points events fit within hops a

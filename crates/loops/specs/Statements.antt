@@ -26,6 +26,7 @@ use Rattle.rules.specs.Forget.{forget}
 use Rattle.rules.specs.Errors.{broken}
 use Rattle.rules.specs.Receive.{isStaleFor}
 use Rattle.rules.specs.Calls.{Call, outcome, OwnOperandsFit, OperandsFit}
+use Rattle.rules.specs.Walk.{Walked, walk}
 use Rattle.edges.specs.Edges.{edges, shutOut}
 use Rattle.loops.specs.Mesh.{Point, start, Action, delivers, makes, readsOnly, Event, run, throughout, met}
 use Rattle.loops.specs.Premise.{allWithin}
@@ -81,6 +82,12 @@ abbrev pub ReadsBack : Type 0
 ReadsBack =
     (t : List ℕ) → Octets t → (room : ℕ) (call : Call) → OperandsFit call → (e : Effect) → outcome t room call ≡ accepted e
     → All (λ (f : Frame). ReadsAs (writeElement (f .element)) (f .element)) (e .frames)
+
+-- ---- walks (`hops-at-most`)
+
+-- A walk that is answered, with 0, 41 or 42, counts at most as many hops as there are points.
+abbrev pub HopsAtMost : Type 0
+HopsAtMost = (s : List ℕ) (count c : ℕ) (from d : Address) (w : Walked) → walk s count c from d ≡ accepted w → w .hops ≤ count
 
 -- ---- loop free, demand 3 (`loop-free`)
 

@@ -15,4 +15,5 @@ pub mod Accepted
 pub mod CallsKeep
 pub mod Room
 pub mod StaysTable
+pub mod Hops
 pub mod Computing
