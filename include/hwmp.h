@@ -7,11 +7,12 @@
  * address is 6 octets. The library allocates nothing and keeps no memory: no pointer
  * outlives its call, and calls on different tables may run at the same time.
  *
- * Every call gives an answer: 0 is acceptance, any other number a refusal. If several
- * refusals apply, the lowest number is given. A refused call changes no octet, and what
- * it returns beside the number is zero.
+ * Every call gives an answer: 0 is acceptance, any other number a refusal; but a walk that
+ * is not refused may also answer 41 or 42. If several refusals apply, the lowest number is
+ * given. A refused call changes no octet, and what it returns beside the number is zero.
  *
- *    1  the table's length is not 32 + 32R with R from 1 to 128
+ *    1  the table's length is not 32 + 32R with R from 1 to 128, or what a walk is handed is
+ *       not 1 to HWMP_MAX_POINTS tables of one such length
  *    2  the output is shorter than HWMP_OUTPUT_OCTETS
  *    3  the clock is above HWMP_MAX_CLOCK
  *    4  the neighbour or transmitter is not an individual address
@@ -22,13 +23,14 @@
  *       fit its type and count
  *    9  an address is not individual: lowest bit of its first octet set, or all zero; but a
  *       received request may name all ones
- *   10  an address stands twice or where it may not, or flags are not allowed
+ *   10  an address stands twice or where it may not, or flags are not allowed; of a walk, the
+ *       start is no point, or two points have one address
  *   11  the lifetime is 0
  *   12  the element's hop count is 255
  *   13  the element's metric and the link metric together are above 4294967294
  *   14  a reply has no hop left (TTL 0 or 1)
  *   21  the octets are not a table
- *   22  the clock is below the latest clock stored in the table
+ *   22  the clock is below the latest clock stored in the table (of a walk, in any of them)
  *   23  the neighbour or transmitter is the point's own address
  *   24  an item names the point's own address, or what is received tells of a path to it
  *   25  what is received is older than the row, or as old and no better, whether the row is
@@ -60,6 +62,9 @@ extern "C" {
 
 #define HWMP_ADDRESS_OCTETS 6
 
+/* A walk goes over at most so many tables. */
+#define HWMP_MAX_POINTS 16
+
 /* All frames of one call have room in so many octets; a shorter output is refused (2). */
 #define HWMP_OUTPUT_OCTETS 1560
 
@@ -88,6 +93,16 @@ struct hwmp_hop {
     uint8_t address[6];
 };
 
+/* How a walk ended, with the hops walked, which are at most as many as points. */
+struct hwmp_walked {
+    uint32_t answer;
+    uint32_t hops;
+};
+
+/* Answers of a walk that was neither refused nor arrived. */
+#define HWMP_NO_ROUTE 41
+#define HWMP_TOO_LONG 42
+
 /* What a call that may send has written, if answer is 0: frames, and octets in all. */
 struct hwmp_outcome {
     uint32_t answer;
@@ -115,6 +130,20 @@ struct hwmp_hop hwmp_next_hop(const uint8_t *table, size_t table_len, uint64_t c
  * Refusals: 1, 9 (destination), 21, 29 (also for the point's own address).
  */
 uint32_t hwmp_forget(uint8_t *table, size_t table_len, const uint8_t destination[6]);
+
+/*
+ * Walks from a start to a destination over the tables of several points, side by side in one
+ * buffer and of one length, along rows that are active at the clock. Answers 0 where it meets
+ * the destination, which may be a point or not; 41 where a point has no active row, or its
+ * next hop is neither a point nor the destination, which is not counted; 42 after as many
+ * hops as there are points. From the destination itself there are 0 hops. Changes nothing;
+ * the clock is not stored.
+ * Refusals: 1, 3, 9 (destination), 10, 21, 22. The start and two points of one address (10)
+ * are judged by the first six octets of each table, before 21.
+ */
+struct hwmp_walked hwmp_walk(const uint8_t *tables, size_t tables_len, uint32_t count,
+                             uint64_t clock, const uint8_t start[6],
+                             const uint8_t destination[6]);
 
 /*
  * Asks for 1 to 20 destinations: one RREQ to all, with the point's next sequence number
