@@ -1,18 +1,15 @@
 -- The commands that make a point call. Assumes nothing.
 use Prim.Native.Nat.{ℕ, _+_, _-_, _*_, _<_, _≤_}
-use mathlib.Core.Path.{_≡_, refl, sym, ap, _∙_}
-use mathlib.Core.Bool.{Bool, true, false, _&&_, cond}
+use mathlib.Core.Path.{_≡_, refl, _∙_}
 use mathlib.Core.List.{List}
-use lib.Dec.{ltb}
-use lib.ListN.{length, take, drop}
-use native.Mathlib.Omega.{arith}
+use lib.ListN.{take, drop}
 use borrow.Author.Tests.{lt-ltb, le-ltb}
 use borrow.Rule.Slice.PartMut.{putMid}
 use Rattle.octets.specs.LittleEndian.{zeros}
 use Rattle.table.specs.declared.address.Address.{Address}
 use Rattle.table.specs.Address.{addressOf}
 use Rattle.rules.specs.Decision.{Decision}
-use Rattle.rules.specs.Outcome.{Effect, Exit, atExit}
+use Rattle.rules.specs.Outcome.{Effect, atExit}
 use Rattle.rules.specs.Walk.{tableAt}
 use Rattle.rules.specs.declared.Arrival.{Arrival}
 use Rattle.rules.specs.Originate.{ask, announce}
@@ -26,14 +23,14 @@ use Rattle.bench_core.specs.declared.Done.the-variants.{Fault}
 use Rattle.bench_core.specs.Frames.{senderOf, elementOf}
 use Rattle.bench_core.specs.Bench.{calledBy, settled}
 use Rattle.bench_core.specs.Bench.{Done as Came}
-use Rattle.bench_core.specs.Commands.{askFor, announceSelf, handedOver, deliver, breakOff}
-use Rattle.bench_core.specs.InCode.{arrivalOf, benchOf, doneIn, settledAs, settledSlots}
+use Rattle.bench_core.specs.Commands.{askFor, announceSelf, handedOver, arrivalFrom, deliver, breakOff}
+use Rattle.bench_core.specs.InCode.{benchOf, doneIn, settledAs, settledSlots}
+use Rattle.walk.proofs.Tables.{piece-is}
 use Rattle.bench_core.proofs.Settling.{settled-so}
 
 -- the table of point p, as it is lent
 pub lent-table : (tables : List ℕ) (p : ℕ) → take (544 * p + 544 - 544 * p) (drop (544 * p) tables) ≡ tableAt tables 544 p
-unfolding tableAt
-lent-table tables p = let n : 544 * p + 544 - 544 * p ≡ 544 = omega arith in rw n
+lent-table tables p = piece-is tables 544 p (544 * p) refl
 
 module _ (s : State) (tables slots : List ℕ) (p : ℕ) where
   module _ (no-point : s .points ≤ p) (tables′ slots′ : List ℕ) where
@@ -82,7 +79,7 @@ module _ (s : State) (tables slots : List ℕ) (p : ℕ) where
 -- a frame with its sender
 module _ (s : State) (tables slots : List ℕ) (k p : ℕ) (kl : k < s .frames) (pl : p < s .points) (sender : ℕ) (we : sender ≡ senderOf slots k)
     (wl : sender < s .points) where
-  pub delivered : (links : List (List ℕ)) (a : Arrival) → a ≡ arrivalOf tables links (s .clock) sender p → (x : Came)
+  pub delivered : (links : List (List ℕ)) (a : Arrival) → a ≡ arrivalFrom tables links (s .clock) sender p → (x : Came)
       → x ≡ handedOver (benchOf s tables slots) k p a → x ≡ deliver (benchOf s tables slots) links k p
   unfolding deliver
   delivered links a ae x xe = rw (xe, ae, lt-ltb k (s .frames) kl, lt-ltb p (s .points) pl, ← we, lt-ltb sender (s .points) wl)

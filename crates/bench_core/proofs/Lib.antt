@@ -1,5 +1,5 @@
 pub mod Slots
 mod Settling
 mod Calling
-mod Standing
+mod Silent
 mod Obeying

@@ -1,17 +1,15 @@
 -- Commands by their octets. Assumes nothing.
 use Prim.Native.Nat.{ℕ, _<_, _≤_}
-use mathlib.Core.Path.{_≡_, refl, sym, ap, _∙_}
+use mathlib.Core.Path.{_≡_, sym}
 use mathlib.Core.List.{List, [], _∷_}
-use lib.Dec.{eqb}
-use lib.ListN.{length, getD, take, drop, List·getD-eq-default}
-use native.Mathlib.Omega.{arith}
-use borrow.Author.Tests.{eq-eqb, ne-eqb, lt-ltb, le-ltb}
+use lib.ListN.{length, take, drop, List·getD-eq-default}
+use borrow.Author.Tests.{ne-eqb, lt-ltb, le-ltb}
 use Rattle.octets.specs.LittleEndian.{numberAt}
 use Rattle.bench_core.specs.declared.State.{State}
 use Rattle.bench_core.specs.declared.Done.{Done}
 use Rattle.bench_core.specs.declared.Done.the-variants.{Fault}
 use Rattle.bench_core.specs.Bench.{Bench}
-use Rattle.bench_core.specs.Commands.{Linking, addPoint, advance, link, askFor, announceSelf, deliver, breakOff, walkTo}
+use Rattle.bench_core.specs.Commands.{Linking, askFor, announceSelf, deliver, breakOff}
 use Rattle.bench_core.specs.InCode.{benchOf, doneIn, Adds, Advances, Links, Walks}
 use Rattle.bench_core.specs.Interpreter.{lengthOf, obeyed, command}
 

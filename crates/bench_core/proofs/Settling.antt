@@ -1,29 +1,23 @@
 -- What becomes of a call that may emit frames: its table and its frames are kept. Assumes nothing.
 use Prim.Native.Nat.{ℕ, _+_, _-_, _*_, _<_, _≤_}
-use mathlib.Core.Path.{_≡_, refl, sym, ap, _∙_}
-use mathlib.Core.Bool.{Bool, true, false, _&&_, cond}
-use mathlib.Core.List.{List, [], _∷_, _++_}
+use mathlib.Core.Path.{_≡_, refl, ap, _∙_}
+use mathlib.Core.Bool.{Bool, true, false}
+use mathlib.Core.List.{List}
 use lib.Dec.{ltb}
-use lib.ListN.{length, getD, take, drop}
 use native.Mathlib.Omega.{arith}
 use native.Mathlib.Nat.{add-zero}
 use borrow.Author.Tests.{lt-ltb, le-ltb}
 use borrow.Rule.Slice.PartMut.{putMid}
-use Rattle.octets.specs.LittleEndian.{zeros}
-use Rattle.rules.specs.Decision.{Decision}
-use Rattle.rules.specs.Outcome.{Effect, Exit, atExit}
-use Rattle.rules.specs.Walk.{tableAt}
-use Rattle.rules.specs.Originate.{announce}
+use Rattle.rules.specs.Outcome.{Exit}
 use Rattle.point.specs.declared.Emitted.{Emitted}
 use Rattle.point.specs.declared.Outcome.{Outcome}
 use Rattle.point.specs.declared.Outcome.the-variants.{Accepted, Refused}
 use Rattle.point.specs.Answers.{exits}
 use Rattle.bench_core.specs.declared.State.{State}
 use Rattle.bench_core.specs.declared.Done.{Done}
-use Rattle.bench_core.specs.declared.Done.the-variants.{Line, Fault}
+use Rattle.bench_core.specs.declared.Done.the-variants.{Fault}
 use Rattle.bench_core.specs.Frames.{keep}
 use Rattle.bench_core.specs.Bench.{withTable, settled}
-use Rattle.bench_core.specs.Commands.{announceSelf}
 use Rattle.bench_core.specs.InCode.{benchOf, doneIn, printed, keptAs, keptSlots, settledAs, settledSlots}
 
 -- ---- the frames of a call

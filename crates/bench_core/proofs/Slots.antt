@@ -1,12 +1,12 @@
 -- Frames in an output and in the slots. Assumes nothing.
-use Prim.Native.Nat.{ℕ, zero, suc, _+_, _-_, _*_, _<_, _≤_, min}
-use mathlib.Core.Path.{_≡_, refl, sym, ap, _∙_}
-use mathlib.Core.List.{List, [], _∷_}
+use Prim.Native.Nat.{ℕ, suc, _+_, _-_, _*_, _<_, _≤_, min}
+use mathlib.Core.Path.{_≡_, sym, ap, _∙_}
+use mathlib.Core.List.{List, _∷_}
 use lib.ListN.{length, getD, set, take, drop, length-set, length-take}
 use native.Mathlib.Omega.{arith}
 use native.Mathlib.Nat.{min-eq-left, min-eq-right, sub-zero, add-zero}
 use Rattle.octets.specs.LittleEndian.{over}
-use Rattle.bench_core.specs.Frames.{frameEnd, frameAt, senderOf, elementOf, keep}
+use Rattle.bench_core.specs.Frames.{frameEnd, senderOf, elementOf, keep}
 
 -- the first n of a list
 pub front-long : (s : List ℕ) (n : ℕ) → n ≤ length s → n ≡ length (take n s)

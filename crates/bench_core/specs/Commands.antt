@@ -1,19 +1,20 @@
 -- The eight commands, in the order of document 01, by their operands. An index of no point or frame, a 17th point, a 129th frame
 -- and a clock above 2^48 - 1 are faults. Assumes nothing.
 use Prim.Native.Nat.{ℕ, _+_, _-_, _*_, _^_}
-use mathlib.Core.Bool.{Bool, _&&_, cond}
+use mathlib.Core.Bool.{_&&_, cond}
 use mathlib.Core.List.{List}
 use lib.Dec.{ltb}
 use lib.ListN.{take}
 use Rattle.counters.specs.declared.SequenceNumber.{SequenceNumber}
 use Rattle.table.specs.declared.address.Address.{Address}
+use Rattle.table.specs.Address.{addressOf}
 use Rattle.rules.specs.Decision.{Decision, refused, accepted, _above_, _below_}
 use Rattle.rules.specs.declared.Arrival.{Arrival}
 use Rattle.rules.specs.Fresh.{makeFresh}
 use Rattle.rules.specs.Originate.{ask, announce}
 use Rattle.rules.specs.Receive.{receive}
 use Rattle.rules.specs.Break.{breakNeighbour}
-use Rattle.rules.specs.Walk.{Walked, walkedAtExit, walk}
+use Rattle.rules.specs.Walk.{Walked, tableAt, walkedAtExit, walk}
 use Rattle.bench_core.specs.Links.{metricOf, linked}
 use Rattle.bench_core.specs.Frames.{senderOf, elementOf}
 use Rattle.bench_core.specs.Bench.{Bench, Done, fault, line, tableOf, addressIn, isPoint, withTable, calledBy, settled}
@@ -64,19 +65,19 @@ askFor b p item lifetime = cond (isPoint b p) (settled b p (calledBy b p (ask (t
 unfoldable pub announceSelf : Bench → ℕ → (lifetime : ℕ) → Done
 announceSelf b p lifetime = cond (isPoint b p) (settled b p (calledBy b p (announce (tableOf b p) 1560 0 lifetime))) fault
 
--- 6 deliver frame k: from its sender, over the link between the two, whoever its receiver is. (The sender of a frame is always a
--- point.)
+-- 6 deliver frame k: from its sender, over the link between the two, whoever its receiver is
 unfoldable pub handedOver : Bench → (k p : ℕ) → Arrival → Done
 handedOver b k p arrival = settled b p (calledBy b p (receive (tableOf b p) 1560 arrival (elementOf (b .slots) k)))
 
-abbrev pub arrivalFrom : Bench → List (List ℕ) → (sender p : ℕ) → Arrival
-arrivalFrom b links sender p =
-    record { clock = b .clock; transmitter = addressIn b sender; link = record { 0 = metricOf links sender p } }
+abbrev pub arrivalFrom : (tables : List ℕ) → List (List ℕ) → (clock sender p : ℕ) → Arrival
+arrivalFrom tables links clock sender p =
+    record { clock = clock; transmitter = addressOf (tableAt tables 544 sender); link = record { 0 = metricOf links sender p } }
 
+-- (That the sender is a point holds of every frame kept; the test bounds the index.)
 unfoldable pub deliver : Bench → List (List ℕ) → (k p : ℕ) → Done
 deliver b links k p =
     let sender = senderOf (b .slots) k in
-    cond (ltb k (b .frames) && isPoint b p && isPoint b sender) (handedOver b k p (arrivalFrom b links sender p)) fault
+    cond (ltb k (b .frames) && isPoint b p && isPoint b sender) (handedOver b k p (arrivalFrom (b .tables) links (b .clock) sender p)) fault
 
 -- 7 break: the neighbour is a point
 unfoldable pub breakOff : Bench → (p q : ℕ) → Done

@@ -6,17 +6,12 @@ use mathlib.Core.List.{List}
 use lib.ListN.{length}
 use Rattle.counters.specs.declared.SequenceNumber.{SequenceNumber}
 use Rattle.table.specs.declared.address.Address.{Address}
-use Rattle.table.specs.Address.{addressOf}
-use Rattle.rules.specs.declared.Arrival.{Arrival}
 use Rattle.rules.specs.Decision.{_above_}
-use Rattle.rules.specs.Walk.{Walked, tableAt}
 use Rattle.point.specs.declared.Outcome.{Outcome}
 use Rattle.point.specs.declared.Outcome.the-variants.{Accepted, Refused}
 use Rattle.bench_core.specs.declared.State.{State}
-use Rattle.bench_core.specs.declared.Printed.{Printed}
 use Rattle.bench_core.specs.declared.Done.{Done}
 use Rattle.bench_core.specs.declared.Done.the-variants.{Line, Fault}
-use Rattle.bench_core.specs.Links.{metricOf}
 use Rattle.bench_core.specs.Frames.{keep}
 use Rattle.bench_core.specs.Bench.{Bench, fault, line}
 use Rattle.bench_core.specs.Bench.{Done as Came}
@@ -59,18 +54,7 @@ Bounded points frames clock = (points ≤ 16) × (frames ≤ 128) × (clock ≤ 
 pub record Memory (s : State) (tables slots : List ℕ) : Type 0 where
   pub tables-long : length tables ≡ 8704
   pub slots-long : length slots ≡ 33792
-  pub few-points : s .points ≤ 16
-  pub few-frames : s .frames ≤ 128
-  pub in-time : s .clock ≤ 281474976710655
-
--- a walk's line
-abbrev pub walkedAs : State → Walked → Done
-walkedAs s w = printed s (w .answer) (w .hops)
-
--- how a frame of this sender comes in at point p
-abbrev pub arrivalOf : List ℕ → List (List ℕ) → ℕ → ℕ → ℕ → Arrival
-arrivalOf tables links clock sender p =
-    record { clock = clock; transmitter = addressOf (tableAt tables 544 sender); link = record { 0 = metricOf links sender p } }
+  pub bounded : Bounded (s .points) (s .frames) (s .clock)
 
 -- ---- commands that leave a part of the memory alone, whatever stands there
 

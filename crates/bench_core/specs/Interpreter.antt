@@ -14,24 +14,24 @@ abbrev pub lengthOf : ℕ → ℕ
 lengthOf c = getD (0 ∷ 11 ∷ 5 ∷ 7 ∷ 13 ∷ 6 ∷ 4 ∷ 3 ∷ 3 ∷ []) c 0
 
 -- a command that leaves the links
-abbrev pub unlinking : List (List ℕ) → Done → Linking
-unlinking links d = record { done = d; links = links }
+abbrev pub leavingLinks : List (List ℕ) → Done → Linking
+leavingLinks links d = record { done = d; links = links }
 
 -- command c with its operands in these octets. They take: point 6, 4; advance 4; link 1, 1, 4; ask 1, 1 and 6, 4; announce 1, 4;
 -- deliver 2, 1; break 1, 1; walk 1, 1.
 unfoldable pub obeyed : Bench → List (List ℕ) → List ℕ → ℕ → Linking
 obeyed b links s c =
-    cond (eqb c 1) (unlinking links (addPoint b (record { 0 = numberAt 6 s 1 }) (record { 0 = numberAt 4 s 7 })))
-    (cond (eqb c 2) (unlinking links (advance b (numberAt 4 s 1)))
+    cond (eqb c 1) (leavingLinks links (addPoint b (record { 0 = numberAt 6 s 1 }) (record { 0 = numberAt 4 s 7 })))
+    (cond (eqb c 2) (leavingLinks links (advance b (numberAt 4 s 1)))
     (cond (eqb c 3) (link b links (numberAt 1 s 1) (numberAt 1 s 2) (numberAt 4 s 3))
-    (cond (eqb c 4) (unlinking links (askFor b (numberAt 1 s 1) (take 7 (drop 2 s)) (numberAt 4 s 9)))
-    (cond (eqb c 5) (unlinking links (announceSelf b (numberAt 1 s 1) (numberAt 4 s 2)))
-    (cond (eqb c 6) (unlinking links (deliver b links (numberAt 2 s 1) (numberAt 1 s 3)))
-    (cond (eqb c 7) (unlinking links (breakOff b (numberAt 1 s 1) (numberAt 1 s 2)))
-    (cond (eqb c 8) (unlinking links (walkTo b (numberAt 1 s 1) (numberAt 1 s 2))) (unlinking links fault))))))))
+    (cond (eqb c 4) (leavingLinks links (askFor b (numberAt 1 s 1) (take 7 (drop 2 s)) (numberAt 4 s 9)))
+    (cond (eqb c 5) (leavingLinks links (announceSelf b (numberAt 1 s 1) (numberAt 4 s 2)))
+    (cond (eqb c 6) (leavingLinks links (deliver b links (numberAt 2 s 1) (numberAt 1 s 3)))
+    (cond (eqb c 7) (leavingLinks links (breakOff b (numberAt 1 s 1) (numberAt 1 s 2)))
+    (cond (eqb c 8) (leavingLinks links (walkTo b (numberAt 1 s 1) (numberAt 1 s 2))) (leavingLinks links fault))))))))
 
 -- the command at the start of these octets; an unknown one or a cut operand is a fault
 unfoldable pub command : Bench → List (List ℕ) → List ℕ → Linking
 command b links s =
     let c = numberAt 1 s 0 in
-    cond (eqb (lengthOf c) 0 || (length s) below (lengthOf c)) (unlinking links fault) (obeyed b links s c)
+    cond (eqb (lengthOf c) 0 || (length s) below (lengthOf c)) (leavingLinks links fault) (obeyed b links s c)

@@ -1,10 +1,7 @@
 -- The link metric of every pair of 16 points; 0 is no link. Assumes nothing.
 use Prim.Native.Nat.{ℕ}
 use mathlib.Core.List.{List, []}
-use lib.ListN.{getD, set, replicate}
-
-abbrev pub noLinks : List (List ℕ)
-noLinks = replicate 16 (replicate 16 0)
+use lib.ListN.{getD, set}
 
 -- the metric from p to q
 abbrev pub metricOf : List (List ℕ) → ℕ → ℕ → ℕ

@@ -7,31 +7,16 @@ use crate::points;
 use crate::points::TABLE;
 use crate::settle;
 use counters::Metric;
+use point::LEAST_OUTPUT;
 use point::announce;
 use point::ask;
 use point::break_neighbour;
 use rules::Arrival;
 ghost use mathlib.Core.Path.{_≡_};
-ghost use Prim.Native.Nat.{_<_, _≤_};
+ghost use Prim.Native.Nat.{_<_};
 ghost use lib.ListN.{length};
-ghost use Rattle.bench_core.specs.Commands.{announceSelf, askFor, breakOff, deliver, handedOver};
-ghost use Rattle.bench_core.specs.InCode.{Memory, arrivalOf, benchOf, doneIn};
-
-// Octets of the output that the bench lends to a call.
-const OUTPUT: usize = 1560;
-
-pub fn announce_self(s: State, p: u8, lifetime: u32, tables: &mut [u8], slots: &mut [u8]) -> Done
-    requires { ⌜ Memory s (now tables) (now slots) ⌝ }
-    ensures { λ r. ⌜ doneIn r (now (tables .exit)) (now (slots .exit)) ≡ announceSelf (benchOf s (now (tables .entry)) (now (slots .entry))) p lifetime ⌝ }
-{
-    if s.points <= p as usize {
-        return Done::Fault;
-    }
-    let at = TABLE * p as usize;
-    let mut output = [0u8; OUTPUT];
-    let outcome = announce::announce(&mut tables[at..at + TABLE], &mut output, 0, lifetime);
-    settle::settle(s, p, outcome, &output, slots)
-}
+ghost use Rattle.bench_core.specs.Commands.{announceSelf, arrivalFrom, askFor, breakOff, deliver, handedOver};
+ghost use Rattle.bench_core.specs.InCode.{Memory, benchOf, doneIn};
 
 // The item of the one destination is its flags and its address.
 pub fn ask_for(
@@ -49,27 +34,21 @@ pub fn ask_for(
         return Done::Fault;
     }
     let at = TABLE * p as usize;
-    let mut output = [0u8; OUTPUT];
+    let mut output = [0u8; LEAST_OUTPUT];
     let outcome = ask::ask(&mut tables[at..at + TABLE], &mut output, lifetime, item);
     settle::settle(s, p, outcome, &output, slots)
 }
 
-// The neighbour is another point, or the point itself, which is refused.
-pub fn break_off(s: State, p: u8, q: u8, tables: &mut [u8], slots: &mut [u8]) -> Done
+pub fn announce_self(s: State, p: u8, lifetime: u32, tables: &mut [u8], slots: &mut [u8]) -> Done
     requires { ⌜ Memory s (now tables) (now slots) ⌝ }
-    ensures { λ r. ⌜ doneIn r (now (tables .exit)) (now (slots .exit)) ≡ breakOff (benchOf s (now (tables .entry)) (now (slots .entry))) p q ⌝ }
+    ensures { λ r. ⌜ doneIn r (now (tables .exit)) (now (slots .exit)) ≡ announceSelf (benchOf s (now (tables .entry)) (now (slots .entry))) p lifetime ⌝ }
 {
     if s.points <= p as usize {
         return Done::Fault;
     }
-    if s.points <= q as usize {
-        return Done::Fault;
-    }
-    let neighbour = points::address_of(tables, q as usize);
     let at = TABLE * p as usize;
-    let mut output = [0u8; OUTPUT];
-    let part = &mut tables[at..at + TABLE];
-    let outcome = break_neighbour::break_neighbour(part, &mut output, s.clock, neighbour);
+    let mut output = [0u8; LEAST_OUTPUT];
+    let outcome = announce::announce(&mut tables[at..at + TABLE], &mut output, 0, lifetime);
     settle::settle(s, p, outcome, &output, slots)
 }
 
@@ -77,7 +56,7 @@ pub fn break_off(s: State, p: u8, q: u8, tables: &mut [u8], slots: &mut [u8]) ->
 fn arrival_from(tables: &[u8], links: &[[u32; 16]; 16], clock: u64, sender: u8, p: u8) -> Arrival
     requires { ⌜ length (now tables) ≡ 8704 ⌝ }
     requires { ⌜ (sender < 16) × (p < 16) ⌝ }
-    ensures { λ r. ⌜ r ≡ arrivalOf (now (tables .entry)) (now (links .entry)) clock sender p ⌝ }
+    ensures { λ r. ⌜ r ≡ arrivalFrom (now (tables .entry)) (now (links .entry)) clock sender p ⌝ }
 {
     Arrival {
         clock,
@@ -100,7 +79,7 @@ fn hand_over(
     ensures { λ r. ⌜ doneIn r (now (tables .exit)) (now (slots .exit)) ≡ handedOver (benchOf s (now (tables .entry)) (now (slots .entry))) k p arrival ⌝ }
 {
     let at = TABLE * p as usize;
-    let mut output = [0u8; OUTPUT];
+    let mut output = [0u8; LEAST_OUTPUT];
     let part = &mut tables[at..at + TABLE];
     let outcome = receive::receive(part, &mut output, arrival, frames::element_of(slots, k));
     settle::settle(s, p, outcome, &output, slots)
@@ -130,4 +109,23 @@ pub fn deliver_frame(
     }
     let arrival = arrival_from(tables, links, s.clock, sender, p);
     hand_over(s, k as usize, p, arrival, tables, slots)
+}
+
+// The neighbour is another point, or the point itself, which is refused.
+pub fn break_off(s: State, p: u8, q: u8, tables: &mut [u8], slots: &mut [u8]) -> Done
+    requires { ⌜ Memory s (now tables) (now slots) ⌝ }
+    ensures { λ r. ⌜ doneIn r (now (tables .exit)) (now (slots .exit)) ≡ breakOff (benchOf s (now (tables .entry)) (now (slots .entry))) p q ⌝ }
+{
+    if s.points <= p as usize {
+        return Done::Fault;
+    }
+    if s.points <= q as usize {
+        return Done::Fault;
+    }
+    let neighbour = points::address_of(tables, q as usize);
+    let at = TABLE * p as usize;
+    let mut output = [0u8; LEAST_OUTPUT];
+    let part = &mut tables[at..at + TABLE];
+    let outcome = break_neighbour::break_neighbour(part, &mut output, s.clock, neighbour);
+    settle::settle(s, p, outcome, &output, slots)
 }

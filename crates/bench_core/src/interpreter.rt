@@ -20,6 +20,14 @@ pub fn length_of(command: u8) -> usize
     lengths[i]
 }
 
+// Whether octets of the first command are still to come. A command that is unknown has none.
+pub fn is_cut(input: &[u8]) -> bool {
+    if input.len() == 0 {
+        return true;
+    }
+    input.len() < length_of(octets::read_u8(input, 0))
+}
+
 fn obey(
     command: u8,
     input: &[u8],

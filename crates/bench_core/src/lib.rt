@@ -1,10 +1,10 @@
 // The bench: up to 16 points, the links between them and the frames that they have sent, driven by commands.
 mod calls;
-mod frames;
+pub mod frames;
 pub mod interpreter;
 mod links;
 mod operands;
-mod points;
+pub mod points;
 mod settle;
 
 ghost use mathlib.Core.Path.{_≡_};

@@ -5,20 +5,21 @@ use counters::SequenceNumber;
 use point::fresh;
 use table::address::Address;
 use table::legal;
-use walk::Ending;
 use walk::pieces;
 ghost use mathlib.Core.Path.{_≡_};
 ghost use Prim.Native.Nat.{_<_, _≤_};
 ghost use lib.ListN.{length};
 ghost use Rattle.table.specs.Address.{addressOf};
-ghost use Rattle.rules.specs.Walk.{tableAt, walkedAtExit};
-ghost use Rattle.walk.specs.Answers.{decisionOf};
-ghost use Rattle.bench_core.specs.InCode.{Adds, Advances, Walks, walkedAs};
+ghost use Rattle.rules.specs.Walk.{tableAt};
+ghost use Rattle.bench_core.specs.InCode.{Adds, Advances, Walks};
 
 pub const MOST_POINTS: usize = 16;
 
 // Octets of a table with 16 rows.
 pub const TABLE: usize = 544;
+
+// Octets of all tables.
+pub const TABLES: usize = MOST_POINTS * TABLE;
 
 // The address of a point.
 pub fn address_of(tables: &[u8], p: usize) -> Address
@@ -67,18 +68,6 @@ pub fn advance_clock(s: State, by: u32) -> Done
     after.prints(0, 0)
 }
 
-// A walk's line: its answer and the hops walked.
-fn walked_line(s: State, ending: Ending) -> Done
-    ensures { λ r. ⌜ r ≡ walkedAs s (walkedAtExit (decisionOf ending)) ⌝ }
-{
-    match ending {
-        Ending::Arrived(hops) => s.prints(0, hops.0 as u32),
-        Ending::Stopped(hops) => s.prints(41, hops.0 as u32),
-        Ending::TooLong(hops) => s.prints(42, hops.0 as u32),
-        Ending::Refused(n) => s.prints(n, 0),
-    }
-}
-
 pub fn walk_to(s: State, p: u8, q: u8, tables: &[u8]) -> Done
     requires { ⌜ length (now tables) ≡ 8704 ⌝ }
     requires { ⌜ s .points ≤ 16 ⌝ }
@@ -101,5 +90,6 @@ pub fn walk_to(s: State, p: u8, q: u8, tables: &[u8]) -> Done
         start,
         destination,
     );
-    walked_line(s, ending)
+    let walked = walk::in_numbers(ending);
+    s.prints(walked.answer, walked.hops)
 }

@@ -1,5 +1,5 @@
 -- A command leaves at most 16 points and 128 frames, and a clock in time; and one that prints a line was whole. Assumes nothing.
-use Prim.Native.Nat.{ℕ, _+_, _-_, _<_, _≤_}
+use Prim.Native.Nat.{ℕ, _+_, _<_, _≤_}
 use mathlib.Core.Path.{_≡_, refl, sym, ap, subst, _∙_}
 use mathlib.Core.Bool.{Bool, true, false, _&&_, _||_, cond}
 use mathlib.Core.List.{List}
@@ -26,7 +26,7 @@ use Rattle.bench_core.specs.Frames.{senderOf, elementOf}
 use Rattle.bench_core.specs.Bench.{Bench, Done, fault, line, tableOf, addressIn, calledBy, settled}
 use Rattle.bench_core.specs.Commands.{Linking, added, addPoint, advance, link, askFor, announceSelf, handedOver, arrivalFrom, deliver, breakOff, walkTo}
 use Rattle.bench_core.specs.InCode.{benchOf, doneIn, Bounded, Memory}
-use Rattle.bench_core.specs.Interpreter.{lengthOf, unlinking, obeyed, command}
+use Rattle.bench_core.specs.Interpreter.{lengthOf, leavingLinks, obeyed, command}
 
 -- of what a command comes to
 abbrev Within : Done → Type 0
@@ -70,7 +70,7 @@ module _ (b : Bench) (h : Bounded (b .points) (b .frames) (b .clock)) where
   unfolding deliver handedOver
   deliver-within links k p =
       cond-cases Within (ltb k (b .frames) && ltb p (b .points) && ltb (senderOf (b .slots) k) (b .points))
-      (λ _. settled-within p (calledBy b p (receive (tableOf b p) 1560 (arrivalFrom b links (senderOf (b .slots) k) p) (elementOf (b .slots) k))))
+      (λ _. settled-within p (calledBy b p (receive (tableOf b p) 1560 (arrivalFrom (b .tables) links (b .clock) (senderOf (b .slots) k) p) (elementOf (b .slots) k))))
       (λ _. tt)
 
   break-within : (p q : ℕ) → Within (breakOff b p q)
@@ -107,20 +107,21 @@ module _ (b : Bench) (h : Bounded (b .points) (b .frames) (b .clock)) where
     unfolding command
     command-within = cond-cases Fine cut (λ _. tt) (λ _. obeyed-within (numberAt 1 s 0))
 
-    -- a command that prints a line has all its octets
-    whole-within : (answer third : ℕ) (b′ : Bench) → command b links s .done ≡ line answer third b′
-        → (0 < lengthOf (numberAt 1 s 0)) × (lengthOf (numberAt 1 s 0) ≤ length s)
-    unfolding command
-    whole-within answer third b′ e = by (eqb n 0) refl (ltb (length s) n) refl e
-      where
-        n : ℕ
-        n = lengthOf (numberAt 1 s 0)
+module _ (b : Bench) (links : List (List ℕ)) (s : List ℕ) where
+  -- a command that prints a line has all its octets
+  whole-within : (answer third : ℕ) (b′ : Bench) → command b links s .done ≡ line answer third b′
+      → (0 < lengthOf (numberAt 1 s 0)) × (lengthOf (numberAt 1 s 0) ≤ length s)
+  unfolding command
+  whole-within answer third b′ e = by (eqb n 0) refl (ltb (length s) n) refl e
+    where
+      n : ℕ
+      n = lengthOf (numberAt 1 s 0)
 
-        by : (x : Bool) → eqb n 0 ≡ x → (y : Bool) → ltb (length s) n ≡ y
-            → cond (x || y) (unlinking links fault) (obeyed b links s (numberAt 1 s 0)) .done ≡ line answer third b′ → (0 < n) × (n ≤ length s)
-        by true xe y ye e = let z : _≡_ {A = ℕ} 0 1 = cc in absurd (omega arith)
-        by false xe true ye e = let z : _≡_ {A = ℕ} 0 1 = cc in absurd (omega arith)
-        by false xe false ye e = (pos-of-ne-zero (eqb-false n 0 xe), ltb-false (length s) n ye)
+      by : (x : Bool) → eqb n 0 ≡ x → (y : Bool) → ltb (length s) n ≡ y
+          → cond (x || y) (leavingLinks links fault) (obeyed b links s (numberAt 1 s 0)) .done ≡ line answer third b′ → (0 < n) × (n ≤ length s)
+      by true xe y ye e = let z : _≡_ {A = ℕ} 0 1 = cc in absurd (omega arith)
+      by false xe true ye e = let z : _≡_ {A = ℕ} 0 1 = cc in absurd (omega arith)
+      by false xe false ye e = (pos-of-ne-zero (eqb-false n 0 xe), ltb-false (length s) n ye)
 
 -- as the loop over the commands asks it
 module _ (st : State) (tables slots : List ℕ) (links : List (List ℕ)) (s : List ℕ) (m : Memory st tables slots)
@@ -130,10 +131,10 @@ module _ (st : State) (tables slots : List ℕ) (links : List (List ℕ)) (s : L
   came-so = sym (ap (λ (l : Linking). l .done) e) ∙ ap (λ (q : DoneInCode). doneIn q tables′ slots′) re
 
   within-so : Bounded (x .points) (x .frames) (x .clock)
-  within-so = subst Within came-so (command-within (benchOf st tables slots) (m .few-points, m .few-frames, m .in-time) links s)
+  within-so = subst Within came-so (command-within (benchOf st tables slots) (m .bounded) links s)
 
   whole-so : (0 < lengthOf (numberAt 1 s 0)) × (lengthOf (numberAt 1 s 0) ≤ length s)
-  whole-so = whole-within (benchOf st tables slots) (m .few-points, m .few-frames, m .in-time) links s _ _ _ came-so
+  whole-so = whole-within (benchOf st tables slots) links s _ _ _ came-so
 
   pub line-points : x .points ≤ 16
   line-points = within-so .0

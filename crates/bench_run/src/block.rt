@@ -1,5 +1,4 @@
 // The commands of a block, one after another, and the lines that they print.
-use crate::reader;
 use crate::text;
 use bench_core::Done;
 use bench_core::Printed;
@@ -10,7 +9,7 @@ ghost use Prim.Native.Nat.{_+_, _<_, _≤_};
 ghost use lib.ListN.{length};
 ghost use Rattle.octets.specs.LittleEndian.{numberAt};
 ghost use Rattle.bench_core.specs.InCode.{Bounded};
-ghost use Rattle.bench_run.specs.Standing.{Stands};
+ghost use Rattle.bench_run.specs.Blocks.{Stands};
 ghost use Rattle.bench_core.specs.Interpreter.{lengthOf};
 
 // How far the commands have come: octets of the block used, octets of the text written, whether the bench has ended, and what it
@@ -26,7 +25,7 @@ pub struct Progress {
 
 // After a command that was obeyed, so that all its octets are at the start of the rest.
 fn print_line(p: Progress, rest: &[u8], x: Printed, text: &mut [u8]) -> Progress
-    requires { ⌜ (0 < lengthOf (numberAt 1 (now rest) 0)) × (lengthOf (numberAt 1 (now rest) 0) ≤ length (now rest)) × (0 < length (now rest)) ⌝ }
+    requires { ⌜ (0 < lengthOf (numberAt 1 (now rest) 0)) × (lengthOf (numberAt 1 (now rest) 0) ≤ length (now rest)) ⌝ }
     requires { ⌜ (p .used + length (now rest) < 18446744073709551616) × (p .written + 64 ≤ length (now text)) ⌝ }
     requires { ⌜ Bounded (x .points) (x .frames) (x .clock) ⌝ }
     ensures { λ r. ⌜ (p .used < r .used) × (r .used ≤ p .used + length (now (rest .entry))) × (r .written ≤ p .written + 64) × Bounded (r .points) (r .frames) (r .clock) ⌝ }
@@ -92,7 +91,7 @@ fn step(
     }
 }
 
-// All commands of a block that are known to be whole, as long as the text has room; of the last block all commands.
+// All whole commands of a block, as long as the text has room; of the last block the one that is cut too.
 pub fn obey_block(
     block: &[u8],
     last: bool,
@@ -117,8 +116,8 @@ pub fn obey_block(
         clock: s.clock,
     };
     while p.used < n {
-        let left = n - p.used;
-        if !last & (left < reader::LONGEST_COMMAND) {
+        let used = p.used;
+        if !last & interpreter::is_cut(&block[used..]) {
             return p;
         }
         let room = text.len() - p.written;

@@ -4,11 +4,13 @@ mod reader;
 mod text;
 
 use bench_core::State;
+use bench_core::frames::SLOTS;
+use bench_core::points::TABLES;
 
 // Obeys the commands on standard input, and prints a line for each.
 pub fn run() {
-    let mut tables = [0u8; 8704];
-    let mut slots = [0u8; 33792];
+    let mut tables = [0u8; TABLES];
+    let mut slots = [0u8; SLOTS];
     let mut links = [[0u32; 16]; 16];
     let mut buffer = io::large_buffer();
     let mut text = io::large_buffer();

@@ -1,11 +1,9 @@
 // Commands come in blocks of standard input, and a block may end inside a command.
+use bench_core::interpreter;
 use libc::STDIN_FILENO;
 ghost use mathlib.Core.Path.{_≡_};
 ghost use Prim.Native.Nat.{_+_, _-_, _<_, _≤_};
 ghost use lib.ListN.{length};
-
-// No command is longer.
-pub const LONGEST_COMMAND: usize = 13;
 
 // Which octets of the buffer are still to be obeyed, whether standard input has ended, and the offset of the first of them.
 pub struct Cursor {
@@ -29,7 +27,7 @@ pub fn start() -> Cursor
 // Moves what is left to the start of the buffer, and answers how much that is.
 fn move_to_start(buffer: &mut [u8], from: usize, filled: usize) -> usize
     requires { ⌜ (from ≤ filled) × (filled ≤ length (now buffer)) ⌝ }
-    ensures { λ r. ⌜ r ≤ filled - from ⌝ }
+    ensures { λ r. ⌜ r ≡ filled - from ⌝ }
 {
     let n = filled - from;
     let mut i = 0;
@@ -40,7 +38,7 @@ fn move_to_start(buffer: &mut [u8], from: usize, filled: usize) -> usize
     n
 }
 
-// One read into the buffer from a place on: how many octets came.
+// One read into the buffer from a place on: how many octets came. None is the end of the input, and so is a read that fails.
 fn read_from(buffer: &mut [u8], at: usize) -> usize
     requires { ⌜ at ≤ length (now buffer) ⌝ }
     ensures { λ r. ⌜ at + r ≤ length (now (buffer .exit)) ⌝ }
@@ -50,14 +48,17 @@ fn read_from(buffer: &mut [u8], at: usize) -> usize
     io::count(got, part)
 }
 
-// Reads on where less than a command may be left.
+// Reads on where the next command is not all there, so that a whole one is obeyed before more is waited for.
 pub fn refill(buffer: &mut [u8], c: Cursor) -> Cursor
     requires { ⌜ (c .from ≤ c .filled) × (c .filled ≤ length (now buffer)) ⌝ }
     ensures { λ r. ⌜ (r .from ≤ r .filled) × (r .filled ≤ length (now (buffer .exit))) ⌝ }
 {
     let from = c.from;
     let filled = c.filled;
-    if c.last | (LONGEST_COMMAND <= filled - from) {
+    if c.last {
+        return c;
+    }
+    if !interpreter::is_cut(&buffer[from..filled]) {
         return c;
     }
     let left = move_to_start(buffer, from, filled);

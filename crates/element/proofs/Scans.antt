@@ -124,6 +124,42 @@ module _ {A : Type 0} (F : List A → Bool) (p : A → List A → Bool) (empty :
   pub scan-ended : n ≤ i → F (each f i (n - i)) ≡ g → false ≡ g
   scan-ended l e = sym empty ∙ ap F (sym (each-end f i n l)) ∙ e
 
+-- over any addresses, as loops ask it: at address i of n
+module _ (f : ℕ → Address) (n i : ℕ) (g : Bool) where
+  module _ (l : i < n) (a : Address) (ae : a ≡ f i) where
+    module _ (d : Address) where
+      same-is : same a d ≡ same (f i) d
+      same-is = ap (λ (c : Address). same c d) ae
+
+      pub found-among : a .0 ≡ d .0 → among d (each f i (n - i)) ≡ g → true ≡ g
+      unfolding among
+      found-among e = scan-found (among d) (λ c rest. same c d) refl (λ c rest. refl) f n i g l (sym same-is ∙ eq-eqb (a .0) (d .0) e)
+
+      pub more-among : (a .0 ≡ d .0 → ⊥) → among d (each f i (n - i)) ≡ g → among d (each f (i + 1) (n - (i + 1))) ≡ g
+      unfolding among
+      more-among e = scan-more (among d) (λ c rest. same c d) refl (λ c rest. refl) f n i g l (sym same-is ∙ ne-eqb (a .0) (d .0) e)
+
+    module _ (b : Bool) (be : b ≡ among a (each f (i + 1) (n - (i + 1)))) where
+      again-is : b ≡ among (f i) (each f (i + 1) (n - (i + 1)))
+      again-is = be ∙ ap (λ (c : Address). among c (each f (i + 1) (n - (i + 1)))) ae
+
+      pub found-twice : b ≡ true → twice (each f i (n - i)) ≡ g → true ≡ g
+      unfolding twice
+      found-twice yes-b = scan-found twice among refl (λ c rest. refl) f n i g l (sym again-is ∙ yes-b)
+
+      pub more-twice : b ≡ false → twice (each f i (n - i)) ≡ g → twice (each f (i + 1) (n - (i + 1))) ≡ g
+      unfolding twice
+      more-twice no-b = scan-more twice among refl (λ c rest. refl) f n i g l (sym again-is ∙ no-b)
+
+  module _ (l : n ≤ i) where
+    pub ended-among : (d : Address) → among d (each f i (n - i)) ≡ g → false ≡ g
+    unfolding among
+    ended-among d = scan-ended (among d) (λ c rest. same c d) refl (λ c rest. refl) f n i g l
+
+    pub ended-twice : twice (each f i (n - i)) ≡ g → false ≡ g
+    unfolding twice
+    ended-twice = scan-ended twice among refl (λ c rest. refl) f n i g l
+
 -- as the loops ask it: n entries, at entry i, and g what the whole scan gives
 module _ (k : ListKind) (part : List ℕ) (n : ℕ) (ne : n ≡ entriesIn k part) (i : ℕ) (g : Bool) where
   module _ (l : i < n) where
@@ -148,32 +184,22 @@ module _ (k : ListKind) (part : List ℕ) (n : ℕ) (ne : n ≡ entriesIn k part
             (addressIn k part) (entriesIn k part) i g entry-there (ap not (sym allowed-is) ∙ yes-b)
 
       module _ (d : Address) where
-        same-is : same a d ≡ same (addressIn k part i) d
-        same-is = ap (λ (c : Address). same c d) ae
-
         pub among-found : a .0 ≡ d .0 → among d (addressesFrom k part i) ≡ g → true ≡ g
-        unfolding addressesFrom among
-        among-found e =
-            scan-found (among d) (λ c rest. same c d) refl (λ c rest. refl)
-            (addressIn k part) (entriesIn k part) i g entry-there (sym same-is ∙ eq-eqb (a .0) (d .0) e)
+        unfolding addressesFrom
+        among-found = found-among (addressIn k part) (entriesIn k part) i g entry-there a ae d
 
         pub among-more : (a .0 ≡ d .0 → ⊥) → among d (addressesFrom k part i) ≡ g → among d (addressesFrom k part (i + 1)) ≡ g
-        unfolding addressesFrom among
-        among-more e =
-            scan-more (among d) (λ c rest. same c d) refl (λ c rest. refl)
-            (addressIn k part) (entriesIn k part) i g entry-there (sym same-is ∙ ne-eqb (a .0) (d .0) e)
+        unfolding addressesFrom
+        among-more = more-among (addressIn k part) (entriesIn k part) i g entry-there a ae d
 
       module _ (b : Bool) (be : b ≡ among a (addressesFrom k part (i + 1))) where
-        among-is : b ≡ among (addressIn k part i) (addressesFrom k part (i + 1))
-        among-is = be ∙ ap (λ (c : Address). among c (addressesFrom k part (i + 1))) ae
-
         pub twice-found : b ≡ true → twice (addressesFrom k part i) ≡ g → true ≡ g
-        unfolding addressesFrom twice
-        twice-found yes-b = scan-found twice among refl (λ c rest. refl) (addressIn k part) (entriesIn k part) i g entry-there (sym among-is ∙ yes-b)
+        unfolding addressesFrom
+        twice-found = found-twice (addressIn k part) (entriesIn k part) i g entry-there a ae b be
 
         pub twice-more : b ≡ false → twice (addressesFrom k part i) ≡ g → twice (addressesFrom k part (i + 1)) ≡ g
-        unfolding addressesFrom twice
-        twice-more no-b = scan-more twice among refl (λ c rest. refl) (addressIn k part) (entriesIn k part) i g entry-there (sym among-is ∙ no-b)
+        unfolding addressesFrom
+        twice-more = more-twice (addressIn k part) (entriesIn k part) i g entry-there a ae b be
 
   module _ (l : n ≤ i) where
     all-passed : entriesIn k part ≤ i
@@ -186,12 +212,12 @@ module _ (k : ListKind) (part : List ℕ) (n : ℕ) (ne : n ≡ entriesIn k part
         (addressIn k part) (entriesIn k part) i g all-passed
 
     pub among-ended : (d : Address) → among d (addressesFrom k part i) ≡ g → false ≡ g
-    unfolding addressesFrom among
-    among-ended d = scan-ended (among d) (λ c rest. same c d) refl (λ c rest. refl) (addressIn k part) (entriesIn k part) i g all-passed
+    unfolding addressesFrom
+    among-ended = ended-among (addressIn k part) (entriesIn k part) i g all-passed
 
     pub twice-ended : twice (addressesFrom k part i) ≡ g → false ≡ g
-    unfolding addressesFrom twice
-    twice-ended = scan-ended twice among refl (λ c rest. refl) (addressIn k part) (entriesIn k part) i g all-passed
+    unfolding addressesFrom
+    twice-ended = ended-twice (addressIn k part) (entriesIn k part) i g all-passed
 
 module _ (k : ListKind) (part : List ℕ) where
   pub ones-beside : (b : Bool) (n : ℕ) → b ≡ among allOnes (addressesIn k part) → n ≡ entriesIn k part

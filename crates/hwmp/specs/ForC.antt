@@ -6,12 +6,10 @@ use Rattle.table.specs.declared.address.Address.{Address}
 use Rattle.table.specs.Address.{octetsOf}
 use Rattle.rules.specs.Decision.{Decision, refused, accepted}
 use Rattle.rules.specs.Outcome.{Exit}
-use Rattle.rules.specs.Walk.{Walked}
 use Rattle.point.specs.declared.Outcome.{Outcome}
 use Rattle.point.specs.declared.Outcome.the-variants.{Accepted, Refused}
 use Rattle.hwmp.specs.declared.HwmpHop.{HwmpHop}
 use Rattle.hwmp.specs.declared.HwmpOutcome.{HwmpOutcome}
-use Rattle.hwmp.specs.declared.HwmpWalked.{HwmpWalked}
 
 -- answer 0 and the next hop, or the refusal's number and zeros
 abbrev pub hopFor : Decision Address → HwmpHop
@@ -26,7 +24,3 @@ outcomeFor (Refused n) = record { answer = n; frames = 0; octets = 0 }
 -- what C gets, with the table and the output that the call leaves
 abbrev pub leaving : HwmpOutcome → List ℕ → List ℕ → Exit
 leaving r t output = record { answer = r .answer; frames = r .frames; octets = r .octets; table = t; output = output }
-
--- a walk's answer and hops
-abbrev pub walkedAs : HwmpWalked → Walked
-walkedAs r = record { answer = r .answer; hops = r .hops }

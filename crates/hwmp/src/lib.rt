@@ -12,7 +12,7 @@ use point::next_hop::Hop;
 use point::root_request;
 use rules::Arrival;
 use table::address;
-use walk::Ending;
+use walk::Walked;
 ghost use mathlib.Core.Path.{_≡_};
 ghost use lib.ListN.{length};
 ghost use Rattle.table.specs.Address.{addressOf};
@@ -26,19 +26,13 @@ ghost use Rattle.rules.specs.Originate.{announce, ask, rootRequest};
 ghost use Rattle.rules.specs.Break.{breakNeighbour};
 ghost use Rattle.rules.specs.Walk.{walk, walkedAtExit};
 ghost use Rattle.point.specs.Answers.{decisionOf};
-ghost use Rattle.walk.specs.Answers.{decisionOf as Walk·decisionOf};
-ghost use Rattle.hwmp.specs.ForC.{hopFor, leaving, outcomeFor, walkedAs};
+ghost use Rattle.walk.specs.Answers.{numbersOf};
+ghost use Rattle.hwmp.specs.ForC.{hopFor, leaving, outcomeFor};
 
 #[repr(C)]
 pub struct HwmpHop {
     pub answer: u32,
     pub address: [u8; 6],
-}
-
-#[repr(C)]
-pub struct HwmpWalked {
-    pub answer: u32,
-    pub hops: u32,
 }
 
 #[repr(C)]
@@ -79,27 +73,6 @@ fn outcome_for(outcome: Outcome) -> HwmpOutcome
             frames: 0,
             octets: 0,
         },
-    }
-}
-
-// A walk as C gets it: 0, 41 or 42 with the hops walked, or the refusal's number and 0.
-fn walked_for(ending: Ending) -> HwmpWalked
-    ensures { λ r. ⌜ walkedAs r ≡ walkedAtExit (Walk·decisionOf ending) ⌝ }
-{
-    match ending {
-        Ending::Arrived(hops) => HwmpWalked {
-            answer: 0,
-            hops: hops.0 as u32,
-        },
-        Ending::Stopped(hops) => HwmpWalked {
-            answer: 41,
-            hops: hops.0 as u32,
-        },
-        Ending::TooLong(hops) => HwmpWalked {
-            answer: 42,
-            hops: hops.0 as u32,
-        },
-        Ending::Refused(answer) => HwmpWalked { answer, hops: 0 },
     }
 }
 
@@ -198,10 +171,10 @@ pub extern "C" fn hwmp_walk(
     clock: u64,
     start: &[u8; 6],
     destination: &[u8; 6],
-) -> HwmpWalked
-    ensures { λ r. ⌜ walkedAs r ≡ walkedAtExit (walk (now (tables .entry)) count clock (addressOf (now (start .entry))) (addressOf (now (destination .entry)))) ⌝ }
+) -> Walked
+    ensures { λ r. ⌜ numbersOf r ≡ walkedAtExit (walk (now (tables .entry)) count clock (addressOf (now (start .entry))) (addressOf (now (destination .entry)))) ⌝ }
 {
     let from = address::read(start);
     let to = address::read(destination);
-    walked_for(walk::walk(tables, count, clock, from, to))
+    walk::in_numbers(walk::walk(tables, count, clock, from, to))
 }

@@ -67,7 +67,7 @@ module _ (tables : List (List ℕ)) (c : ℕ) (d : Address) where
   leadsTo none = none
   leadsTo (some r) = cond (active c r && (same (r .next) d || among (r .next) (points tables))) (some (r .next)) none
 
-  -- a next hop that is neither is not counted
+  -- nowhere to go on to: 41, and nothing more is counted
   abbrev pub goOn : Option Address → (hops : ℕ) → (Address → ℕ → Walked) → Walked
   goOn none hops further = stopped hops
   goOn (some next) hops further = further next (hops + 1)

@@ -1,9 +1,9 @@
 -- The tables side by side by their octets: where each lies, that it is as long as the others, and what the checks find of
 -- them all. Assumes nothing.
-use Prim.Native.Nat.{ℕ, suc, _+_, _-_, _*_, _/_, _%_, _<_, _≤_}
+use Prim.Native.Nat.{ℕ, _+_, _-_, _*_, _/_, _%_, _<_, _≤_}
 use mathlib.Core.Path.{_≡_, refl, sym, ap, _∙_}
 use mathlib.Core.Bool.{Bool, true, false, not, _&&_, _||_}
-use mathlib.Core.List.{List, [], _∷_, map}
+use mathlib.Core.List.{List}
 use lib.Dec.{eqb, leb, ltb}
 use lib.ListN.{length, take, drop, length-take, length-drop}
 use native.Mathlib.Omega.{arith}
@@ -11,16 +11,16 @@ use native.Mathlib.Nat.{sub-zero, mul-zero, mul-suc, mul-comm, mul-le-mul-left, 
 use borrow.Author.Tests.{eq-eqb, ne-eqb, lt-ltb, le-ltb, eqb-true, le-leb, lt-leb, leb-true, not-false}
 use Rattle.octets.specs.LittleEndian.{numberAt}
 use Rattle.table.specs.declared.address.Address.{Address}
-use Rattle.table.specs.Address.{addressOf, same}
+use Rattle.table.specs.Address.{addressOf}
 use Rattle.table.specs.declared.row.Head.{Head}
 use Rattle.table.specs.Layout.{sized, headAt}
 use Rattle.table.specs.Table.{clock, isTable}
 use Rattle.table.proofs.Cases.{both, sized-long}
 use Rattle.element.specs.Entries.{each}
 use Rattle.element.specs.Lists.{among, twice}
-use Rattle.element.proofs.Scans.{map-each, scan-found, scan-more, scan-ended}
+use Rattle.element.proofs.Scans.{map-each}
 use Rattle.rules.specs.Lists.{any}
-use Rattle.rules.specs.Walk.{tableAt, lengthOfEach, tablesIn, sideBySide, points, hasLaterClock}
+use Rattle.rules.specs.Walk.{tableAt, lengthOfEach, sideBySide, points, hasLaterClock}
 use Rattle.rules.proofs.AnyOf.{any-found, any-more}
 use Rattle.walk.specs.Pieces.{Pieces, pieces, pointAt}
 
@@ -101,48 +101,6 @@ ten-tested a b c d e f v h = rw (← e, ← f) h
 module _ (s : List ℕ) (long i : ℕ) where
   pub point-read : (t : List ℕ) → t ≡ tableAt s long i → (n : ℕ) → n ≡ numberAt 6 t 0 → record { 0 = n } ≡ pointAt s long i
   point-read t te n ne = rw (ne, te)
-
--- as the loops over the points ask it: at point i of n, and g what the whole loop gives
-module _ (s : List ℕ) (long n i : ℕ) (g : Bool) where
-  abbrev from : List Address
-  from = each (pointAt s long) i (n - i)
-
-  abbrev after : List Address
-  after = each (pointAt s long) (i + 1) (n - (i + 1))
-
-  module _ (l : i < n) (a : Address) (ae : a ≡ pointAt s long i) where
-    module _ (b : Address) where
-      same-is : same a b ≡ same (pointAt s long i) b
-      same-is = ap (λ (x : Address). same x b) ae
-
-      pub point-found : a .0 ≡ b .0 → among b from ≡ g → true ≡ g
-      unfolding among
-      point-found e = scan-found (among b) (λ x _. same x b) refl (λ _ _. refl) (pointAt s long) n i g l (sym same-is ∙ eq-eqb (a .0) (b .0) e)
-
-      pub point-more : (a .0 ≡ b .0 → ⊥) → among b from ≡ g → among b after ≡ g
-      unfolding among
-      point-more ne = scan-more (among b) (λ x _. same x b) refl (λ _ _. refl) (pointAt s long) n i g l (sym same-is ∙ ne-eqb (a .0) (b .0) ne)
-
-    module _ (b : Bool) (be : b ≡ among a after) where
-      again-is : b ≡ among (pointAt s long i) after
-      again-is = be ∙ ap (λ (x : Address). among x after) ae
-
-      pub twice-found : b ≡ true → twice from ≡ g → true ≡ g
-      unfolding twice
-      twice-found e = scan-found twice among refl (λ _ _. refl) (pointAt s long) n i g l (sym again-is ∙ e)
-
-      pub twice-more : b ≡ false → twice from ≡ g → twice after ≡ g
-      unfolding twice
-      twice-more e = scan-more twice among refl (λ _ _. refl) (pointAt s long) n i g l (sym again-is ∙ e)
-
-  module _ (l : n ≤ i) where
-    pub point-ended : (b : Address) → among b from ≡ g → false ≡ g
-    unfolding among
-    point-ended b = scan-ended (among b) (λ x _. same x b) refl (λ _ _. refl) (pointAt s long) n i g l
-
-    pub twice-ended : twice from ≡ g → false ≡ g
-    unfolding twice
-    twice-ended = scan-ended twice among refl (λ _ _. refl) (pointAt s long) n i g l
 
 -- the points of the pieces are read from the pieces one by one
 module _ (s : List ℕ) (long n : ℕ) where

@@ -2,22 +2,21 @@
 use Prim.Native.Nat.{ℕ, zero, suc, _+_, _-_, _/_, _<_, _≤_}
 use mathlib.Core.Path.{_≡_, refl, sym, ap, _∙_}
 use mathlib.Core.Bool.{Bool, true, false, not, _&&_, _||_, cond}
-use mathlib.Core.List.{List, [], _∷_}
+use mathlib.Core.List.{List}
 use mathlib.Core.Option.{Option, none, some}
 use lib.ListN.{length}
 use native.Mathlib.Omega.{arith}
 use native.Mathlib.Nat.{sub-zero}
-use native.Mathlib.Numerals.{add-one}
 use borrow.Author.Tests.{eq-eqb, ne-eqb, not-true, not-false}
 use Rattle.table.specs.declared.address.Address.{Address}
 use Rattle.table.specs.declared.row.Row.{Row}
-use Rattle.table.specs.Address.{same, addressOf}
+use Rattle.table.specs.Address.{same}
 use Rattle.table.specs.Row.{active}
 use Rattle.table.specs.Table.{rowFor}
 use Rattle.element.specs.Entries.{each}
 use Rattle.element.specs.Lists.{among}
 use Rattle.element.proofs.Scans.{each-next, each-end}
-use Rattle.rules.specs.Decision.{Decision, refused, accepted, decide}
+use Rattle.rules.specs.Decision.{refused, accepted, decide}
 use Rattle.rules.specs.NextHop.{alongRow}
 use Rattle.rules.specs.Walk.{Walked, arrived, stopped, tooLong, tableAt, tablesIn, sideBySide, points, rowOfPoint, leadsTo, follow, walking, walk}
 use Rattle.point.specs.declared.Answer.{Answer}

@@ -5,6 +5,7 @@ use Rattle.rules.specs.Decision.{Decision, refused, accepted}
 use Rattle.rules.specs.Walk.{Walked, arrived, stopped, tooLong}
 use Rattle.walk.specs.declared.Ending.{Ending}
 use Rattle.walk.specs.declared.Ending.the-variants.{Arrived, Stopped, TooLong, Refused}
+use Rattle.walk.specs.declared.Walked.{Walked as InNumbers}
 use Rattle.walk.specs.declared.way.Leads.{Leads}
 use Rattle.walk.specs.declared.way.Leads.the-variants.{To, Nowhere}
 
@@ -14,6 +15,9 @@ decisionOf (Arrived h) = accepted (arrived (h .0))
 decisionOf (Stopped h) = accepted (stopped (h .0))
 decisionOf (TooLong h) = accepted (tooLong (h .0))
 decisionOf (Refused n) = refused n
+
+abbrev pub numbersOf : InNumbers → Walked
+numbersOf w = record { answer = w .answer; hops = w .hops }
 
 -- where a row leads
 abbrev pub nextIn : Leads → Option Address

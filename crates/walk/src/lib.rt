@@ -1,4 +1,4 @@
-// The walk over tables side by side: which rows a scan would follow from a start to a destination.
+// The walk over tables side by side: whether active rows lead from a start to a destination, and in how many hops.
 pub mod pieces;
 mod way;
 
@@ -8,9 +8,9 @@ use point::Answer;
 use table::address::Address;
 use table::legal;
 ghost use mathlib.Core.Path.{_≡_};
-ghost use Rattle.rules.specs.Walk.{sideBySide, walk, walking};
+ghost use Rattle.rules.specs.Walk.{sideBySide, walk, walkedAtExit, walking};
 ghost use Rattle.point.specs.Answers.{answerTo};
-ghost use Rattle.walk.specs.Answers.{decisionOf};
+ghost use Rattle.walk.specs.Answers.{decisionOf, numbersOf};
 ghost use Rattle.walk.specs.Pieces.{Pieces, stateChecks};
 
 // How a walk ends, with the hops walked, or a refusal.
@@ -19,6 +19,34 @@ pub enum Ending {
     Stopped(HopCount),
     TooLong(HopCount),
     Refused(u32),
+}
+
+// The answer and the hops as numbers: what C gets, and what the bench prints.
+#[repr(C)]
+pub struct Walked {
+    pub answer: u32,
+    pub hops: u32,
+}
+
+// 0, 41 or 42 with the hops walked, or the refusal's number and 0.
+pub fn in_numbers(ending: Ending) -> Walked
+    ensures { λ r. ⌜ numbersOf r ≡ walkedAtExit (decisionOf ending) ⌝ }
+{
+    match ending {
+        Ending::Arrived(hops) => Walked {
+            answer: 0,
+            hops: hops.0 as u32,
+        },
+        Ending::Stopped(hops) => Walked {
+            answer: 41,
+            hops: hops.0 as u32,
+        },
+        Ending::TooLong(hops) => Walked {
+            answer: 42,
+            hops: hops.0 as u32,
+        },
+        Ending::Refused(answer) => Walked { answer, hops: 0 },
+    }
 }
 
 // Whether the octets are 1 to 16 pieces of one length that a table may have.
@@ -42,7 +70,7 @@ fn check_state(tables: &[u8], long: usize, count: usize, clock: u64) -> Answer
     requires { ⌜ Pieces (now tables) long count ⌝ }
     ensures { λ r. ⌜ r ≡ answerTo (stateChecks (now (tables .entry)) long count clock) ⌝ }
 {
-    if pieces::has_no_table(tables, long, count) {
+    if pieces::has_non_table(tables, long, count) {
         return Answer::Refused(21);
     }
     if pieces::has_later_clock(tables, long, count, clock) {

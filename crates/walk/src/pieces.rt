@@ -6,7 +6,6 @@ ghost use mathlib.Core.Path.{_≡_};
 ghost use mathlib.Core.Bool.{not};
 ghost use Prim.Native.Nat.{_+_, _-_, _*_, _<_, _≤_};
 ghost use lib.ListN.{length};
-ghost use Rattle.table.specs.Address.{addressOf};
 ghost use Rattle.table.specs.Table.{isTable};
 ghost use Rattle.table.specs.Table.{clock as Table·clock};
 ghost use Rattle.element.specs.Entries.{each};
@@ -71,7 +70,7 @@ pub fn has_twice(tables: &[u8], long: usize, count: usize) -> bool
 }
 
 // Whether some piece is no table.
-pub fn has_no_table(tables: &[u8], long: usize, count: usize) -> bool
+pub fn has_non_table(tables: &[u8], long: usize, count: usize) -> bool
     requires { ⌜ Pieces (now tables) long count ⌝ }
     ensures { λ r. ⌜ r ≡ any (λ t. not (isTable t)) (pieces (now (tables .entry)) long count) ⌝ }
 {

@@ -1,6 +1,6 @@
 -- `bench_core::links::link_points` meets its contract: an index of no point, or set both ways. Assumes nothing.
 use borrow.Author.Needs.{needs}
-use Rattle.bench_core.proofs.Standing.{first-unknown, second-unknown, both-linked}
+use Rattle.bench_core.proofs.Silent.{first-unknown, second-unknown, both-linked}
 use Rattle.bench_core.proofs.links.link_points.Statement.{statement}
 use Rattle.bench_core.proofs.links.link_points.Tie as tie
 

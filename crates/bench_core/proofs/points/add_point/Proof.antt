@@ -1,6 +1,6 @@
 -- `bench_core::points::add_point` meets its contract: a 17th point, refused, or added. Assumes nothing.
 use borrow.Author.Needs.{needs}
-use Rattle.bench_core.proofs.Standing.{seventeenth, not-added, point-added}
+use Rattle.bench_core.proofs.Silent.{seventeenth, not-added, point-added}
 use Rattle.bench_core.proofs.points.add_point.Statement.{statement}
 use Rattle.bench_core.proofs.points.add_point.Tie as tie
 

@@ -1,6 +1,6 @@
 -- `bench_core::points::advance_clock` meets its contract: too late, or advanced. Assumes nothing.
 use borrow.Author.Needs.{needs}
-use Rattle.bench_core.proofs.Standing.{too-late, advanced}
+use Rattle.bench_core.proofs.Silent.{too-late, advanced}
 use Rattle.bench_core.proofs.points.advance_clock.Statement.{statement}
 use Rattle.bench_core.proofs.points.advance_clock.Tie as tie
 

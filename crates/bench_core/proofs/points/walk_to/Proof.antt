@@ -1,6 +1,6 @@
 -- `bench_core::points::walk_to` meets its contract: an index of no point, or the walk. Assumes nothing.
 use borrow.Author.Needs.{needs}
-use Rattle.bench_core.proofs.Standing.{start-unknown, end-unknown, points-long, walked}
+use Rattle.bench_core.proofs.Silent.{start-unknown, end-unknown, points-long, walked}
 use Rattle.bench_core.proofs.points.walk_to.Statement.{statement}
 use Rattle.bench_core.proofs.points.walk_to.Tie as tie
 
@@ -15,6 +15,7 @@ walk-to-spec =
     (λ c. search needs)
     (λ c. search points-long)
     (λ c. search needs)
+    (λ c κs. search needs)
     (λ c κs. search needs)
     (λ c κs. search needs)
     (λ c. search walked))

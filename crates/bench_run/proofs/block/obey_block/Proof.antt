@@ -3,7 +3,7 @@ use Prim.Native.Nat.{_-_}
 use mathlib.Core.Path.{_≡_}
 use lib.ListN.{length}
 use borrow.Author.Needs.{needs}
-use Rattle.bench_run.specs.Standing.{Stands}
+use Rattle.bench_run.specs.Blocks.{Stands}
 use Rattle.bench_run.proofs.block.obey_block.Statement.{statement}
 use Rattle.bench_run.proofs.block.obey_block.Tie as tie
 
@@ -22,6 +22,9 @@ obey-block-spec =
     μ-loop
     (λ c. search needs)
     (λ c. search needs)
+    (λ c. search needs)
+    (λ c. search needs)
+    (λ c κs. search needs)
     (λ c. search needs)
     (λ c. search needs)
     (λ c. search needs)

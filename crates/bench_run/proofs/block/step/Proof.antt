@@ -13,7 +13,7 @@ step-spec =
     (λ c. search needs)
     (λ c κs. search needs)
     (λ c. search needs)
-    (λ c κs. ((search some-octets, search all-octets, search needs), ((search needs, search needs), (search line-points, search line-frames, search line-clock))))
+    (λ c κs. ((search some-octets, search all-octets), ((search needs, search needs), (search line-points, search line-frames, search line-clock))))
     (λ c. search needs)
     (λ c κs. search needs)
     (λ c κs. search needs)

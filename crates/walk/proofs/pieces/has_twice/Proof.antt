@@ -4,9 +4,10 @@ use mathlib.Core.Path.{_≡_}
 use borrow.Author.Needs.{needs}
 use Rattle.element.specs.Entries.{each}
 use Rattle.element.specs.Lists.{twice}
+use Rattle.element.proofs.Scans.{found-twice, more-twice, ended-twice}
 use Rattle.rules.specs.Walk.{points}
 use Rattle.walk.specs.Pieces.{pieces, pointAt}
-use Rattle.walk.proofs.Tables.{twice-start, twice-found, twice-more, twice-ended}
+use Rattle.walk.proofs.Tables.{twice-start}
 use Rattle.walk.proofs.pieces.has_twice.Statement.{statement}
 use Rattle.walk.proofs.pieces.has_twice.Tie as tie
 
@@ -26,8 +27,8 @@ has-twice-spec =
     (λ c. search needs)
     (λ c κs. search needs)
     (λ c κs. search needs)
-    (λ c. search twice-found)
+    (λ c. search found-twice)
     (λ c. search needs)
     (λ c. search needs)
-    (λ c. search (needs, twice-more))
-    (λ c. search twice-ended))
+    (λ c. search (needs, more-twice))
+    (λ c. search ended-twice))

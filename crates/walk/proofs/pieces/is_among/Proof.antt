@@ -4,8 +4,8 @@ use mathlib.Core.Path.{_≡_}
 use borrow.Author.Needs.{needs}
 use Rattle.element.specs.Entries.{each}
 use Rattle.element.specs.Lists.{among}
+use Rattle.element.proofs.Scans.{found-among, more-among, ended-among}
 use Rattle.walk.specs.Pieces.{pointAt}
-use Rattle.walk.proofs.Tables.{point-found, point-more, point-ended}
 use Rattle.walk.proofs.pieces.is_among.Statement.{statement}
 use Rattle.walk.proofs.pieces.is_among.Tie as tie
 
@@ -24,8 +24,8 @@ is-among-spec =
     μ-loop
     (λ c. search needs)
     (λ c κs. search needs)
-    (λ c. search point-found)
+    (λ c. search found-among)
     (λ c. search needs)
     (λ c. search needs)
-    (λ c. search (needs, point-more))
-    (λ c. search point-ended))
+    (λ c. search (needs, more-among))
+    (λ c. search ended-among))

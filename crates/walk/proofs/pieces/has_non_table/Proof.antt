@@ -1,4 +1,4 @@
--- `walk::pieces::has_no_table` meets its contract: every piece passed is a table. Assumes nothing.
+-- `walk::pieces::has_non_table` meets its contract: every piece passed is a table. Assumes nothing.
 use Prim.Native.Nat.{_-_}
 use mathlib.Core.Path.{_≡_}
 use mathlib.Core.Bool.{not}
@@ -9,8 +9,8 @@ use Rattle.rules.specs.Lists.{any}
 use Rattle.rules.specs.Walk.{tableAt}
 use Rattle.rules.proofs.AnyOf.{any-start, any-ended}
 use Rattle.walk.proofs.Tables.{piece-within, piece-head, other-found, other-more}
-use Rattle.walk.proofs.pieces.has_no_table.Statement.{statement}
-use Rattle.walk.proofs.pieces.has_no_table.Tie as tie
+use Rattle.walk.proofs.pieces.has_non_table.Statement.{statement}
+use Rattle.walk.proofs.pieces.has_non_table.Tie as tie
 
 abbrev Inv-loop : tie.InvT-loop
 Inv-loop tables long count i₀ i =
@@ -19,8 +19,8 @@ Inv-loop tables long count i₀ i =
 abbrev μ-loop : tie.MeasureT-loop
 μ-loop tables long count i₀ i = count - i
 
-pub has-no-table-spec : {M : Type 1} → statement M
-has-no-table-spec =
+pub has-non-table-spec : {M : Type 1} → statement M
+has-non-table-spec =
     tie.close
     (tie.spec
     Inv-loop

@@ -1,13 +1,12 @@
 -- The commands that make no point emit: point, advance, link and walk. Assumes nothing.
-use Prim.Native.Nat.{ℕ, _+_, _-_, _*_, _^_, _<_, _≤_}
-use mathlib.Core.Path.{_≡_, refl, sym, ap, _∙_}
+use Prim.Native.Nat.{ℕ, _+_, _-_, _*_, _<_, _≤_}
+use mathlib.Core.Path.{_≡_, sym, ap, _∙_}
 use mathlib.Core.Bool.{Bool, true, false, not, cond}
 use mathlib.Core.List.{List}
 use lib.ListN.{length, take, drop}
 use native.Mathlib.Omega.{arith}
 use borrow.Author.Tests.{lt-ltb, le-ltb}
 use borrow.Rule.Slice.PartMut.{putMid, put-same}
-use Rattle.counters.specs.declared.HopCount.{HopCount}
 use Rattle.counters.specs.declared.SequenceNumber.{SequenceNumber}
 use Rattle.table.specs.declared.address.Address.{Address}
 use Rattle.table.specs.Address.{individual, addressOf}
@@ -19,22 +18,17 @@ use Rattle.rules.specs.Walk.{tableAt, walkedAtExit, walk}
 use Rattle.point.specs.declared.Answer.{Answer}
 use Rattle.point.specs.Answers.{answerOf, leaves}
 use Rattle.walk.specs.declared.Ending.{Ending}
-use Rattle.walk.specs.declared.Ending.the-variants.{Arrived, Stopped, TooLong, Refused}
-use Rattle.walk.specs.Answers.{decisionOf}
-use Rattle.walk.specs.Pieces.{Pieces}
+use Rattle.walk.specs.declared.Walked.{Walked as InNumbers}
+use Rattle.walk.specs.Answers.{decisionOf, numbersOf}
 use Rattle.bench_core.specs.declared.State.{State}
 use Rattle.bench_core.specs.declared.Done.{Done}
 use Rattle.bench_core.specs.declared.Done.the-variants.{Fault}
 use Rattle.bench_core.specs.Links.{linked}
-use Rattle.bench_core.specs.Bench.{withTable}
-use Rattle.bench_core.specs.Commands.{addPoint, advance, link, walkTo}
-use Rattle.bench_core.specs.InCode.{benchOf, doneIn, printed, walkedAs, Adds, Advances, Links, Walks}
+use Rattle.bench_core.specs.Commands.{addPoint, advance, link, walkedLine, walkTo}
+use Rattle.bench_core.specs.InCode.{benchOf, printed, Adds, Advances, Links, Walks}
 use Rattle.bench_core.proofs.Settling.{put-back}
 use Rattle.bench_core.proofs.Calling.{lent-table}
 use Rattle.bench_core.proofs.Slots.{front-long}
-
-pub sixteen-tables : (tables : List ℕ) → length tables ≡ 8704 → Pieces tables 544 16
-sixteen-tables tables e = record { some-piece = omega arith; few = omega arith; whole = sym e; with-head = omega arith }
 
 -- ---- 1 point
 
@@ -119,20 +113,6 @@ module _ (s : State) (p q metric : ℕ) (links : List (List ℕ)) where
 
 -- ---- 8 walk
 
-module _ (s : State) (e : Ending) (r : Done) where
-  module _ (h : HopCount) where
-    pub line-arrived : e ≡ Arrived h → r ≡ printed s 0 (h .0) → r ≡ walkedAs s (walkedAtExit (decisionOf e))
-    line-arrived ee re = rw ee re
-
-    pub line-stopped : e ≡ Stopped h → r ≡ printed s 41 (h .0) → r ≡ walkedAs s (walkedAtExit (decisionOf e))
-    line-stopped ee re = rw ee re
-
-    pub line-too-long : e ≡ TooLong h → r ≡ printed s 42 (h .0) → r ≡ walkedAs s (walkedAtExit (decisionOf e))
-    line-too-long ee re = rw ee re
-
-  pub line-refused : (n : ℕ) → e ≡ Refused n → r ≡ printed s n 0 → r ≡ walkedAs s (walkedAtExit (decisionOf e))
-  line-refused n ee re = rw ee re
-
 pub points-long : (tables : List ℕ) → length tables ≡ 8704 → (n : ℕ) → n ≤ 16 → 544 * n ≡ length (take (544 * n) tables)
 points-long tables e n few = front-long tables (544 * n) (omega arith)
 
@@ -148,6 +128,10 @@ module _ (s : State) (p q : ℕ) (tables : List ℕ) where
 
     pub walked : q < s .points → (part : List ℕ) → part ≡ take (544 * s .points) tables → (start d : Address) → start ≡ addressOf (tableAt tables 544 p)
         → d ≡ addressOf (tableAt tables 544 q) → (e : Ending) → decisionOf e ≡ walk part (s .points) (s .clock) start d
-        → (r : Done) → r ≡ walkedAs s (walkedAtExit (decisionOf e)) → Walks r s p q tables
+        → (w : InNumbers) → numbersOf w ≡ walkedAtExit (decisionOf e) → (r : Done) → r ≡ printed s (w .answer) (w .hops) → Walks r s p q tables
     unfolding Walks walkTo
-    walked m part pe start d se de e ee r re slots = rw (re, ee, pe, se, de, lt-ltb p (s .points) l, lt-ltb q (s .points) m)
+    walked m part pe start d se de e ee w we r re slots =
+        let over = take (544 * s .points) tables in
+        let is : numbersOf w ≡ walkedAtExit (walk over (s .points) (s .clock) (addressOf (tableAt tables 544 p)) (addressOf (tableAt tables 544 q))) =
+        we ∙ rw (ee, pe, se, de) in
+        rw (re, lt-ltb p (s .points) l, lt-ltb q (s .points) m) (ap (walkedLine (benchOf s tables slots)) is)

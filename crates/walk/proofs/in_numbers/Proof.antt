@@ -1,10 +1,10 @@
--- `hwmp::walked_for` meets its contract: each case with its number. Assumes nothing.
+-- `walk::in_numbers` meets its contract: each case with its number. Assumes nothing.
 use borrow.Author.Needs.{needs}
-use Rattle.hwmp.proofs.walked_for.Statement.{statement}
-use Rattle.hwmp.proofs.walked_for.Tie as tie
+use Rattle.walk.proofs.in_numbers.Statement.{statement}
+use Rattle.walk.proofs.in_numbers.Tie as tie
 
-pub walked-for-spec : {M : Type 1} → statement M
-walked-for-spec =
+pub in-numbers-spec : {M : Type 1} → statement M
+in-numbers-spec =
     tie.close
     (tie.spec
     (λ c. search needs)
