@@ -12,12 +12,21 @@ pub const OWN: Address = [2, 0, 0, 0, 0, 1];
 pub const ALL_ONES: Address = [0xFF; 6];
 pub const ZERO: Address = [0; 6];
 pub const GROUP: Address = [3, 0, 0, 0, 0, 9];
+
+/// No point.
+pub const STRANGER: Address = [2, 0, 0, 0, 1, 1];
+
 pub const LAST_CLOCK: u64 = (1 << 48) - 1;
 pub const LEAST_OUTPUT: usize = 1560;
 
 /// Each case is tried on both of these outputs, so that an octet which is not written shows
 /// in one of them.
 const OUTPUTS: [(usize, u8); 2] = [(LEAST_OUTPUT, 0xA5), (LEAST_OUTPUT + 217, 0x5A)];
+
+/// That of a point by its number; the first one is OWN.
+pub const fn address(point: usize) -> Address {
+    [2, 0, 0, 0, 0, 1 + point as u8]
+}
 
 /// A row's fields in the order of its octets; the zero octet is left out.
 #[derive(Clone, Copy)]

@@ -40,7 +40,6 @@ const CUT: &str = "E, cut operand, by command";
 const BAD_INDEX: &str = "E, bad index, by command";
 const SEVENTEENTH: &str = "E, 17th point";
 const FRAME: &str = "E, 129th frame, by command";
-const CLOCK: &str = "E, clock";
 
 /// What accepted commands report in their third column.
 const LEAST_THIRD: u64 = 15;
@@ -99,7 +98,7 @@ impl Reached {
             Fault::BadIndex => self.ends.count(BAD_INDEX, command),
             Fault::SeventeenthPoint => self.ends.count(SEVENTEENTH, command),
             Fault::FrameBeyond128 => self.ends.count(FRAME, command),
-            Fault::Clock => self.ends.count(CLOCK, command),
+            Fault::Clock => unreachable!("only streams of `long` take the clock to its end"),
         }
     }
 

@@ -1,9 +1,9 @@
 //! What the commands do, case by case.
 
+use hwmp_tests::worked::{GROUP, STRANGER, address};
+
 use crate::commands::{advance, announce, ask, deliver, link, point, report_break, walk};
-use crate::script::{
-    GROUP, LIFETIME, STRANGER, address, input, line, output, points, prints, prints_all, script,
-};
+use crate::script::{LIFETIME, input, line, output, points, prints, prints_all, script};
 
 /// The address of an element's sender is its transmitter, and the link is that of sender and
 /// receiver, both ways.

@@ -1,6 +1,6 @@
 //! The commands as document 01 lays them out.
 
-pub type Address = [u8; 6];
+use hwmp_tests::worked::Address;
 
 pub const UNKNOWN: [u8; 7] = [0, 9, 10, 49, 56, 128, 255];
 

@@ -1,10 +1,9 @@
 //! What ends a run, and what does not, case by case.
 
+use hwmp_tests::worked::{GROUP, STRANGER, address};
+
 use crate::commands::{UNKNOWN, advance, announce, ask, deliver, link, point, report_break, walk};
-use crate::script::{
-    GROUP, LIFETIME, STRANGER, address, ends, input, line, output, points, prints, prints_all,
-    script,
-};
+use crate::script::{LIFETIME, ends, input, line, output, points, prints, prints_all, script};
 use crate::worked::worked_case;
 
 #[test]

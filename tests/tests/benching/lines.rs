@@ -5,9 +5,8 @@ use hwmp_tests::reference::walk::MOST_POINTS;
 use hwmp_tests::tables;
 
 use crate::commands::{advance, announce, deliver, link, point, report_break, walk};
+use crate::script::LIFETIME;
 use crate::stream::Stream;
-
-const LIFETIME: u32 = 1000;
 
 /// What one end announces reaches all, or all up to some point. Then a point may lose its
 /// neighbour, or time goes by. All walk to that end, before and after.

@@ -4,8 +4,9 @@
 use hwmp_tests::random::Random;
 use hwmp_tests::reference::walk::MOST_POINTS;
 use hwmp_tests::tables;
+use hwmp_tests::worked::Address;
 
-use crate::commands::{Address, advance, announce, ask, deliver, link, point, report_break, walk};
+use crate::commands::{advance, announce, ask, deliver, link, point, report_break, walk};
 use crate::stream::Stream;
 
 /// A life of any kind; it ends by itself, or where a frame would be too many.

@@ -4,13 +4,14 @@
 use std::time::Duration;
 
 use hwmp_tests::random::Random;
-use hwmp_tests::reference::bench::{self, MOST_FRAMES};
+use hwmp_tests::reference::bench::MOST_FRAMES;
 use hwmp_tests::reference::walk::MOST_POINTS;
 use hwmp_tests::tables;
+use hwmp_tests::worked::{GROUP, address};
 
 use crate::commands::{advance, announce, deliver, link, point, walk};
 use crate::lives::some_life;
-use crate::program::{Program, same};
+use crate::program::Program;
 use crate::script::{input, prints_all};
 use crate::worked::worked_case;
 
@@ -29,24 +30,34 @@ fn filler(length: usize) -> Vec<u8> {
     let refused =
         (0..5).find(|count| length >= 11 * count && (length - 11 * count).is_multiple_of(5));
     let refused = refused.expect("a length from 40 on");
-    let mut octets = point([3, 0, 0, 0, 0, 9], 7).repeat(refused);
+    let mut octets = point(GROUP, 7).repeat(refused);
     octets.extend(advance(0).repeat((length - octets.len()) / 5));
     assert_eq!(octets.len(), length);
     octets
 }
 
 /// The case of document 01 with the end of each block at each of its octets, and a run that ends
-/// after it, so that the offset is seen too.
+/// after it, so that the offset is seen too. From a file, since a read from a pipe may get less
+/// than a block.
 #[test]
 fn no_octet_is_lost_at_the_end_of_a_block() {
     let (program, case) = (Program::named(), whole_case());
     for block in BLOCKS {
         for before in 0..=case.len() {
-            let mut input = filler(block - before);
-            input.extend(&case);
-            input.push(9);
-            program.agrees(&input, &format!("{before} octets before {block}"));
+            let input = [filler(block - before), case.clone(), vec![9]].concat();
+            program.agrees_from_file(&input, &format!("{before} octets before {block}"));
         }
+    }
+}
+
+/// The same with the end of a piece at each of its octets.
+#[test]
+fn no_octet_is_lost_between_two_pieces() {
+    let (program, case) = (Program::named(), whole_case());
+    let input = [&case[..], &[9]].concat();
+    for length in 0..=case.len() {
+        let (piece, rest) = input.split_at(length);
+        program.agrees_in_pieces(&[piece, rest], PAUSE, &format!("{length} octets before"));
     }
 }
 
@@ -57,10 +68,9 @@ fn inputs_may_end_near_the_end_of_a_block() {
     for block in [4096, 65_536] {
         for blocks in 1..=3 {
             for length in blocks * block - 6..=blocks * block + 6 {
-                program.agrees(&filler(length), &format!("{length} octets"));
-                let mut cut = filler(length + 3);
-                cut.truncate(length);
-                program.agrees(&cut, &format!("{length} octets, cut"));
+                program.agrees_from_file(&filler(length), &format!("{length} octets"));
+                let cut = &filler(length + 3)[..length];
+                program.agrees_from_file(cut, &format!("{length} octets, cut"));
             }
         }
     }
@@ -108,20 +118,18 @@ fn input_may_come_in_pieces() {
     let program = Program::named();
     let random = &mut Random::announced("pieces", 0x2008_1778);
     let case = whole_case();
-    let found = program.output_in_pieces(case.chunks(1), PAUSE);
-    same(&found, &bench::output(&case), &case, "octet by octet");
+    let octets: Vec<_> = case.chunks(1).collect();
+    program.agrees_in_pieces(&octets, PAUSE, "octet by octet");
     for _ in 0..60 {
         let life = some_life(random);
         let mut rest = &life.octets[..life.octets.len().min(600)];
-        let input = rest;
         let mut pieces = Vec::new();
         while !rest.is_empty() {
             let (piece, others) = rest.split_at((1 + random.below(24)).min(rest.len()));
             pieces.push(piece);
             rest = others;
         }
-        let found = program.output_in_pieces(pieces, PAUSE);
-        same(&found, &bench::output(input), input, "in pieces");
+        program.agrees_in_pieces(&pieces, PAUSE, "in pieces");
     }
 }
 
@@ -129,13 +137,12 @@ fn input_may_come_in_pieces() {
 fn input_may_be_a_file() {
     let program = Program::named();
     let random = &mut Random::announced("files", 0x3008_1778);
-    for number in 0..60 {
+    for _ in 0..60 {
         let mut input = filler(random.pick(&[4096, 8192, 65_536]) - random.below(200));
         input.extend(&some_life(random).octets);
-        let found = program.output_from_file(&input, &format!("benching-{number}"));
-        same(&found, &bench::output(&input), &input, "from a file");
+        program.agrees_from_file(&input, "from a file");
     }
-    assert_eq!(program.output_from_file(&[], "benching-empty"), "");
+    assert_eq!(program.output_from_file(&[]), "");
 }
 
 /// The longest advances that leave the clock 65,535 milliseconds short of its end.
@@ -161,8 +168,8 @@ fn the_clock_ends_at_2_to_the_48() {
     prints(&[advance(65_535), advance(0), advance(u32::MAX)], &ended);
     // Calls have the last clock too, and rows outlive it.
     let mesh = [
-        point([2, 0, 0, 0, 0, 1], 0),
-        point([2, 0, 0, 0, 0, 2], 0),
+        point(address(0), 0),
+        point(address(1), 0),
         link(0, 1, 3),
         announce(0, u32::MAX),
         deliver(0, 1),
@@ -181,8 +188,8 @@ fn a_way_lasts_across_4_294_967_295() {
     for lifetime in [2, u32::MAX] {
         let commands = [
             advance(u32::MAX),
-            point([2, 0, 0, 0, 0, 1], 0),
-            point([2, 0, 0, 0, 0, 2], 0),
+            point(address(0), 0),
+            point(address(1), 0),
             link(0, 1, 3),
             announce(0, lifetime),
             deliver(0, 1),

@@ -5,6 +5,7 @@
 mod agreement;
 mod cases;
 mod commands;
+mod dialogue;
 mod endings;
 mod faults;
 mod lines;

@@ -1,12 +1,18 @@
 use std::env;
 use std::fs::{self, File};
-use std::io::{ErrorKind, Write};
+use std::io::{self, ErrorKind, Read, Write};
 use std::path::{Path, PathBuf};
-use std::process::{Child, ChildStdin, Command, Stdio};
+use std::process::{self, Child, ChildStdin, Command, Stdio};
+use std::sync::atomic::{AtomicUsize, Ordering};
+use std::sync::mpsc;
 use std::thread;
 use std::time::Duration;
 
 use hwmp_tests::reference::bench;
+
+/// No input here keeps the program busy so long, or makes it print so many octets.
+const LONGEST_RUN: Duration = Duration::from_secs(60);
+const MOST_PRINTED: u64 = 1 << 24;
 
 /// The bench program under test.
 pub struct Program {
@@ -40,35 +46,61 @@ impl Program {
         pieces: impl IntoIterator<Item = &'a [u8]> + Send,
         pause: Duration,
     ) -> String {
-        let mut child = self.start(Stdio::piped());
-        let to = child.stdin.take().expect("piped");
+        let mut running = self.start(Stdio::piped());
+        let to = running.0.stdin.take().expect("piped");
         // Written beside the reading, since no pipe holds all that may go through it.
         thread::scope(|scope| {
             scope.spawn(move || feed(to, pieces, pause));
-            printed(child)
+            printed(running)
         })
     }
 
     /// The same if its input is a file, of which every read gets as much as it asks for.
-    pub fn output_from_file(&self, input: &[u8], name: &str) -> String {
+    pub fn output_from_file(&self, input: &[u8]) -> String {
+        static FILES: AtomicUsize = AtomicUsize::new(0);
+        let number = FILES.fetch_add(1, Ordering::Relaxed);
+        let name = format!("benching-{}-{number}", process::id());
         let path = Path::new(env!("CARGO_TARGET_TMPDIR")).join(name);
         fs::write(&path, input).expect("a file for the input");
         let file = File::open(&path).expect("the file just written");
-        let printed = printed(self.start(Stdio::from(file)));
-        fs::remove_file(&path).expect("the file just read");
-        printed
+        fs::remove_file(&path).expect("the file just opened");
+        printed(self.start(Stdio::from(file)))
     }
 
-    fn start(&self, stdin: Stdio) -> Child {
+    pub fn start(&self, stdin: Stdio) -> Running {
         let mut command = Command::new(&self.path);
         command.stdin(stdin).stdout(Stdio::piped());
         let started = command.spawn();
-        started.unwrap_or_else(|error| panic!("{}: {error}", self.path.display()))
+        Running(started.unwrap_or_else(|error| panic!("{}: {error}", self.path.display())))
     }
 
     /// Both must print the same for an input.
     pub fn agrees(&self, input: &[u8], what: &str) {
         same(&self.output(input), &bench::output(input), input, what);
+    }
+
+    /// The same for an input from a file.
+    pub fn agrees_from_file(&self, input: &[u8], what: &str) {
+        let found = self.output_from_file(input);
+        same(&found, &bench::output(input), input, what);
+    }
+
+    /// The same for an input in pieces.
+    pub fn agrees_in_pieces(&self, pieces: &[&[u8]], pause: Duration, what: &str) {
+        let input = pieces.concat();
+        let found = self.output_in_pieces(pieces.iter().copied(), pause);
+        same(&found, &bench::output(&input), &input, what);
+    }
+}
+
+/// The program while it runs. With this it ends too, so that a test that fails leaves none behind.
+pub struct Running(pub Child);
+
+impl Drop for Running {
+    fn drop(&mut self) {
+        // What fails here has ended before.
+        let _ = self.0.kill();
+        let _ = self.0.wait();
     }
 }
 
@@ -101,8 +133,17 @@ fn feed<'a>(mut to: ChildStdin, pieces: impl IntoIterator<Item = &'a [u8]>, paus
     }
 }
 
-fn printed(child: Child) -> String {
-    let output = child.wait_with_output().expect("the program's output");
-    assert!(output.status.success(), "{}", output.status);
-    String::from_utf8(output.stdout).expect("lines of ASCII")
+fn printed(mut running: Running) -> String {
+    let from = running.0.stdout.take().expect("piped");
+    let (sender, receiver) = mpsc::channel();
+    thread::spawn(move || sender.send(io::read_to_string(from.take(MOST_PRINTED))));
+    let Ok(text) = receiver.recv_timeout(LONGEST_RUN) else {
+        panic!("the program has not ended after {LONGEST_RUN:?}");
+    };
+    let text = text.expect("lines of ASCII");
+    let printed = text.len() as u64;
+    assert!(printed < MOST_PRINTED, "the program prints without end");
+    let status = running.0.wait().expect("the program's end");
+    assert!(status.success(), "{status}");
+    text
 }

@@ -6,9 +6,8 @@ use hwmp_tests::reference::walk::MOST_POINTS;
 use hwmp_tests::tables;
 
 use crate::commands::{announce, ask, deliver, link, point, walk};
+use crate::script::LIFETIME;
 use crate::stream::Stream;
-
-const LIFETIME: u32 = 1000;
 
 /// The destination's number before its first announcement.
 const HALF_THE_CIRCLE_AND_ONE: u32 = (1 << 31) + 1;

@@ -2,17 +2,12 @@
 //! reference alike.
 
 use hwmp_tests::reference::bench;
+use hwmp_tests::worked::address;
 
-use crate::commands::{Address, advance, link, point};
+use crate::commands::{advance, link, point};
 use crate::program::{Program, same};
 
-pub const GROUP: Address = [3, 0, 0, 0, 0, 9];
-pub const STRANGER: Address = [2, 0, 0, 0, 1, 1];
 pub const LIFETIME: u32 = 1000;
-
-pub fn address(point: u8) -> Address {
-    [2, 0, 0, 0, 0, 1 + point]
-}
 
 /// A command with its line.
 pub type Step = (Vec<u8>, &'static str);
@@ -50,7 +45,7 @@ pub fn ends(what: &str, script: &[Step], bad: &[u8]) {
 }
 
 pub fn points(count: u8) -> Vec<Step> {
-    let added = (0..count).map(|place| (point(address(place), 0), "1 0 0"));
+    let added = (0..count).map(|place| (point(address(place.into()), 0), "1 0 0"));
     added.collect()
 }
 

@@ -1,7 +1,9 @@
 //! The case of document 01.
 
+use hwmp_tests::worked::address;
+
 use crate::commands::{ask, deliver, link, walk};
-use crate::script::{LIFETIME, Step, address, input, output, points, prints, prints_all, script};
+use crate::script::{LIFETIME, Step, input, output, points, prints, prints_all, script};
 
 /// 'Case' in document 01.
 pub fn worked_case() -> Vec<Step> {

@@ -3,7 +3,7 @@
 use hwmp_tests::comparing::frames;
 use hwmp_tests::implementation::Implementation;
 use hwmp_tests::library::Outcome;
-use hwmp_tests::worked::{Address, LEAST_OUTPUT};
+use hwmp_tests::worked::{Address, LEAST_OUTPUT, address};
 
 const LIFETIME: u32 = 1000;
 
@@ -18,10 +18,6 @@ pub struct Script<'a> {
     tables: Vec<Vec<u8>>,
     /// Everything that was sent, in order.
     pub sent: Vec<Sent>,
-}
-
-pub fn address(point: usize) -> Address {
-    [2, 0, 0, 0, 0, 1 + point as u8]
 }
 
 impl Script<'_> {

@@ -1,9 +1,9 @@
 //! Lists of calls that would leave two points leading to each other if one rule were another.
 //! Each ends with the delivery that a point must refuse. The destination is point 3.
 
-use hwmp_tests::worked::BOTH;
+use hwmp_tests::worked::{BOTH, address};
 
-use crate::script::{Script, address};
+use crate::script::Script;
 
 const A: usize = 0;
 const B: usize = 1;

@@ -1,9 +1,9 @@
 //! The case of document 01's 'Walk and bench', call by call: point 0 asks for point 2 and learns
 //! the way by point 1.
 
-use hwmp_tests::worked::{ALL_ONES, Address, BOTH};
+use hwmp_tests::worked::{ALL_ONES, Address, BOTH, address};
 
-use crate::script::{Script, address};
+use crate::script::Script;
 
 /// The request as point 0 sends it and as point 1 passes it on.
 fn request(hop_count: u8, ttl: u8, metric: u8) -> Vec<u8> {

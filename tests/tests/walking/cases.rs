@@ -2,17 +2,10 @@
 
 use hwmp_tests::fence::{Fence, Side};
 use hwmp_tests::library::Walked;
-use hwmp_tests::worked::{Address, BOTH, FREE, Row, table};
+use hwmp_tests::worked::{Address, BOTH, FREE, Row, STRANGER, address, table};
 
 pub const CLOCK: u64 = 1000;
 const EXPIRY: u64 = 6000;
-
-/// No point.
-pub const STRANGER: Address = [2, 0, 0, 0, 1, 1];
-
-pub fn address(point: usize) -> Address {
-    [2, 0, 0, 0, 0, 1 + point as u8]
-}
 
 /// A row that is active until EXPIRY.
 pub fn row(destination: Address, next_hop: Address) -> Row {

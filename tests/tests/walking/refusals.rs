@@ -1,9 +1,9 @@
 //! What a walk refuses, and in which order.
 
 use hwmp_tests::library::Walked;
-use hwmp_tests::worked::{Address, BOTH, FREE, GROUP, LAST_CLOCK, ZERO};
+use hwmp_tests::worked::{Address, BOTH, FREE, GROUP, LAST_CLOCK, STRANGER, ZERO, address};
 
-use crate::cases::{CLOCK, STRANGER, address, gives, point, row};
+use crate::cases::{CLOCK, gives, point, row};
 
 /// Three points; the first leads to the last through the second.
 fn three_points() -> Vec<Vec<u8>> {
@@ -15,7 +15,7 @@ fn three_points() -> Vec<Vec<u8>> {
     ]
 }
 
-const WAY: [Address; 2] = [[2, 0, 0, 0, 0, 1], [2, 0, 0, 0, 0, 3]];
+const WAY: [Address; 2] = [address(0), address(2)];
 
 /// A refusal carries no hops.
 fn refuses(what: &str, tables: &[Vec<u8>], way: [Address; 2], refusal: u32) {
