@@ -8,8 +8,8 @@ use Rattle.octets.specs.LittleEndian.{numberAt}
 use Rattle.bench_core.specs.declared.State.{State}
 use Rattle.bench_core.specs.declared.Done.{Done}
 use Rattle.bench_core.specs.declared.Done.the-variants.{Fault}
-use Rattle.bench_core.specs.Bench.{Bench}
-use Rattle.bench_core.specs.Commands.{Linking, askFor, announceSelf, deliver, breakOff}
+use Rattle.bench_core.specs.Bench.{Bench, WithLinks}
+use Rattle.bench_core.specs.Commands.{askFor, announceSelf, deliver, breakOff}
 use Rattle.bench_core.specs.InCode.{benchOf, doneIn, Adds, Advances, Links, Walks}
 use Rattle.bench_core.specs.Interpreter.{lengthOf, obeyed, command}
 
@@ -42,7 +42,7 @@ module _ (st : State) (tables slots : List ℕ) (links : List (List ℕ)) (s : L
   abbrev b : Bench
   b = benchOf st tables slots
 
-  abbrev leaving : List ℕ → List ℕ → List (List ℕ) → Linking
+  abbrev leaving : List ℕ → List ℕ → List (List ℕ) → WithLinks
   leaving tables′ slots′ links′ = record { done = doneIn r tables′ slots′; links = links′ }
 
   pub obeyed-1 : c ≡ 1 → (tables′ : List ℕ) → Adds r st (record { 0 = numberAt 6 s 1 }) (record { 0 = numberAt 4 s 7 }) tables tables′
@@ -85,7 +85,7 @@ module _ (st : State) (tables slots : List ℕ) (links : List (List ℕ)) (s : L
   obeyed-8 e h = rw (e, h slots)
 
 module _ (st : State) (tables slots : List ℕ) (links : List (List ℕ)) (s : List ℕ) (c : ℕ) where
-  abbrev faulty : Linking
+  abbrev faulty : WithLinks
   faulty = record { done = doneIn Fault tables slots; links = links }
 
   pub obeyed-none : (c ≡ 1 → ⊥) → (c ≡ 2 → ⊥) → (c ≡ 3 → ⊥) → (c ≡ 4 → ⊥) → (c ≡ 5 → ⊥) → (c ≡ 6 → ⊥) → (c ≡ 7 → ⊥) → (c ≡ 8 → ⊥)
@@ -104,7 +104,7 @@ module _ (st : State) (tables slots : List ℕ) (links : List (List ℕ)) (s : L
       unfolding command
       command-cut l = rw (← ce, ← ne, ne-eqb n 0 nz, lt-ltb (length s) n l)
 
-      pub command-obeyed : n ≤ length s → (x : Linking) → x ≡ obeyed (benchOf st tables slots) links s c
+      pub command-obeyed : n ≤ length s → (x : WithLinks) → x ≡ obeyed (benchOf st tables slots) links s c
           → x ≡ command (benchOf st tables slots) links s
       unfolding command
       command-obeyed l x xe = rw (← ce, ← ne, ne-eqb n 0 nz, le-ltb (length s) n l) xe

@@ -12,8 +12,7 @@ use Rattle.rules.specs.Outcome.{Effect, Exit, atExit}
 use Rattle.rules.specs.Walk.{tableAt}
 use Rattle.bench_core.specs.Frames.{keep}
 
--- tables of 16 rows side by side, and how many are points; the frames kept, and how many there are; the clock. (The link metrics
--- stand by themselves: only the link command changes them.)
+-- tables of 16 rows side by side, and how many are points; the frames kept, and how many there are; the clock
 pub record Bench : Type 0 where
   pub tables : List ℕ
   pub points : ℕ
@@ -25,6 +24,11 @@ pub record Bench : Type 0 where
 pub data Done : Type 0 where
   fault : Done
   line : (answer third : ℕ) → Bench → Done
+
+-- with the link metrics after it, which stand by themselves: only the link command changes them
+pub record WithLinks : Type 0 where
+  pub done : Done
+  pub links : List (List ℕ)
 
 -- ---- points, numbered from 0
 

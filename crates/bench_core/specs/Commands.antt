@@ -17,7 +17,7 @@ use Rattle.rules.specs.Break.{breakNeighbour}
 use Rattle.rules.specs.Walk.{Walked, tableAt, walkedAtExit, walk}
 use Rattle.bench_core.specs.Links.{metricOf, linked}
 use Rattle.bench_core.specs.Frames.{senderOf, elementOf}
-use Rattle.bench_core.specs.Bench.{Bench, Done, fault, line, tableOf, addressIn, isPoint, withTable, calledBy, settled}
+use Rattle.bench_core.specs.Bench.{Bench, Done, fault, line, WithLinks, tableOf, addressIn, isPoint, withTable, calledBy, settled}
 
 -- 1 point. If refused, it is not added.
 abbrev pub added : Bench → Decision (List ℕ) → Done
@@ -49,11 +49,7 @@ advance b by =
     }))
 
 -- 3 link: a metric for both ways; 0 is no link
-pub record Linking : Type 0 where
-  pub done : Done
-  pub links : List (List ℕ)
-
-unfoldable pub link : Bench → List (List ℕ) → ℕ → ℕ → ℕ → Linking
+unfoldable pub link : Bench → List (List ℕ) → ℕ → ℕ → ℕ → WithLinks
 link b links p q metric =
     cond (isPoint b p && isPoint b q) (record { done = line 0 0 b; links = linked links p q metric }) (record { done = fault; links = links })
 

@@ -6,20 +6,20 @@ use lib.Dec.{eqb}
 use lib.ListN.{length, getD, take, drop}
 use Rattle.octets.specs.LittleEndian.{numberAt}
 use Rattle.rules.specs.Decision.{_below_}
-use Rattle.bench_core.specs.Bench.{Bench, Done, fault}
-use Rattle.bench_core.specs.Commands.{Linking, addPoint, advance, link, askFor, announceSelf, deliver, breakOff, walkTo}
+use Rattle.bench_core.specs.Bench.{Bench, Done, fault, WithLinks}
+use Rattle.bench_core.specs.Commands.{addPoint, advance, link, askFor, announceSelf, deliver, breakOff, walkTo}
 
 -- the octets of commands 1 to 8 with their operands; 0 where there is no such command
 abbrev pub lengthOf : ℕ → ℕ
 lengthOf c = getD (0 ∷ 11 ∷ 5 ∷ 7 ∷ 13 ∷ 6 ∷ 4 ∷ 3 ∷ 3 ∷ []) c 0
 
 -- a command that leaves the links
-abbrev pub leavingLinks : List (List ℕ) → Done → Linking
+abbrev pub leavingLinks : List (List ℕ) → Done → WithLinks
 leavingLinks links d = record { done = d; links = links }
 
 -- command c with its operands in these octets. They take: point 6, 4; advance 4; link 1, 1, 4; ask 1, 1 and 6, 4; announce 1, 4;
 -- deliver 2, 1; break 1, 1; walk 1, 1.
-unfoldable pub obeyed : Bench → List (List ℕ) → List ℕ → ℕ → Linking
+unfoldable pub obeyed : Bench → List (List ℕ) → List ℕ → ℕ → WithLinks
 obeyed b links s c =
     cond (eqb c 1) (leavingLinks links (addPoint b (record { 0 = numberAt 6 s 1 }) (record { 0 = numberAt 4 s 7 })))
     (cond (eqb c 2) (leavingLinks links (advance b (numberAt 4 s 1)))
@@ -31,7 +31,7 @@ obeyed b links s c =
     (cond (eqb c 8) (leavingLinks links (walkTo b (numberAt 1 s 1) (numberAt 1 s 2))) (leavingLinks links fault))))))))
 
 -- the command at the start of these octets; an unknown one or a cut operand is a fault
-unfoldable pub command : Bench → List (List ℕ) → List ℕ → Linking
+unfoldable pub command : Bench → List (List ℕ) → List ℕ → WithLinks
 command b links s =
     let c = numberAt 1 s 0 in
     cond (eqb (lengthOf c) 0 || (length s) below (lengthOf c)) (leavingLinks links fault) (obeyed b links s c)

@@ -9,10 +9,7 @@ ghost use Rattle.bench_core.specs.Frames.{elementOf, frameEnd, keep, sen
 pub const MOST_FRAMES: usize = 128;
 
 // The sender (1), the receiver address (6), ID (1), Length (1) and at most 255 octets after that.
-const SLOT: usize = 264;
-
-// Octets of all slots.
-pub const SLOTS: usize = MOST_FRAMES * SLOT;
+pub const SLOT: usize = 264;
 
 fn octet_at(s: &[u8], at: usize) -> u8
     requires { ⌜ at < length (now s) ⌝ }

@@ -1,14 +1,19 @@
 // The bench: up to 16 points, the links between them and the frames that they have sent, driven by commands.
 mod calls;
-pub mod frames;
+mod frames;
 pub mod interpreter;
 mod links;
 mod operands;
-pub mod points;
+mod points;
 mod settle;
 
 ghost use mathlib.Core.Path.{_≡_};
 ghost use Rattle.bench_core.specs.InCode.{printed};
+
+// Octets of the memory that the commands are lent: the tables of all points, and the slots of all frames.
+pub const TABLES: usize = points::MOST_POINTS * points::TABLE;
+
+pub const SLOTS: usize = frames::MOST_FRAMES * frames::SLOT;
 
 // What the bench holds beside its memory: how many points and frames there are, and the clock.
 pub struct State {

@@ -18,9 +18,6 @@ pub const MOST_POINTS: usize = 16;
 // Octets of a table with 16 rows.
 pub const TABLE: usize = 544;
 
-// Octets of all tables.
-pub const TABLES: usize = MOST_POINTS * TABLE;
-
 // The address of a point.
 pub fn address_of(tables: &[u8], p: usize) -> Address
     requires { ⌜ length (now tables) ≡ 8704 ⌝ }

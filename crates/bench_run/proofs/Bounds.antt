@@ -23,8 +23,8 @@ use Rattle.bench_core.specs.declared.Printed.{Printed}
 use Rattle.bench_core.specs.declared.Done.{Done as DoneInCode}
 use Rattle.bench_core.specs.declared.Done.the-variants.{Line}
 use Rattle.bench_core.specs.Frames.{senderOf, elementOf}
-use Rattle.bench_core.specs.Bench.{Bench, Done, fault, line, tableOf, addressIn, calledBy, settled}
-use Rattle.bench_core.specs.Commands.{Linking, added, addPoint, advance, link, askFor, announceSelf, handedOver, arrivalFrom, deliver, breakOff, walkTo}
+use Rattle.bench_core.specs.Bench.{Bench, Done, fault, line, tableOf, addressIn, calledBy, settled, WithLinks}
+use Rattle.bench_core.specs.Commands.{added, addPoint, advance, link, askFor, announceSelf, handedOver, arrivalFrom, deliver, breakOff, walkTo}
 use Rattle.bench_core.specs.InCode.{benchOf, doneIn, Bounded, Memory}
 use Rattle.bench_core.specs.Interpreter.{lengthOf, leavingLinks, obeyed, command}
 
@@ -54,7 +54,7 @@ module _ (b : Bench) (h : Bounded (b .points) (b .frames) (b .clock)) where
 
   link-within : (links : List (List ℕ)) (p q metric : ℕ) → Within (link b links p q metric .done)
   unfolding link
-  link-within links p q metric = cond-cases (λ (x : Linking). Within (x .done)) (ltb p (b .points) && ltb q (b .points)) (λ _. h) (λ _. tt)
+  link-within links p q metric = cond-cases (λ (x : WithLinks). Within (x .done)) (ltb p (b .points) && ltb q (b .points)) (λ _. h) (λ _. tt)
 
   ask-within : (p : ℕ) (item : List ℕ) (lifetime : ℕ) → Within (askFor b p item lifetime)
   unfolding askFor
@@ -85,7 +85,7 @@ module _ (b : Bench) (h : Bounded (b .points) (b .frames) (b .clock)) where
   walk-within p q = cond-cases Within (ltb p (b .points) && ltb q (b .points)) (λ _. h) (λ _. tt)
 
   module _ (links : List (List ℕ)) (s : List ℕ) where
-    abbrev Fine : Linking → Type 0
+    abbrev Fine : WithLinks → Type 0
     Fine x = Within (x .done)
 
     obeyed-within : (c : ℕ) → Fine (obeyed b links s c)
@@ -128,7 +128,7 @@ module _ (st : State) (tables slots : List ℕ) (links : List (List ℕ)) (s : L
     (r : DoneInCode) (tables′ slots′ : List ℕ) (links′ : List (List ℕ))
     (e : record { done = doneIn r tables′ slots′; links = links′ } ≡ command (benchOf st tables slots) links s) (x : Printed) (re : r ≡ Line x) where
   came-so : command (benchOf st tables slots) links s .done ≡ doneIn (Line x) tables′ slots′
-  came-so = sym (ap (λ (l : Linking). l .done) e) ∙ ap (λ (q : DoneInCode). doneIn q tables′ slots′) re
+  came-so = sym (ap (λ (l : WithLinks). l .done) e) ∙ ap (λ (q : DoneInCode). doneIn q tables′ slots′) re
 
   within-so : Bounded (x .points) (x .frames) (x .clock)
   within-so = subst Within came-so (command-within (benchOf st tables slots) (m .bounded) links s)

@@ -3,9 +3,9 @@ mod block;
 mod reader;
 mod text;
 
+use bench_core::SLOTS;
 use bench_core::State;
-use bench_core::frames::SLOTS;
-use bench_core::points::TABLES;
+use bench_core::TABLES;
 
 // Obeys the commands on standard input, and prints a line for each.
 pub fn run() {

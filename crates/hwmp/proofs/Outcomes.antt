@@ -1,17 +1,23 @@
 -- What C gets is what the call came to. Assumes nothing.
-use Prim.Native.Nat.{ℕ}
-use mathlib.Core.Path.{_≡_, ap, _∙_}
+use Prim.Native.Nat.{ℕ, _≤_}
+use mathlib.Core.Path.{_≡_, refl, sym, ap, _∙_}
 use mathlib.Core.List.{List}
 use Rattle.counters.specs.declared.Metric.{Metric}
 use Rattle.table.specs.declared.address.Address.{Address}
 use Rattle.table.specs.Address.{addressOf}
-use Rattle.rules.specs.Decision.{Decision}
+use native.Mathlib.Omega.{arith}
+use Rattle.rules.specs.Decision.{Decision, refused, accepted}
 use Rattle.rules.specs.Outcome.{Effect, Exit, atExit}
 use Rattle.rules.specs.Break.{breakNeighbour}
 use Rattle.rules.specs.Receive.{receive}
+use Rattle.rules.specs.Walk.{Walked, walk, walkedAtExit}
+use Rattle.rules.proofs.Hops.{walk-hops}
 use Rattle.point.specs.declared.Outcome.{Outcome}
 use Rattle.point.specs.declared.Outcome.the-variants.{Accepted, Refused}
 use Rattle.point.specs.Answers.{exits}
+use Rattle.walk.specs.declared.Ending.{Ending}
+use Rattle.walk.specs.declared.Walked.{Walked as InNumbers}
+use Rattle.walk.specs.Answers.{decisionOf, numbersOf}
 use Rattle.hwmp.specs.declared.HwmpOutcome.{HwmpOutcome}
 use Rattle.hwmp.specs.ForC.{outcomeFor, leaving}
 
@@ -32,3 +38,14 @@ module _ (o : Outcome) (r : HwmpOutcome) (re : r ≡ outcomeFor o) (t output t�
       → exits o t output ≡ atExit t₀ output₀ (receive t₀ n (record { clock = c; transmitter = a; link = link }) e)
       → leaving r t output ≡ atExit t₀ output₀ (receive t₀ n (record { clock = c; transmitter = addressOf s; link = link }) e)
   receive-handed-on n c link e = by-address (λ (b : Address). receive t₀ n (record { clock = c; transmitter = b; link = link }) e)
+
+-- no more hops than points, refused or not
+pub hops-few : (s : List ℕ) (count c : ℕ) (start d : Address) (e : Ending) → decisionOf e ≡ walk s count c start d
+    → (w : InNumbers) → numbersOf w ≡ walkedAtExit (decisionOf e) → w .hops ≤ count
+hops-few s count c start d e ee w we = by (decisionOf e) refl
+  where
+    by : (x : Decision Walked) → decisionOf e ≡ x → w .hops ≤ count
+    by (refused n) xe = let z = ap (λ (v : Walked). v .hops) (we ∙ ap walkedAtExit xe) in omega (arith, z)
+    by (accepted v) xe =
+        let same = ap (λ (u : Walked). u .hops) (we ∙ ap walkedAtExit xe) in
+        omega (arith, same, walk-hops s count c start d v (sym ee ∙ xe))

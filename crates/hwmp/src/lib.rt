@@ -14,6 +14,7 @@ use rules::Arrival;
 use table::address;
 use walk::Walked;
 ghost use mathlib.Core.Path.{_≡_};
+ghost use Prim.Native.Nat.{_≤_};
 ghost use lib.ListN.{length};
 ghost use Rattle.table.specs.Address.{addressOf};
 ghost use Rattle.rules.specs.Decision.{left};
@@ -173,6 +174,7 @@ pub extern "C" fn hwmp_walk(
     destination: &[u8; 6],
 ) -> Walked
     ensures { λ r. ⌜ numbersOf r ≡ walkedAtExit (walk (now (tables .entry)) count clock (addressOf (now (start .entry))) (addressOf (now (destination .entry)))) ⌝ }
+    ensures { λ r. ⌜ r .hops ≤ count ⌝ }
 {
     let from = address::read(start);
     let to = address::read(destination);

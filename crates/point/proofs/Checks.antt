@@ -96,7 +96,7 @@ module _ {A : Type 0} (x : A) where
   as-decision Accepted = accepted x
   as-decision (Refused n) = refused n
 
-  pub answer-decides : (checks : List Check) (a : Answer) → a ≡ answerTo checks → judged checks x ≡ as-decision a
+  answer-decides : (checks : List Check) (a : Answer) → a ≡ answerTo checks → judged checks x ≡ as-decision a
   unfolding answerTo
   answer-decides [] a e = rw e
   answer-decides (k ∷ checks) a e = by (k .applies) e (answer-decides checks a)
@@ -109,16 +109,16 @@ module _ {A : Type 0} (x : A) where
 pub answer-passed : (checks : List Check) → Accepted ≡ answerTo checks → Passed checks
 answer-passed checks e = passed {A = ℕ} (record { checks = checks; otherwise = 0 }) 0 (answer-decides 0 checks Accepted e) .0
 
-module _ (t output : List ℕ) (r : Ruling Effect) (a : Answer) (ae : a ≡ answerTo (r .checks)) where
-  decided-as : decide r ≡ as-decision (r .otherwise) a
-  decided-as = answer-decides (r .otherwise) (r .checks) a ae
+pub decided-as : {A : Type 0} (r : Ruling A) (a : Answer) → a ≡ answerTo (r .checks) → decide r ≡ as-decision (r .otherwise) a
+decided-as r a ae = answer-decides (r .otherwise) (r .checks) a ae
 
+module _ (t output : List ℕ) (r : Ruling Effect) (a : Answer) (ae : a ≡ answerTo (r .checks)) where
   pub refusal : (n : ℕ) → a ≡ Refused n → exits (NotDone n) t output ≡ atExit t output (decide r)
   unfolding atExit
-  refusal n e = sym (ap (atExit t output) (decided-as ∙ ap (as-decision (r .otherwise)) e))
+  refusal n e = sym (ap (atExit t output) (decided-as r a ae ∙ ap (as-decision (r .otherwise)) e))
 
   pub acceptance : a ≡ Accepted → (x : Exit) → x ≡ atExit t output (accepted (r .otherwise)) → x ≡ atExit t output (decide r)
-  acceptance e x h = h ∙ sym (ap (atExit t output) (decided-as ∙ ap (as-decision (r .otherwise)) e))
+  acceptance e x h = h ∙ sym (ap (atExit t output) (decided-as r a ae ∙ ap (as-decision (r .otherwise)) e))
 
 -- an accepted call by the table, the output and the frames that it leaves
 pub accepted-exit : (t output : List ℕ) (x : Effect) (u v : List ℕ) (e : Emitted) → u ≡ x .table → v ≡ over output 0 (frameOctets (x .frames))

@@ -25,7 +25,7 @@ use Rattle.point.specs.declared.next_hop.Hop.{Hop}
 use Rattle.point.specs.declared.next_hop.Hop.the-variants.{Via, Refused}
 use Rattle.point.specs.Answers.{answerTo}
 use Rattle.point.specs.Answers.{decisionOf as hopDecision}
-use Rattle.point.proofs.Checks.{as-decision, answer-decides, answer-passed}
+use Rattle.point.proofs.Checks.{as-decision, decided-as, answer-passed}
 use Rattle.walk.specs.declared.Ending.{Ending}
 use Rattle.walk.specs.declared.way.Leads.{Leads}
 use Rattle.walk.specs.declared.way.Leads.the-variants.{To, Nowhere}
@@ -154,12 +154,12 @@ module _ (s : List ℕ) (count c : ℕ) (start d : Address) (a : Answer) (ae : a
   abbrev way : Walked
   way = follow (tablesIn s count) c d count start 0
 
-  decided-as : walk s count c start d ≡ as-decision way a
+  decided : walk s count c start d ≡ as-decision way a
   unfolding walk
-  decided-as = answer-decides way (walking s count c start d .checks) a ae
+  decided = decided-as (walking s count c start d) a ae
 
   pub walk-refused : (n : ℕ) → a ≡ NotWalked n → refused n ≡ walk s count c start d
-  walk-refused n e = sym (decided-as ∙ ap (as-decision way) e)
+  walk-refused n e = sym (decided ∙ ap (as-decision way) e)
 
   module _ (ok : a ≡ Accepted) where
     pub pieces-accepted : Pieces s (length s / count) count
@@ -170,4 +170,4 @@ module _ (s : List ℕ) (count c : ℕ) (start d : Address) (a : Answer) (ae : a
     count-accepted = pieces-accepted .some-piece
 
     pub walk-accepted : (r : Ending) → decisionOf r ≡ accepted way → decisionOf r ≡ walk s count c start d
-    walk-accepted r re = re ∙ sym (decided-as ∙ ap (as-decision way) ok)
+    walk-accepted r re = re ∙ sym (decided ∙ ap (as-decision way) ok)

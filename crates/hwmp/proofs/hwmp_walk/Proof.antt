@@ -1,5 +1,6 @@
 -- `hwmp::hwmp_walk` meets its contract: by what it calls. Assumes nothing.
 use borrow.Author.Needs.{needs}
+use Rattle.hwmp.proofs.Outcomes.{hops-few}
 use Rattle.hwmp.proofs.hwmp_walk.Statement.{statement}
 use Rattle.hwmp.proofs.hwmp_walk.Tie as tie
 
@@ -11,4 +12,4 @@ hwmp-walk-spec =
     (λ c κs. search needs)
     (λ c κs. search needs)
     (λ c κs. search needs)
-    (λ c. cc))
+    (λ c. (cc, search hops-few)))
