@@ -1,1 +1,2 @@
+pub mod Numbering
 pub mod Numbers

@@ -1,4 +1,6 @@
 // Counters that never stand in for one another: each is a struct of one number.
+pub mod own;
+
 ghost use mathlib.Core.Path.{_≡_};
 ghost use Prim.Native.Nat.{_+_, _%_, _^_};
 ghost use Rattle.counters.specs.Numbers.{newer, nextNumber, nextRequest, older};

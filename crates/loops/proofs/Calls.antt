@@ -29,7 +29,7 @@ use Rattle.rules.specs.Destinations.{Answered, allAnswered}
 use Rattle.rules.specs.Onward.{onward, toAll, rannOnward, rreqOnward, rrepOnward}
 use Rattle.rules.specs.Errors.{isThrough, isMatch, erred, broken, brokenEntries, errorAt}
 use Rattle.rules.specs.Receive.{pathOf, rannReceived, rrepReceived, rreqReceived, rerrReceived, received, receiving, receive}
-use Rattle.rules.specs.Originate.{rannNumbered, rreqNumbered, ownPath, announced, requested, asking, ask, announcing, announce, requestingAsRoot, rootRequest}
+use Rattle.rules.specs.Originate.{numberedHead, ownPath, announced, requested, asking, ask, announcing, announce, requestingAsRoot, rootRequest}
 use Rattle.rules.specs.Break.{brokenOff, breaking, breakNeighbour}
 use Rattle.rules.specs.Calls.{Call, receives, makes, asks, announces, requestsAsRoot, breaks, outcome, OperandsFit}
 use Rattle.rules.proofs.Rulings.{passed}
@@ -66,11 +66,11 @@ module _ (d : Address) (base : ℕ) (log : List Sent) (t : List ℕ) where
       }
 
   requested-sound : (flags lifetime : ℕ) (targets : List Target) → Sound d base log t (requested t flags lifetime targets)
-  unfolding requested rreqNumbered headWith
+  unfolding requested numberedHead headWith
   requested-sound flags lifetime targets = originates _ refl _ flags lifetime refl
 
   announced-sound : (flags lifetime : ℕ) → Sound d base log t (announced t flags lifetime)
-  unfolding announced rannNumbered headWith
+  unfolding announced numberedHead headWith
   announced-sound flags lifetime = originates _ refl _ flags lifetime refl
 
 module _ (d : Address) (base : ℕ) (small : base < 2 ^ 32) (log : List Sent) (t : List ℕ) (octets : Octets t) (near : Near base (rowFor t d)) where

@@ -28,7 +28,7 @@ use Rattle.element.proofs.Written.{entries-more, target-length}
 use Rattle.rules.specs.Decision.{accepted, Check}
 use Rattle.rules.specs.Lists.{any}
 use Rattle.rules.specs.Outcome.{Exit, atExit}
-use Rattle.rules.specs.Originate.{rreqNumbered, ownRequest, requested, itemsFit, hasHighFlags, knownNumber, askedFor, asking, ask}
+use Rattle.rules.specs.Originate.{numberedHead, ownRequest, requested, itemsFit, hasHighFlags, knownNumber, askedFor, asking, ask}
 use Rattle.rules.proofs.AnyOf.{any-found, any-more}
 use Rattle.rules.proofs.Rulings.{Passed, passed-check}
 use Rattle.point.specs.declared.Answer.{Answer}
@@ -100,7 +100,7 @@ pub asked-written : (t s w output v : List ℕ) (h : Head) (lifetime : ℕ)
 asked-written t s w output v h lifetime = request-finished w output v h 0 lifetime (map (askedFor t) (itemsIn s)) (length s / 7) (asked-many t s)
 
 module _ (t s output u v : List ℕ) (octets : ℕ) (size : octets ≡ 34 + 11 * (length s / 7)) where
-  pub asked-exit : (lifetime : ℕ) (h₀ h : Head) → h₀ ≡ headAt t → h ≡ rreqNumbered h₀
+  pub asked-exit : (lifetime : ℕ) (h₀ h : Head) → h₀ ≡ headAt t → h ≡ numberedHead true h₀
       → v ≡ over output 0 (writeFrame allOnes (rreq (ownRequest h 0 lifetime) (map (askedFor t) (itemsIn s)))) → u ≡ putHead t h
       → (em : Emitted) → em ≡ record { frames = 1; octets = octets }
       → exits (Done em) u v ≡ atExit t output (accepted (requested t 0 lifetime (map (askedFor t) (itemsIn s))))

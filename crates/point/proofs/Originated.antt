@@ -1,7 +1,7 @@
 -- What announce, root request and ask leave, as their `return`s ask it. Assumes nothing.
 use Prim.Native.Nat.{ℕ, _+_, _*_}
 use mathlib.Core.Path.{_≡_, refl, sym, ap, ap₂, _∙_}
-use mathlib.Core.Bool.{Bool, not}
+use mathlib.Core.Bool.{Bool, true, false, not}
 use mathlib.Core.List.{List, [], _∷_, append-nil, flatMap}
 use lib.ListN.{length}
 use native.Mathlib.Omega.{arith}
@@ -20,7 +20,7 @@ use Rattle.element.proofs.Written.{finished}
 use Rattle.rules.specs.Decision.{accepted}
 use Rattle.rules.specs.Outcome.{Exit, atExit}
 use Rattle.rules.specs.Onward.{toAll}
-use Rattle.rules.specs.Originate.{rannNumbered, rreqNumbered, ownPath, ownRequest, announced, requested, originating, announcing, announce, isRootFlags, allWithDOAndRF, requestingAsRoot, rootRequest}
+use Rattle.rules.specs.Originate.{numberedHead, ownPath, ownRequest, announced, requested, originating, announcing, announce, isRootFlags, allWithDOAndRF, requestingAsRoot, rootRequest}
 use Rattle.rules.proofs.FrameOctets.{one-frame}
 use Rattle.point.specs.declared.Answer.{Answer}
 use Rattle.point.specs.declared.Answer.the-variants.{Accepted, Refused}
@@ -38,7 +38,7 @@ one-frame-exit t output u v n e ve ne em eme =
 
 -- ---- announce
 
-pub announced-exit : (t output u v : List ℕ) (flags lifetime : ℕ) (h₀ h : Head) → h₀ ≡ headAt t → h ≡ rannNumbered h₀ → u ≡ putHead t h
+pub announced-exit : (t output u v : List ℕ) (flags lifetime : ℕ) (h₀ h : Head) → h₀ ≡ headAt t → h ≡ numberedHead false h₀ → u ≡ putHead t h
     → (p : PathInfo) → p ≡ ownPath h flags lifetime → v ≡ over output 0 (writeFrame allOnes (rann p)) → (octets : ℕ) → octets ≡ 0 + 29
     → (em : Emitted) → em ≡ record { frames = 1; octets = octets } → exits (Done em) u v ≡ atExit t output (accepted (announced t flags lifetime))
 unfolding announced
@@ -47,8 +47,8 @@ announced-exit t output u v flags lifetime h₀ h e₀ he ue p pe ve octets size
     ∙ ap₂ (λ (w : List ℕ) (q : PathInfo). atExit t output (accepted (record { table = w; frames = toAll (rann q) })))
     (ue ∙ ap (putHead t) stepped) (pe ∙ ap (λ (k : Head). ownPath k flags lifetime) stepped)
   where
-    stepped : h ≡ rannNumbered (headAt t)
-    stepped = he ∙ ap rannNumbered e₀
+    stepped : h ≡ numberedHead false (headAt t)
+    stepped = he ∙ ap (numberedHead false) e₀
 
 -- ---- a request: its start was written
 
@@ -66,7 +66,7 @@ request-finished w output v h flags lifetime targets n ne we at ate ve =
     finished allOnes output w v 0 at (rreq (ownRequest h flags lifetime) targets) n ne we ate ve
 
 -- and the head
-module _ (t output u v : List ℕ) (flags lifetime : ℕ) (h₀ h : Head) (e₀ : h₀ ≡ headAt t) (he : h ≡ rreqNumbered h₀) (ue : u ≡ putHead t h) where
+module _ (t output u v : List ℕ) (flags lifetime : ℕ) (h₀ h : Head) (e₀ : h₀ ≡ headAt t) (he : h ≡ numberedHead true h₀) (ue : u ≡ putHead t h) where
   pub requested-exit : (targets : List Target) (n : ℕ) → n ≡ length targets
       → v ≡ over output 0 (writeFrame allOnes (rreq (ownRequest h flags lifetime) targets)) → (octets : ℕ) → octets ≡ 34 + 11 * n
       → (em : Emitted) → em ≡ record { frames = 1; octets = octets } → exits (Done em) u v ≡ atExit t output (accepted (requested t flags lifetime targets))
@@ -77,8 +77,8 @@ module _ (t output u v : List ℕ) (flags lifetime : ℕ) (h₀ h : Head) (e₀ 
       ∙ ap₂ (λ (x : List ℕ) (k : Head). atExit t output (accepted (record { table = x; frames = toAll (rreq (ownRequest k flags lifetime) targets) })))
       (ue ∙ ap (putHead t) stepped) stepped
     where
-      stepped : h ≡ rreqNumbered (headAt t)
-      stepped = he ∙ ap rreqNumbered e₀
+      stepped : h ≡ numberedHead true (headAt t)
+      stepped = he ∙ ap (numberedHead true) e₀
 
   -- with one destination
   pub root-exit : (w : List ℕ) → w ≡ over output 0 (frameStart allOnes Rreq 1 (rreqNumbers (ownRequest h flags lifetime)))

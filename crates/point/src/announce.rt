@@ -21,7 +21,7 @@ fn send(table: &mut [u8], output: &mut [u8], flags: u8, lifetime: u32) -> Outcom
     requires { ⌜ 1560 ≤ length (now output) ⌝ }
     ensures { λ r. ⌜ exits r (now (table .exit)) (now (output .exit)) ≡ atExit (now (table .entry)) (now (output .entry)) (accepted (announced (now (table .entry)) flags lifetime)) ⌝ }
 {
-    let head = originate::number_rann(row::read_head(table));
+    let head = originate::number_head(row::read_head(table), false);
     row::write_head(table, head);
     let path = originate::own_path(head, flags, lifetime);
     let octets = write::write_rann(output, 0, Address(list::ALL_ONES), path);

@@ -159,7 +159,7 @@ fn send(table: &mut [u8], output: &mut [u8], lifetime: u32, items: &[u8]) -> Out
     requires { ⌜ length (now items) ≤ 140 ⌝ }
     ensures { λ r. ⌜ exits r (now (table .exit)) (now (output .exit)) ≡ atExit (now (table .entry)) (now (output .entry)) (accepted (requested (now (table .entry)) 0 lifetime (map (askedFor (now (table .entry))) (itemsIn (now (items .entry)))))) ⌝ }
 {
-    let head = originate::number_rreq(row::read_head(table));
+    let head = originate::number_head(row::read_head(table), true);
     let octets = write_request(output, head, lifetime, table, items);
     row::write_head(table, head);
     Outcome::Accepted(Emitted::one_frame(octets))

@@ -3,6 +3,8 @@
 use crate::Answer;
 use counters::HopCount;
 use counters::Metric;
+use counters::own;
+use counters::own::OwnCounters;
 use element::PathInfo;
 use element::RreqFields;
 use element::list;
@@ -18,7 +20,7 @@ ghost use Rattle.element.specs.declared.Kind.{Kind};
 ghost use Rattle.element.specs.Element.{rreqNumbers};
 ghost use Rattle.element.specs.Lists.{allOnes};
 ghost use Rattle.element.specs.Octets.{frameStart};
-ghost use Rattle.rules.specs.Originate.{originating, ownPath, ownRequest, rannNumbered, rreqNumbered};
+ghost use Rattle.rules.specs.Originate.{originating, ownPath, ownRequest, numberedHead};
 ghost use Rattle.point.specs.Answers.{answerTo};
 
 // The refusals of announce and root request. They differ in the flags that are barred.
@@ -43,21 +45,14 @@ pub fn check(table: &[u8], output: &[u8], barred: bool, lifetime: u32) -> Answer
     Answer::Accepted
 }
 
-// A new RANN takes the next own number.
-pub fn number_rann(head: Head) -> Head
-    ensures { λ r. ⌜ r ≡ rannNumbered head ⌝ }
-{
-    let number = head.number;
-    head.with(number.next(), head.request, head.clock)
-}
-
-// A new RREQ takes the next own number and the next request ID.
-pub fn number_rreq(head: Head) -> Head
-    ensures { λ r. ⌜ r ≡ rreqNumbered head ⌝ }
+// Numbers a new element, a RREQ or not: its numbers are those of the head that is answered.
+pub fn number_head(head: Head, rreq: bool) -> Head
+    ensures { λ r. ⌜ r ≡ numberedHead rreq head ⌝ }
 {
     let number = head.number;
     let request = head.request;
-    head.with(number.next(), request.next(), head.clock)
+    let advanced = own::numbered(OwnCounters { number, request }, rreq);
+    head.with(advanced.number, advanced.request, head.clock)
 }
 
 // What the point with this head says of itself.

@@ -31,7 +31,7 @@ fn send(table: &mut [u8], output: &mut [u8], flags: u8, lifetime: u32) -> Outcom
     requires { ⌜ 1560 ≤ length (now output) ⌝ }
     ensures { λ r. ⌜ exits r (now (table .exit)) (now (output .exit)) ≡ atExit (now (table .entry)) (now (output .entry)) (accepted (requested (now (table .entry)) flags lifetime (allWithDOAndRF ∷ []))) ⌝ }
 {
-    let head = originate::number_rreq(row::read_head(table));
+    let head = originate::number_head(row::read_head(table), true);
     row::write_head(table, head);
     let place = originate::start_request(output, head, flags, lifetime, 1);
     let target = Target {

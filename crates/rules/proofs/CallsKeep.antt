@@ -13,6 +13,7 @@ use Rattle.octets.proofs.Laws.{FitFields, fields-fit}
 use Rattle.counters.specs.declared.SequenceNumber.{SequenceNumber}
 use Rattle.counters.specs.declared.RequestId.{RequestId}
 use Rattle.counters.specs.Numbers.{stepped, nextNumber, nextRequest}
+use Rattle.counters.specs.Numbering.{advancedFor}
 use Rattle.table.specs.declared.address.Address.{Address}
 use Rattle.table.specs.declared.row.Row.{Row}
 use Rattle.table.specs.Row.{headWith}
@@ -42,7 +43,7 @@ use Rattle.rules.specs.Destinations.{Answered, allAnswered}
 use Rattle.rules.specs.Onward.{rreqOnward}
 use Rattle.rules.specs.Errors.{matches, brokenEntries}
 use Rattle.rules.specs.Receive.{matchesNothing, rannReceived, rrepReceived, rreqReceived, rerrReceived, received, receiving, receive}
-use Rattle.rules.specs.Originate.{rannNumbered, rreqNumbered, ownPath, announced, requested, itemsFit, knownNumber, askedFor, asking, ask, announcing, announce, isRootFlags, allWithDOAndRF, requestingAsRoot, rootRequest}
+use Rattle.rules.specs.Originate.{numberedHead, ownPath, announced, requested, itemsFit, knownNumber, askedFor, asking, ask, announcing, announce, isRootFlags, allWithDOAndRF, requestingAsRoot, rootRequest}
 use Rattle.rules.specs.Break.{brokenOff, breaking, breakNeighbour}
 use Rattle.rules.specs.Calls.{Call, receives, makes, asks, announces, requestsAsRoot, breaks, outcome, OperandsFit}
 use Rattle.rules.proofs.Rulings.{passed, passed-check}
@@ -151,7 +152,7 @@ module _ (t : List ℕ) (w : Whole t) where
   request-next-fits = omega arith
 
   announced-kept : (flags lifetime : ℕ) → flags < 256 ^ 1 → lifetime < 256 ^ 4 → Kept t (announced t flags lifetime)
-  unfolding announced rannNumbered
+  unfolding announced numberedHead advancedFor
   announced-kept flags lifetime f l =
       record {
         leaves = head-leaves t t w same-table (nextNumber (number t)) (requestId t) (clock t) (next-fits (number t)) (request-fits t w) (clock-small t w);
@@ -160,7 +161,7 @@ module _ (t : List ℕ) (w : Whole t) where
 
   requested-kept : (flags lifetime : ℕ) (targets : List Target) → flags < 256 ^ 1 → lifetime < 256 ^ 4 → All FitsTarget targets
       → 1 ≤ length targets → length targets ≤ 20 → Kept t (requested t flags lifetime targets)
-  unfolding requested rreqNumbered headWith
+  unfolding requested numberedHead advancedFor headWith
   requested-kept flags lifetime targets f l fit one few =
       record {
         leaves = head-leaves t t w same-table (nextNumber (number t)) (nextRequest (requestId t)) (clock t) (next-fits (number t)) request-next-fits

@@ -3,6 +3,7 @@
 use mathlib.Core.List.{flatMap}
 use Rattle.octets.specs.LittleEndian.{numberOctets, numberAt, over, withNumber, fieldsAt, withFields, fieldOctets}
 use Rattle.counters.specs.Numbers.{stepped, wrapped, newer, older}
+use Rattle.counters.specs.Numbering.{advancedFor}
 use Rattle.table.specs.Address.{individual}
 use Rattle.table.specs.Layout.{sized, headAt, putHead, allZero, rowAt, putRow}
 use Rattle.table.specs.Row.{headWith, headOk, isFree, isUnnumbered, isOther, statusOk, boundsOk, isHeld, rowOk, active, renewed, numbered, invalidated, raised}
@@ -23,14 +24,14 @@ use Rattle.rules.specs.Destinations.{reply, answeredNumber, answersFor, 
 use Rattle.rules.specs.Onward.{onward, towards, rannOnward, rreqOnward, rrepOnward}
 use Rattle.rules.specs.Errors.{isThrough, isLostBy, matches, numberBeside, isMatch, erredWith, erred, broken, brokenEntry, brokenEntries, errorAt, errorsFor}
 use Rattle.rules.specs.Receive.{hasBadAddress, severalOrAll, hasBadList, isLowTtlReply, isStaleFor, isStale, matchesNothing, rowsNeeded, rannReceived, rrepReceived, rreqReceived, rerrReceived, received, receive}
-use Rattle.rules.specs.Originate.{rannNumbered, rreqNumbered, ownPath, announced, requested, itemsFit, knownNumber, askedFor, asking, ask, announce, isRootFlags, rootRequest}
+use Rattle.rules.specs.Originate.{numberedHead, ownPath, announced, requested, itemsFit, knownNumber, askedFor, asking, ask, announce, isRootFlags, rootRequest}
 use Rattle.rules.specs.Break.{brokenOff, breaking, breakNeighbour}
 use Rattle.rules.specs.Calls.{outcome}
 use Rattle.rules.specs.Walk.{tableAt, sideBySide, hasLaterClock, rowOfPoint, leadsTo, follow, walk}
 
 unfoldable pub computing : Unit {0}
 unfolding flatMap numberOctets numberAt over withNumber fieldsAt withFields fieldOctets
-    stepped wrapped newer older
+    stepped advancedFor wrapped newer older
     individual sized headAt putHead allZero rowAt putRow headWith headOk isFree isUnnumbered isOther statusOk boundsOk isHeld rowOk
     active renewed numbered invalidated raised first count every vacant holds findRow rowFor freeRows firstFree alone
     isTable fresh placeFor store freed changeBelow changeWhere
@@ -43,6 +44,6 @@ unfolding flatMap numberOctets numberAt over withNumber fieldsAt withFields fiel
     isThrough isLostBy matches numberBeside isMatch erredWith erred broken brokenEntry brokenEntries errorAt errorsFor
     hasBadAddress severalOrAll hasBadList isLowTtlReply isStaleFor isStale matchesNothing rowsNeeded
     rannReceived rrepReceived rreqReceived rerrReceived received receive
-    rannNumbered rreqNumbered ownPath announced requested itemsFit knownNumber askedFor asking ask announce isRootFlags rootRequest
+    numberedHead ownPath announced requested itemsFit knownNumber askedFor asking ask announce isRootFlags rootRequest
     brokenOff breaking breakNeighbour outcome tableAt sideBySide hasLaterClock rowOfPoint leadsTo follow walk
 computing = tt

@@ -1,13 +1,14 @@
 -- 'Originating': ask, announce and root request. Each takes the next own number; hop count 0, TTL 31, metric 0, to all ones.
 -- Assumes nothing.
 use Prim.Native.Nat.{ℕ, _%_}
-use mathlib.Core.Bool.{Bool, not, _&&_, _||_, cond}
+use mathlib.Core.Bool.{Bool, true, false, not, _&&_, _||_, cond}
 use mathlib.Core.List.{List, [], _∷_, map}
 use mathlib.Core.Option.{Option, none, some}
 use lib.Dec.{eqb, leb}
 use lib.ListN.{length}
 use Rattle.counters.specs.declared.SequenceNumber.{SequenceNumber}
-use Rattle.counters.specs.Numbers.{nextNumber, nextRequest}
+use Rattle.counters.specs.declared.own.OwnCounters.{OwnCounters}
+use Rattle.counters.specs.Numbering.{advancedFor}
 use Rattle.table.specs.declared.row.Head.{Head}
 use Rattle.table.specs.declared.row.Row.{Row}
 use Rattle.table.specs.Row.{headWith}
@@ -28,13 +29,11 @@ use Rattle.rules.specs.Onward.{toAll}
 
 -- ---- what all three have in common
 
--- the head after a new RANN is numbered: it takes the next own number
-unfoldable pub rannNumbered : Head → Head
-rannNumbered h = headWith (nextNumber (h .number)) (h .request) (h .clock) h
-
--- the head after a new RREQ is numbered: it takes the next own number and the next request ID
-unfoldable pub rreqNumbered : Head → Head
-rreqNumbered h = headWith (nextNumber (h .number)) (nextRequest (h .request)) (h .clock) h
+-- numbering a new element, a RREQ or not, advances the counters of the point
+unfoldable pub numberedHead : (isRreq : Bool) → Head → Head
+numberedHead isRreq h =
+    let c : OwnCounters = advancedFor isRreq (record { number = h .number; request = h .request }) in
+    headWith (c .number) (c .request) (h .clock) h
 
 -- what the point with this head says of itself
 unfoldable pub ownPath : Head → ℕ → ℕ → PathInfo
@@ -52,7 +51,7 @@ ownPath h flags lifetime =
 -- an announcement
 unfoldable pub announced : List ℕ → ℕ → ℕ → Effect
 announced t flags lifetime =
-    let h : Head = rannNumbered (headAt t) in
+    let h : Head = numberedHead false (headAt t) in
     record { table = putHead t h; frames = toAll (rann (ownPath h flags lifetime)) }
 
 abbrev pub ownRequest : Head → ℕ → ℕ → RreqFields
@@ -61,7 +60,7 @@ ownRequest h flags lifetime = record { request = h .request; path = ownPath h fl
 -- a request for these destinations
 unfoldable pub requested : List ℕ → ℕ → ℕ → List Target → Effect
 requested t flags lifetime targets =
-    let h : Head = rreqNumbered (headAt t) in
+    let h : Head = numberedHead true (headAt t) in
     record { table = putHead t h; frames = toAll (rreq (ownRequest h flags lifetime) targets) }
 
 -- ---- ask
