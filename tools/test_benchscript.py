@@ -5,8 +5,6 @@ The bench program is target/bin/bench, or the one that HWMP_BENCH names. Without
 that need it fail. HWMP_SEED repeats the random octets of an earlier run, whose seed was printed.
 """
 
-import importlib.machinery
-import importlib.util
 import os
 import random
 import subprocess
@@ -14,10 +12,11 @@ import sys
 import tempfile
 import unittest
 from pathlib import Path
-from types import ModuleType
 from unittest.mock import patch
 
-sys.dont_write_bytecode = True
+sys.dont_write_bytecode = True  # set first, so that nothing is written beside the tools
+
+from loading import load_tool
 
 ROOT = Path(__file__).resolve().parent.parent
 TOOL = ROOT / "tools" / "benchscript"
@@ -26,16 +25,7 @@ SCRIPTS = sorted((ROOT / "examples" / "bench").glob("*.bench"))
 SEED = int(os.environ.get("HWMP_SEED", random.randrange(2**32)))
 
 
-def load_tool() -> ModuleType:
-    """The tool as a module; it has no '.py' in its name, so Python must be told what it is."""
-    loader = importlib.machinery.SourceFileLoader("benchscript", str(TOOL))
-    module = importlib.util.module_from_spec(importlib.util.spec_from_loader("benchscript", loader))
-    sys.modules["benchscript"] = module
-    loader.exec_module(module)
-    return module
-
-
-benchscript = load_tool()
+benchscript = load_tool("benchscript")
 
 
 def call(*arguments: object, given: bytes = b"") -> subprocess.CompletedProcess:
