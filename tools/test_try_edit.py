@@ -1,0 +1,262 @@
+"""Tests of try_edit, and of docs/TRAINING.md, which shows what it prints.
+
+Run from anywhere: python3 tools/test_try_edit.py
+They need rt, but nothing proved and no program built.
+"""
+
+import re
+import subprocess
+import sys
+import tempfile
+import unittest
+from pathlib import Path
+from unittest.mock import patch
+
+sys.dont_write_bytecode = True  # set first, so that nothing is written beside the tools
+
+from loading import load_tool
+
+try_edit = load_tool("try_edit")
+
+ROOT = try_edit.ROOT
+GUIDE = (ROOT / "docs" / "TRAINING.md").read_text()
+ERRORS = re.findall(r"^## ([0-9]\..*?)(?=^## |\Z)", GUIDE, re.MULTILINE | re.DOTALL)
+
+# What is said of each error, in this order.
+PARTS = [
+    "What goes wrong.",
+    "On the bench.",
+    "Document 01.",
+    "The definition.",
+    "The proof refuses it.",
+    "Does it loop?",
+]
+
+
+def call(*arguments: object) -> tuple[int, str, str]:
+    """Runs the tool as a trainee would: its exit status, output and complaint."""
+    command = [sys.executable, ROOT / "tools" / "try_edit", *arguments]
+    done = subprocess.run(command, cwd=ROOT, capture_output=True, text=True, check=False)
+    return done.returncode, done.stdout, done.stderr
+
+
+def block(kind: str, text: str) -> str:
+    """The one code block of this kind."""
+    (found,) = re.findall(f"^```{kind}\n(.*?)^```$", text, re.MULTILINE | re.DOTALL)
+    return found
+
+
+class Guide(unittest.TestCase):
+    def test_each_error_has_the_same_parts(self) -> None:
+        self.assertEqual([error[0] for error in ERRORS], list("123456"))
+        for error in ERRORS:
+            with self.subTest(error[0]):
+                self.assertEqual(re.findall(r"^\*\*(.*?)\*\*", error, re.MULTILINE), PARTS)
+
+    def test_each_run_is_as_shown(self) -> None:
+        for error in ERRORS:
+            with self.subTest(error[0]):
+                command, _, shown = block("diff", error).partition("\n")
+                prompt, tool, *arguments = command.split()
+                self.assertEqual((prompt, tool), ("$", "tools/try_edit"))
+                status, output, complaint = call(*arguments)
+                self.assertEqual((status, complaint), (0, ""))
+                # The guide says that it leaves these out.
+                set_up = re.compile("^  (point|link) .*\n", re.MULTILINE)
+                self.assertEqual(shown, set_up.sub("", output))
+
+    def test_each_definition_stands_in_a_file_that_is_named(self) -> None:
+        for error in ERRORS:
+            with self.subTest(error[0]):
+                named = re.findall(r"`(crates/\w+/specs/\w+\.antt)`", error)
+                text = "\n".join((ROOT / name).read_text() for name in named)
+                for definition in block("antt", error).strip().split("\n\n"):
+                    self.assertIn(f"\n{definition}\n", text)
+
+    def test_each_path_that_is_named_is_there(self) -> None:
+        names = re.findall(r"\b(?:crates|examples|tools)/[\w./-]*\w", GUIDE)
+        self.assertGreater(len(names), 30)
+        for name in names:
+            with self.subTest(name):
+                self.assertTrue((ROOT / name).exists())
+
+    def test_each_computed_loop_is_in_the_list(self) -> None:
+        runs = (ROOT / "crates" / "loops" / "specs" / "Runs.antt").read_text()
+        (listed,) = re.findall(r"^counterexamples = (.*)$", runs, re.MULTILINE)
+        answers = [re.findall(r"Does it loop\?\*\* (No|Yes: `\w+`)\.", error) for error in ERRORS]
+        self.assertEqual([len(answer) for answer in answers], [1] * 6)
+        named = [answer.removeprefix("Yes: ").strip("`") for (answer,) in answers if answer != "No"]
+        self.assertEqual(len(named), 4)
+        self.assertLessEqual(set(named), set(listed.split(" ∷ ")))
+
+    def test_each_script_is_run(self) -> None:
+        for script in (ROOT / "examples" / "training").iterdir():
+            self.assertRegex(GUIDE, rf"\$ tools/try_edit \S+ examples/training/{script.name}\n")
+
+
+class Edits(unittest.TestCase):
+    """Edits of a crate under another root, so that no bad one stands among the good."""
+
+    def setUp(self) -> None:
+        directory = tempfile.TemporaryDirectory()
+        self.addCleanup(directory.cleanup)
+        self.root = Path(directory.name).resolve()
+        self.crate = self.root / "crates" / "some"
+        for part in ("src", "specs", "must-fail"):
+            (self.crate / part).mkdir(parents=True)
+        (self.crate / "src" / "lib.rt").write_text("fn one() {}\n    fn two() {}\nfn two() {}\n")
+        (self.crate / "specs" / "Lib.antt").write_text("one\n")
+        self.edit = self.crate / "must-fail" / "some.edit"
+
+    def apply(self, lines: str) -> list[str]:
+        """Applies an edit with these lines to the crate, and answers what is shown of it."""
+        self.edit.write_text(lines)
+        with patch.object(try_edit, "ROOT", self.root):
+            edit = try_edit.read_edit(str(self.edit))
+        try_edit.apply_edit(edit, self.root)
+        return list(try_edit.edit_shown(edit))
+
+    def assert_complaint(self, lines: str, complaint: str) -> None:
+        with self.assertRaises(try_edit.Complaint) as raised:
+            self.apply(lines)
+        self.assertEqual((raised.exception.status, str(raised.exception)), (2, complaint))
+
+    def test_several_replacements_of_exact_texts(self) -> None:
+        shown = self.apply("# why\nfile: src/lib.rt\nold: one\nnew: 1\nold:     fn two\nnew:\n")
+        self.assertEqual(shown, ["crates/some/src/lib.rt", "- one", "+ 1", "- fn two", "+ "])
+        edited = (self.crate / "src" / "lib.rt").read_text()
+        self.assertEqual(edited, "fn 1() {}\n() {}\nfn two() {}\n")
+
+    def test_no_pair(self) -> None:
+        complaint = f"{self.edit} has no 'old:' and 'new:' pair"
+        self.assert_complaint("# why\nfile: src/lib.rt\nold: one\n", complaint)
+
+    def test_text_that_does_not_stand_there_once(self) -> None:
+        for old, times in (("three", 0), ("two", 2)):
+            complaint = f"'{old}' stands {times} times in src/lib.rt, not once"
+            self.assert_complaint(f"file: src/lib.rt\nold: {old}\nnew: x\n", complaint)
+
+    def test_text_that_an_earlier_replacement_brings_in(self) -> None:
+        complaint = "'four' stands 2 times in src/lib.rt, not once"
+        pairs = "old: one\nnew: four four\nold: four\nnew: x\n"
+        self.assert_complaint(f"file: src/lib.rt\n{pairs}", complaint)
+
+    def test_definition(self) -> None:
+        complaint = f"{self.edit} changes specs/Lib.antt, which is no code: nothing runs otherwise"
+        self.assert_complaint("file: specs/Lib.antt\nold: one\nnew: x\n", complaint)
+
+    def test_missing_file(self) -> None:
+        complaint = f"{self.edit} changes src/other.rt, which some does not have"
+        self.assert_complaint("file: src/other.rt\nold: one\nnew: x\n", complaint)
+
+    def test_edit_of_no_crate(self) -> None:
+        complaint = "README.md is no edit of a crate; these are crates/*/must-fail/*.edit\n"
+        self.assertEqual(call("README.md", "scattered_rows"), (2, "", complaint))
+
+
+class Runs(unittest.TestCase):
+    def assert_complaint(self, complaint: str, tried: object, *operands: object) -> None:
+        with self.assertRaises(try_edit.Complaint) as raised:
+            tried(*operands)
+        self.assertEqual((raised.exception.status, str(raised.exception)), (1, complaint))
+
+    def test_what_differs_beyond_the_octets_that_rt_tells_at_once(self) -> None:
+        training = (ROOT / "examples" / "training" / "error_by_destination.bench").read_text()
+        with tempfile.NamedTemporaryFile("w", suffix=".bench") as script:
+            script.write(f"repeat 40 advance 0\n{training}")
+            script.flush()
+            edit = "crates/matches/must-fail/matched_by_destination_alone.edit"
+            status, output, complaint = call(edit, script.name)
+        self.assertEqual((status, complaint), (0, ""))
+        lines = [" ".join(line.split()) for line in output.splitlines()]
+        self.assertEqual(lines.count("advance 0 accepted"), 40)
+        self.assertEqual(lines[-2], "- walk 3 2 arrives after 2 hops")
+        self.assertEqual(lines[-1], "+ walk 3 2 stops after 1 hop (41: no active row there)")
+
+    def test_run_that_does_not_end_well(self) -> None:
+        edit = "crates/counters/must-fail/step_does_not_wrap.edit"
+        status, output, complaint = call(edit, "examples/training/plain_numbers.bench")
+        self.assertEqual((status, output), (1, ""))
+        self.assertIn("bench was not run to its end:\n", complaint)
+        self.assertIn("attempt to add with overflow in `u32`, in `counters::one_more`", complaint)
+
+    def test_run_that_shows_nothing(self) -> None:
+        complaint = "nothing differs: this run does not show what the edit does"
+        with patch.object(try_edit, "output_with", return_value="rows 0\n"):
+            run = try_edit.Run("scattered_rows", None)
+            self.assert_complaint(complaint, try_edit.run_shown, None, run)
+
+    def test_words_of_rt_that_are_not_understood(self) -> None:
+        fails = "FAIL: the interpreter ended, but did not write what is expected\n"
+        for said in (
+            "",
+            "rt: no",
+            f'{fails}on standard output, at byte 1, expected "", found "a"',  # 0 are known
+            f'{fails}on standard output, at byte 0, expected "b", found "a"',
+            f'{fails}on standard output, at byte 0, expected "", found "\\u{{7f}}"',
+        ):
+            with (
+                self.subTest(said),
+                tempfile.TemporaryDirectory() as copy,
+                patch.object(try_edit, "try_program", return_value=(1, f"{said}\n")),
+            ):
+                (Path(copy) / "crates" / "some").mkdir(parents=True)
+                complaint = f"some was not run to its end:\n{said}"
+                self.assert_complaint(complaint, try_edit.output_in, Path(copy), "some")
+
+    def test_no_rt(self) -> None:
+        with patch.dict("os.environ", PATH="/nowhere"):
+            complaint = "rt cannot be run: No such file or directory"
+            self.assert_complaint(complaint, try_edit.try_program, ROOT, "bench")
+
+    def test_no_such_run(self) -> None:
+        edit = "crates/table/must-fail/free_rows_side_by_side.edit"
+        complaint = "no_such cannot be read: No such file or directory\n"
+        self.assertEqual(call(edit, "no_such"), (2, "", complaint))
+
+
+class Shown(unittest.TestCase):
+    def shown(self, script: str, before: str, after: str) -> list[str]:
+        """What is shown of a script if the bench writes this without the edit, and this with it."""
+        run = try_edit.Run("bench", try_edit.benchscript.script_to_octets("", script))
+        answers = (try_edit.answers_of(run, output) for output in (before, after))
+        return list(try_edit.marked(*answers))
+
+    def test_lines_of_a_program(self) -> None:
+        run = try_edit.Run("some", None)
+        before, after = try_edit.answers_of(run, "a\nb\nc\n"), try_edit.answers_of(run, "a\nd\n")
+        self.assertEqual(list(try_edit.marked(before, after)), ["  a", "- b", "+ d", "- c"])
+
+    def test_commands_stay_in_step_where_many_are_equal(self) -> None:
+        before, after = "8 0 0\n" * 5 + "2 0 0\n", "8 0 0\n" * 4 + "8 41 0\n" + "2 0 0\n"
+        shown = self.shown("repeat 5 walk 0 0\nadvance 1\n", before, after)
+        self.assertEqual("".join(line[0] for line in shown), "    -+ ")
+
+    def test_run_that_ends_early(self) -> None:
+        script = "advance 1\nwalk 0 0\nask 0 0 02:00:00:00:00:01 1\n"
+        self.assertEqual(
+            self.shown(script, "2 0 0\n8 0 0\n4 0 1\n", "2 0 0\nE 5\n"),
+            [
+                "  advance 1                     accepted",
+                "- walk 0 0                      arrives after 0 hops",
+                "+ walk 0 0                      ends the run at octet 5: "
+                "there is no point 0 (0 points so far)",
+                "- ask 0 0 02:00:00:00:00:01 1   accepted, emits frame 0",
+                "+                               what follows was not run",
+            ],
+        )
+
+    def test_words_that_need_two_lines(self) -> None:
+        self.assertEqual(
+            self.shown("deliver 0 0\n", "6 0 0\n", "6 25 0\n"),
+            [
+                "- deliver 0 0   accepted, emits no frame",
+                "+ deliver 0 0   refused 25: the element's number is older than the row's, "
+                "or equal and its metric with this",
+                "+               link not smaller",
+            ],
+        )
+
+
+if __name__ == "__main__":
+    unittest.main()
