@@ -4,7 +4,7 @@ use mathlib.Core.Path.{_≡_, refl, sym, ap, ap₂, _∙_}
 use mathlib.Core.Logic.{_⊎_, inl, inr, ⊎-elim}
 use mathlib.Core.List.{List, [], _∷_}
 use lib.ListN.{length, getD, set, drop, length-set, length-replicate, getD-replicate, drop-of-length-le}
-use lib.Seq.{getD-set-same, getD-set-other, set-getD, drop-cons, ext-getD, set-out}
+use lib.Seq.{getD-set-same, getD-set-other, drop-cons, ext-getD, set-out}
 use native.Mathlib.Decide.{ℕ-discrete}
 use native.Mathlib.Omega.{arith}
 use native.Mathlib.Numerals.{add-one}
@@ -40,6 +40,64 @@ with-zero s at x = refl
 with-suc : (n : ℕ) (s : List ℕ) (at x : ℕ) → withNumber (suc n) s at x ≡ withNumber n (set s at (x % 256)) (suc at) (x / 256)
 unfolding withNumber over numberOctets
 with-suc n s at x = refl
+
+-- a number written in two parts, the low one in m octets and the high one in the n after them
+pub number-parts : (m n : ℕ) (s : List ℕ) (at low high : ℕ) → low < 256 ^ m
+    → withNumber n (withNumber m s at low) (at + m) high ≡ withNumber (m + n) s at (low + 256 ^ m * high)
+number-parts zero n s at low high small = rw (with-zero, add-zero, zero-add) (ap (withNumber n s at) (omega arith))
+number-parts (suc m) n s at low high small =
+    rw (with-suc, suc-add, with-suc, add-suc, ← suc-add)
+    (number-parts m n (set s at (low % 256)) (suc at) (low / 256) high quotient-fits
+    ∙ ap₂ (λ (x y : ℕ). withNumber (m + n) (set s at x) (suc at) y) lowest others)
+  where
+    quotient-fits : low / 256 < 256 ^ m
+    quotient-fits = omega (arith, (rw pow-suc at small))
+
+    lowest : low % 256 ≡ (low + 256 ^ suc m * high) % 256
+    lowest = rw pow-suc (omega arith)
+
+    others : low / 256 + 256 ^ m * high ≡ (low + 256 ^ suc m * high) / 256
+    others = rw pow-suc (omega arith)
+
+-- what a number is written by, from its parts
+parted : (m n : ℕ) (s t u : List ℕ) (at x low high : ℕ) → low < 256 ^ m → x ≡ low + 256 ^ m * high
+    → t ≡ withNumber m s at low → u ≡ withNumber n t (at + m) high → u ≡ withNumber (m + n) s at x
+parted m n s t u at x low high small xe te ue =
+    ue ∙ ap (λ (v : List ℕ). withNumber n v (at + m) high) te ∙ number-parts m n s at low high small ∙ ap (withNumber (m + n) s at) (sym xe)
+
+-- the second of two octets has its place when the first is written
+pub second-in : (s : List ℕ) (at x : ℕ) → at + 2 ≤ length s → at + 1 < length (set s at x)
+second-in s at x l = omega (arith, length-set s at x)
+
+pub written-2 : (s : List ℕ) (at x : ℕ) → x < 65536 → set (set s at (x % 256)) (at + 1) (x / 256) ≡ withNumber 2 s at x
+unfolding withNumber over numberOctets
+written-2 s at x small = ap₂ (λ (p y : ℕ). set (set s at (x % 256)) p y) (omega arith) (omega arith)
+
+module _ (s t u : List ℕ) (at x : ℕ) where
+  pub written-4 : t ≡ withNumber 2 s at (x % 65536) → u ≡ withNumber 2 t (at + 2) (x / 65536) → u ≡ withNumber 4 s at x
+  written-4 = parted 2 2 s t u at x (x % 65536) (x / 65536) (omega arith) (omega arith)
+
+  pub written-8 : t ≡ withNumber 4 s at (x % 4294967296) → u ≡ withNumber 4 t (at + 4) (x / 4294967296) → u ≡ withNumber 8 s at x
+  written-8 = parted 4 4 s t u at x (x % 4294967296) (x / 4294967296) (omega arith) (omega arith)
+
+-- by a width that was tested for
+pub of-width : (w n : ℕ) (s u : List ℕ) (at x : ℕ) → n ≡ w → u ≡ withNumber w s at x → u ≡ withNumber n s at x
+of-width w n s u at x e ue = ue ∙ ap (λ (k : ℕ). withNumber k s at x) (sym e)
+
+-- what lies above the octets written plays no part
+lowest-alone : (m : ℕ) (s u : List ℕ) (at x low high : ℕ) → low < 256 ^ m → x ≡ low + 256 ^ m * high → u ≡ withNumber m s at low → u ≡ withNumber m s at x
+lowest-alone m s u at x low high small xe ue =
+    parted m 0 s u u at x low high small xe ue (sym (with-zero u (at + m) high)) ∙ ap (λ (k : ℕ). withNumber k s at x) (add-zero m)
+
+module _ (s : List ℕ) (at x : ℕ) where
+  pub lowest-4 : (n : ℕ) (u : List ℕ) → n ≡ 4 → u ≡ withNumber 4 s at (x % 4294967296) → u ≡ withNumber n s at x
+  lowest-4 n u e ue = of-width 4 n s u at x e (lowest-alone 4 s u at x (x % 4294967296) (x / 4294967296) (omega arith) (omega arith) ue)
+
+  pub written-6 : (t u : List ℕ) → t ≡ withNumber 4 s at (x % 4294967296) → u ≡ withNumber 2 t (at + 4) (x / 4294967296 % 65536)
+      → u ≡ withNumber 6 s at x
+  written-6 t u te ue =
+      parted 4 2 s t u at x (x % 4294967296) (x / 4294967296) (omega arith) (omega arith) te
+      (lowest-alone 2 t u (at + 4) (x / 4294967296) (x / 4294967296 % 65536) (x / 4294967296 / 65536) (omega arith) (omega arith) ue)
 
 pub length-number : (n : ℕ) (s : List ℕ) (at x : ℕ) → length (withNumber n s at x) ≡ length s
 unfolding withNumber over numberOctets
@@ -87,19 +145,6 @@ number-same (suc n) s at x h b =
     let first = octet-other n t (suc at) (x / 256) at (inl (omega arith)) ∙ getD-set-same s at (x % 256) 0 (omega arith) in
     let rest = number-same n t (suc at) (x / 256) (rw length-set (omega arith)) (omega arith) in
     omega arith
-
--- to write what is read changes nothing
-pub number-back : (n : ℕ) (s : List ℕ) (at : ℕ) → Octets s → withNumber n s at (numberAt n s at) ≡ s
-unfolding numberAt withNumber over numberOctets Octets
-number-back zero s at o = refl
-number-back (suc n) s at o =
-    let x : ℕ = numberAt n s (suc at) in
-    let b : getD s at 0 < 256 = o at in
-    let low : (getD s at 0 + 256 * x) % 256 ≡ getD s at 0 = omega arith in
-    let high : (getD s at 0 + 256 * x) / 256 ≡ x = omega arith in
-    ap₂ (λ (v w : ℕ). withNumber n (set s at v) (suc at) w) low high
-    ∙ ap (λ (l : List ℕ). withNumber n l (suc at) x) (set-getD s at 0)
-    ∙ number-back n s (suc at) o
 
 -- a number of n octets is below 256 ^ n
 pub number-bound : (n : ℕ) (s : List ℕ) (at : ℕ) → Octets s → numberAt n s at < 256 ^ n
@@ -208,14 +253,6 @@ fields-same (w ∷ ws) s at o (x ∷ xs) h f =
     ap₂ _∷_
     (apart w ws (withNumber w s (at + o) x) (at + o) at (o + w) xs (inl (omega arith)) ∙ number-same w s (at + o) x (omega arith) (f .0))
     (fields-same ws (withNumber w s (at + o) x) at (o + w) xs (rw length-number (omega arith)) (f .1))
-
--- to write the fields that are read changes nothing
-pub fields-back : (ws s : List ℕ) (at o : ℕ) → Octets s → withFields ws s at o (fieldsAt ws s at o) ≡ s
-unfolding fieldsAt withFields
-fields-back [] s at o h = refl
-fields-back (w ∷ ws) s at o h =
-    ap (λ (l : List ℕ). withFields ws l at (o + w) (fieldsAt ws s at (o + w))) (number-back w s (at + o) h)
-    ∙ fields-back ws s at (o + w) h
 
 -- fields of octets fit
 pub fields-fit : (ws s : List ℕ) (at o : ℕ) → Octets s → FitFields ws (fieldsAt ws s at o)
