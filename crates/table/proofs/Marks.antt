@@ -1,6 +1,7 @@
 -- The search for a destination that stands twice: the destinations of the rows passed are marked, and a row whose
 -- destination is not marked stands alone. Assumes nothing.
-use Prim.Native.Nat.{ℕ, _+_, _%_, _<_}
+use Prim.Native.Nat.{ℕ, _+_, _*_, _/_, _%_, _^_, _<_}
+use lib.Bits.{bitAnd, and-le-r}
 use mathlib.Core.Path.{_≡_, refl, sym, ap, _∙_}
 use mathlib.Core.Bool.{Bool, true, false, _&&_, _||_, or-true}
 use mathlib.Core.List.{List}
@@ -18,19 +19,19 @@ use Rattle.table.specs.Row.{rowOk}
 use Rattle.table.specs.declared.address.Address.{Address}
 use Rattle.table.proofs.Places.{first-nowhere}
 
--- where the destination of row i is marked
-abbrev slot : List ℕ → ℕ → ℕ
-slot t i = rowAt t i .destination .0 % 1021
+-- the mark of row i's destination, of those up to the last
+abbrev mark : List ℕ → ℕ → ℕ → ℕ
+mark t last i = bitAnd (rowAt t i .destination .0 % 2 ^ 48 * 40503 / 2 ^ 40) last
 
 -- the destinations of the rows below i are marked
-pub record Marked (t seen : List ℕ) (i : ℕ) : Type 0 where
-  pub marks : (k : ℕ) → k < i → getD seen (slot t k) 0 ≡ 0 → ⊥
+pub record Marked (t seen : List ℕ) (last i : ℕ) : Type 0 where
+  pub marks : (k : ℕ) → k < i → getD seen (mark t last k) 0 ≡ 0 → ⊥
 
-pub slot-in : (t seen : List ℕ) (i h : ℕ) → h ≡ slot t i → length seen ≡ 1024 → h < length seen
-slot-in t seen i h e l = omega arith
+pub mark-in : (t seen : List ℕ) (last i h : ℕ) → h ≡ mark t last i → length seen ≡ last + 1 → h < length seen
+mark-in t seen last i h e l = omega (arith, e, and-le-r (rowAt t i .destination .0 % 2 ^ 48 * 40503 / 2 ^ 40) last)
 
-pub marked-none : (t seen : List ℕ) → Marked t seen 0
-marked-none t seen = record { marks = λ k l. absurd (not-suc-le-zero l) }
+pub marked-none : (t seen : List ℕ) (last : ℕ) → Marked t seen last 0
+marked-none t seen last = record { marks = λ k l. absurd (not-suc-le-zero l) }
 
 -- a test may be spared where another implies it
 spared : (x a : Bool) → (x ≡ true → a ≡ true) → (x || a) ≡ a
@@ -48,14 +49,14 @@ kept-mark seen h x l m z = by (ℕ-discrete x h)
     by (yes q) = set-mark seen h l (rw q at z)
     by (no q) = m (sym (getD-set-other seen h x 1 0 q) ∙ z)
 
-module _ (t seen : List ℕ) (i h : ℕ) (he : h ≡ slot t i) (m : Marked t seen i) where
-  pub marked-more : length seen ≡ 1024 → Marked t (set seen h 1) (i + 1)
+module _ (t seen : List ℕ) (last i h : ℕ) (he : h ≡ mark t last i) (m : Marked t seen last i) where
+  pub marked-more : length seen ≡ last + 1 → Marked t (set seen h 1) last (i + 1)
   marked-more l =
-      let b = slot-in t seen i h he l in
+      let b = mark-in t seen last i h he l in
       record {
         marks =
-            below-more (λ (k : ℕ). getD (set seen h 1) (slot t k) 0 ≡ 0 → ⊥) i
-            (λ k g. kept-mark seen h (slot t k) b (m .marks k g))
+            below-more (λ (k : ℕ). getD (set seen h 1) (mark t last k) 0 ≡ 0 → ⊥) i
+            (λ k g. kept-mark seen h (mark t last k) b (m .marks k g))
             (rw (← he) (set-mark seen h b));
       }
 

@@ -6,7 +6,8 @@ use crate::row::Row;
 use crate::search;
 ghost use mathlib.Core.Path.{_≡_};
 ghost use mathlib.Core.Bool.{_&&_, _||_};
-ghost use Prim.Native.Nat.{_+_, _%_, _≤_};
+ghost use Prim.Native.Nat.{_+_, _*_, _/_, _%_, _^_, _≤_};
+ghost use lib.Bits.{bitAnd};
 ghost use lib.ListN.{length};
 ghost use lib.Dec.{eqb};
 ghost use Rattle.table.specs.Row.{headOk, boundsOk, isFree, isHeld, statusOk, isOther, isUnnumbered, rowOk};
@@ -16,6 +17,9 @@ ghost use Rattle.table.specs.Table.{alone, isTable, passes};
 
 // Clocks have 48 bits.
 pub const MAX_CLOCK: u64 = 281474976710655;
+
+// 2^48 + 2^32.
+const MAX_EXPIRY: u64 = 281479271677952;
 
 pub fn is_sized(table: &[u8]) -> bool
     ensures { λ r. ⌜ r ≡ sized (now (table .entry)) ⌝ }
@@ -59,7 +63,7 @@ impl Row {
     fn bounds_ok(self) -> bool
         ensures { λ r. ⌜ r ≡ boundsOk self ⌝ }
     {
-        (1 <= self.metric.0) & (self.expiry <= 281479271677952)
+        (1 <= self.metric.0) & (self.expiry <= MAX_EXPIRY)
     }
 
     fn is_held(self, own: Address) -> bool
@@ -134,23 +138,25 @@ fn passes_by(table: &[u8], own: Address, i: usize, mark: u8) -> bool
     is_alone(table, i)
 }
 
-// Where the destination of row i is marked, one of 1021 slots.
-fn slot_of(table: &[u8], i: usize) -> usize
+// The mark of row i's destination, of last + 1 marks, a power of two. Its last octets count most, since boxes of one maker
+// share the first ones.
+fn mark_of(table: &[u8], i: usize, last: usize) -> usize
     requires { ⌜ place i + 32 ≤ length (now table) ⌝ }
-    ensures { λ r. ⌜ r ≡ rowAt (now (table .entry)) i .destination .0 % 1021 ⌝ }
+    ensures { λ r. ⌜ r ≡ bitAnd (rowAt (now (table .entry)) i .destination .0 % 2 ^ 48 * 40503 / 2 ^ 40) last ⌝ }
 {
-    (row::destination_at(table, i).0 % 1021) as usize
+    let d = row::destination_at(table, i).0 % 281474976710656;
+    (d * 40503 / 1099511627776) as usize & last
 }
 
-// Marks the destination of each row passed in seen, so that few rows are searched for. A false mark does no harm.
-fn rows_pass_by(table: &[u8], own: Address, n: usize, seen: &mut [u8]) -> bool
+// Marks the destination of each row passed in seen. Two destinations may share a mark: then the rows before are searched.
+fn rows_pass_by(table: &[u8], own: Address, n: usize, seen: &mut [u8], last: usize) -> bool
     requires { ⌜ place n ≤ length (now table) ⌝ }
-    requires { ⌜ length (now seen) ≡ 1024 ⌝ }
+    requires { ⌜ length (now seen) ≡ last + 1 ⌝ }
     ensures { λ r. ⌜ r ≡ every (passes (now (table .entry)) own) n ⌝ }
 {
     let mut i = 0;
     while i < n {
-        let h = slot_of(table, i);
+        let h = mark_of(table, i, last);
         if !passes_by(table, own, i, seen[h]) {
             return false;
         }
@@ -160,13 +166,17 @@ fn rows_pass_by(table: &[u8], own: Address, n: usize, seen: &mut [u8]) -> bool
     true
 }
 
-// A few octets more than there are slots: a round number of them is cleared faster.
+// Few rows take few marks: all of them have to be cleared.
 fn rows_pass(table: &[u8], own: Address, n: usize) -> bool
     requires { ⌜ place n ≤ length (now table) ⌝ }
     ensures { λ r. ⌜ r ≡ every (passes (now (table .entry)) own) n ⌝ }
 {
-    let mut seen = [0u8; 1024];
-    rows_pass_by(table, own, n, &mut seen)
+    if n <= 16 {
+        let mut few = [0u8; 256];
+        return rows_pass_by(table, own, n, &mut few, 255);
+    }
+    let mut many = [0u8; 1024];
+    rows_pass_by(table, own, n, &mut many, 1023)
 }
 
 pub fn is_table(table: &[u8]) -> bool

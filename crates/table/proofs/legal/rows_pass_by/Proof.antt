@@ -1,23 +1,23 @@
 -- `table::legal::rows_pass_by` meets its contract: every row passed passes, and its destination is marked. Assumes nothing.
 use borrow.Author.Needs.{needs}
-use Prim.Native.Nat.{_≤_, _-_}
+use Prim.Native.Nat.{_+_, _≤_, _-_}
 use mathlib.Core.Path.{_≡_}
 use mathlib.Core.Bool.{true}
 use lib.ListN.{length}
 use borrow.Author.Tests.{not-true, not-false}
 use Rattle.table.specs.Places.{every}
 use Rattle.table.specs.Table.{passes}
-use Rattle.table.proofs.Marks.{Marked, slot-in, marked-none, marked-more, passes-by}
+use Rattle.table.proofs.Marks.{Marked, mark-in, marked-none, marked-more, passes-by}
 use Rattle.table.proofs.Places.{every-none, every-more, every-stops, every-ended}
 use Rattle.table.proofs.legal.rows_pass_by.Statement.{statement}
 use Rattle.table.proofs.legal.rows_pass_by.Tie as tie
 
 abbrev Inv-loop : tie.InvT-loop
-Inv-loop table own n seen₀ i₀ seen i =
-    (i ≤ n) × (length seen ≡ 1024) × Marked table seen i × (every (passes table own) i ≡ true)
+Inv-loop table own n seen₀ last i₀ seen i =
+    (i ≤ n) × (length seen ≡ last + 1) × Marked table seen last i × (every (passes table own) i ≡ true)
 
 abbrev μ-loop : tie.MeasureT-loop
-μ-loop table own n seen₀ i₀ seen i = n - i
+μ-loop table own n seen₀ last i₀ seen i = n - i
 
 pub rows-pass-by-spec : {M : Type 1} → statement M
 rows-pass-by-spec =
@@ -27,11 +27,11 @@ rows-pass-by-spec =
     μ-loop
     (λ c. search (needs, marked-none, every-none))
     (λ c κs. search needs)
-    (λ c. search slot-in)
+    (λ c. search mark-in)
     (λ c κs. search needs)
     (λ c. search needs)
     (λ c. search (every-stops, passes-by, not-true))
-    (λ c. search slot-in)
+    (λ c. search mark-in)
     (λ c. search needs)
     (λ c. search needs)
     (λ c. search (needs, marked-more, every-more, passes-by, not-false))
