@@ -4,8 +4,10 @@ use mathlib.Core.Path.{_≡_, sym, ap, ap₂, _∙_}
 use mathlib.Core.Bool.{Bool, true, false, not, _&&_, _||_}
 use mathlib.Core.List.{List}
 use lib.Dec.{ltb}
+use borrow.Author.Tests.{not-true, not-false}
 use Rattle.table.specs.declared.address.Address.{Address}
 use Rattle.table.specs.Address.{individual}
+use Rattle.element.specs.declared.PathInfo.{PathInfo}
 use Rattle.element.specs.declared.RreqFields.{RreqFields}
 use Rattle.element.specs.declared.list.ListKind.the-variants.{Targets}
 use Rattle.element.specs.Element.{rreq}
@@ -14,6 +16,14 @@ use Rattle.element.specs.Lists.{entriesIn, addressesIn, anyForbidden, allOnes, 
 use Rattle.element.proofs.Scans.{addresses-many, target-addresses}
 use Rattle.rules.specs.Flags.{unicast}
 use Rattle.rules.specs.Receive.{hasBadAddress, hasBadList, severalOrAll}
+
+-- a unicast RREQ alone is looked through
+module _ (p : PathInfo) (u : Bool) (ue : u ≡ unicast p) where
+  pub not-unicast : not u ≡ true → (s : Bool) → false ≡ (unicast p && s)
+  not-unicast e s = ap (λ (b : Bool). b && s) (sym (not-true u e) ∙ ue)
+
+  pub is-unicast : not u ≡ false → (m s : Bool) → m ≡ s → m ≡ (unicast p && s)
+  is-unicast e m s me = me ∙ ap (λ (b : Bool). b && s) (sym (not-false u e) ∙ ue)
 
 module _ (part : List ℕ) where
   pub several-is : (n : ℕ) → n ≡ entriesIn Targets part → (o : Bool) → o ≡ among allOnes (addressesIn Targets part)
@@ -50,7 +60,7 @@ module _ (part : List ℕ) where
           unfolding listFaults
           originator-named e = rw (sym ae ∙ no-a, sym be ∙ no-b, sym ce ∙ e) at bad-list
 
-          pub unicast-to-many : c ≡ false → (u : Bool) → u ≡ unicast (f .path) → (m : Bool) → m ≡ severalOrAll (addressesIn Targets part)
-              → (u && m) ≡ hasBadList (rreq f (targetsIn part))
+          pub unicast-to-many : c ≡ false → (m : Bool) → m ≡ (unicast (f .path) && severalOrAll (addressesIn Targets part))
+              → m ≡ hasBadList (rreq f (targetsIn part))
           unfolding listFaults
-          unicast-to-many e u ue m me = ap₂ _&&_ ue me ∙ rw (sym ae ∙ no-a, sym be ∙ no-b, sym ce ∙ e) at bad-list
+          unicast-to-many e m me = me ∙ rw (sym ae ∙ no-a, sym be ∙ no-b, sym ce ∙ e) at bad-list

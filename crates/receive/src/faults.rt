@@ -7,11 +7,13 @@ use element::list;
 use element::list::ListKind;
 use table::address::Address;
 ghost use mathlib.Core.Path.{_≡_};
+ghost use mathlib.Core.Bool.{_&&_};
 ghost use mathlib.Core.List.{[]};
 ghost use Rattle.element.specs.Element.{rann, rrep, rreq};
 ghost use Rattle.element.specs.Entries.{targetsIn};
 ghost use Rattle.element.specs.Lists.{addressesIn};
 ghost use Rattle.element.specs.declared.list.ListKind.{ListKind};
+ghost use Rattle.rules.specs.Flags.{unicast};
 ghost use Rattle.rules.specs.Receive.{hasBadAddress, hasBadList, severalOrAll};
 ghost use Rattle.receive.specs.Checks.{faultsOf};
 
@@ -49,6 +51,16 @@ fn is_several_or_all(part: &[u8]) -> bool
         | list::is_among(part, ListKind::Targets, Address(list::ALL_ONES))
 }
 
+// A unicast RREQ with several or all ones. Most RREQs are not unicast, and their list is not looked through for it.
+fn is_unicast_to_several(p: PathInfo, part: &[u8]) -> bool
+    ensures { λ r. ⌜ r ≡ (unicast p && severalOrAll (addressesIn ListKind.Targets (now (part .entry)))) ⌝ }
+{
+    if !flags::is_unicast(p) {
+        return false;
+    }
+    is_several_or_all(part)
+}
+
 // A destination twice; all ones beside others; the originator among them; a unicast RREQ with several or all ones.
 fn rreq_has_bad_list(f: RreqFields, part: &[u8]) -> bool
     ensures { λ r. ⌜ r ≡ hasBadList (rreq f (targetsIn (now (part .entry)))) ⌝ }
@@ -62,7 +74,7 @@ fn rreq_has_bad_list(f: RreqFields, part: &[u8]) -> bool
     if list::is_among(part, ListKind::Targets, f.path.subject) {
         return true;
     }
-    flags::is_unicast(f.path) & is_several_or_all(part)
+    is_unicast_to_several(f.path, part)
 }
 
 pub fn of_rreq(f: RreqFields, part: &[u8]) -> Faults

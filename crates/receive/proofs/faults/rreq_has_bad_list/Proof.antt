@@ -15,5 +15,4 @@ rreq-has-bad-list-spec =
     (λ c κs. search needs)
     (λ c. search originator-named)
     (λ c κs. search needs)
-    (λ c κs. search needs)
     (λ c. search unicast-to-many))
