@@ -51,7 +51,7 @@ static void print_outcome(const char *what, struct hwmp_outcome outcome)
 
 /*
  * Lays a valid row into a free place of the table, whose other octets are zero. Firmware
- * does not do this: receiving elements teaches a table its rows. Numbers have their low
+ * does not do this: rows come from received elements. Numbers have their low
  * octet first: sequence number 7, known; metric 30; active below clock 6000.
  */
 static void write_row(size_t place, const uint8_t to[6], const uint8_t via[6], uint8_t hops)

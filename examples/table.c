@@ -30,7 +30,7 @@ static void put_number(uint8_t *at, size_t octets, uint64_t number)
 
 /*
  * Lays a valid row with a known sequence number into a place of the table. Firmware does
- * not do this: it is receiving elements that normally teaches a table its rows.
+ * not do this: its rows come from received elements.
  */
 static void write_row(uint8_t *table, size_t place, const uint8_t to[6], const uint8_t via[6],
                       uint32_t number, uint32_t metric, uint8_t hop_count, uint64_t expiry)

@@ -204,8 +204,8 @@ struct hwmp_outcome hwmp_break(uint8_t *table, size_t table_len, uint8_t *output
  * to a next hop without an active row.
  *
  * A RERR invalidates the active rows of known number that it names and that lead through
- * the transmitter, and goes on to all with these. A row takes the number beside it if that
- * is newer.
+ * the transmitter, and goes on to all with these. If the number beside a destination is newer
+ * than its row's, the row takes it, and metric 4294967295.
  *
  * The clock is stored.
  * Refusals: 1 to 14, 21 to 27; 14 only for a RREP, 26 only for a RERR, and never for a RERR

@@ -1,4 +1,4 @@
--- A command leaves at most 16 points and 128 frames, and a clock in time; and one that prints a line was whole. Assumes nothing.
+-- A command leaves at most 16 points and 128 frames, and a clock of at most 2^48 - 1; and one that prints a line was whole. Assumes nothing.
 use Prim.Native.Nat.{ℕ, _+_, _<_, _≤_}
 use mathlib.Core.Path.{_≡_, refl, sym, ap, subst, _∙_}
 use mathlib.Core.Bool.{Bool, true, false, _&&_, _||_, cond}

@@ -92,7 +92,7 @@ fn step(
 }
 
 // All whole commands of a block, as long as the text has room; of the last block the one that is cut too.
-pub fn obey_block(
+fn obey_block(
     block: &[u8],
     last: bool,
     offset: u64,

@@ -9,7 +9,7 @@ use lib.Signed.{ltZ}
 use native.Mathlib.Omega.{arith}
 use borrow.Author.Tests.{ltb-true, ltb-false, lt-ltb, le-ltb, le-leb, lt-leb}
 use Rattle.counters.specs.declared.SequenceNumber.{SequenceNumber}
-use Rattle.counters.specs.Numbers.{stepped, nextNumber, wrapped, newer, older}
+use Rattle.counters.specs.Numbers.{wrapped, newer, older}
 
 -- ---- by the distance
 
@@ -50,11 +50,6 @@ module _ (s t : SequenceNumber) (d : ℕ) (hd : d < 2 ^ 32) (ht : t .0 < 2 ^ 32)
 -- the number k steps after base
 abbrev pub after : ℕ → ℕ → SequenceNumber
 after base k = record { 0 = (base + k) % 2 ^ 32 }
-
--- the next number is one step further
-pub next-after : (base k : ℕ) → nextNumber (after base k) ≡ after base (k + 1)
-unfolding stepped
-next-after base k = ap {B = SequenceNumber} (λ x. record { 0 = x }) (omega arith)
 
 module _ (base k j : ℕ) (hk : k < 2 ^ 31) (hj : j < 2 ^ 31) where
   distance : wrapped (after base k .0) (after base j .0) ≡ (k + 2 ^ 32 - j) % 2 ^ 32

@@ -1,4 +1,4 @@
--- The laws of the comparison and of ranks, for this crate's proofs and its callers'.
+-- The laws of the comparison, of ranks and of numbering, for this crate's proofs and its callers'.
 pub mod ByKind
 pub mod Laws
 pub mod Rank

@@ -20,7 +20,8 @@ use Rattle.element.specs.declared.read.Reading.{Reading}
 use Rattle.element.specs.declared.read.Reading.the-variants.{Announcement, Request, Reply, Error, Refused}
 use Rattle.element.specs.Layout.{known, kindWith, fits, idOf, lengthWith, countOk}
 use Rattle.element.specs.Octets.{kindIn, countAs, wrongLength, otherId, misfit, pathFrom, rreqFrom, rrepFrom, fieldsAs, fixedFields, readAs, readElement, reading, listPart}
-use Rattle.element.proofs.Lengths.{both, least-length}
+use Rattle.table.proofs.Cases.{both}
+use Rattle.element.proofs.Lengths.{least-length}
 
 -- an octet is a number of one octet
 one-octet : (s : List ℕ) (at : ℕ) → numberAt 1 s at ≡ getD s at 0

@@ -8,4 +8,3 @@ pub mod Written
 pub mod Listing
 pub mod Readings
 pub mod ReadBack
-pub mod Edges

@@ -19,7 +19,8 @@ use Rattle.element.specs.Element.{rann, rreq, rrep, rerr}
 use Rattle.element.specs.Layout.{idOf, known, lengthWith, countOk, fits}
 use Rattle.element.specs.Entries.{numberedIn, targetsIn}
 use Rattle.element.specs.Octets.{kindIn, countAs, wrongLength, otherId, misfit, fieldsAs, listAs, elementAs, readAs, readElement, fixedFields, reading, listPart}
-use Rattle.element.proofs.Lengths.{both, least-length, fewest, most, count-range}
+use Rattle.table.proofs.Cases.{both}
+use Rattle.element.proofs.Lengths.{least-length, fewest, most, count-range}
 use Rattle.element.proofs.Cases.{known-is, length-right}
 
 -- ---- octets that pass 6, 7 and 8
@@ -157,10 +158,6 @@ module _ (s : List ℕ) (r : Reading) (re : r ≡ reading s) where
 
   module _ (f : RreqFields) (e : r ≡ Request f) where
     module _ (part : List ℕ) (pe : part ≡ listPart s) where
-      -- it has as many entries as the count octet says
-      pub request-entries : length part ≡ 11 * getD s 27 0
-      request-entries = entries s r re (Request f) e refl part pe .0
-
       pub request-whole : length part % 11 ≡ 0
       request-whole = omega (arith, entries s r re (Request f) e refl part pe)
 
@@ -178,10 +175,6 @@ module _ (s : List ℕ) (r : Reading) (re : r ≡ reading s) where
 
   module _ (f : RrepFields) (e : r ≡ Reply f) where
     module _ (part : List ℕ) (pe : part ≡ listPart s) where
-      -- it has as many entries as the count octet says
-      pub reply-entries : length part ≡ 10 * getD s 33 0
-      reply-entries = entries s r re (Reply f) e refl part pe .0
-
       pub reply-whole : length part % 10 ≡ 0
       reply-whole = omega (arith, entries s r re (Reply f) e refl part pe)
 
@@ -196,10 +189,6 @@ module _ (s : List ℕ) (r : Reading) (re : r ≡ reading s) where
 
   module _ (flags : ℕ) (e : r ≡ Error flags) where
     module _ (part : List ℕ) (pe : part ≡ listPart s) where
-      -- it has as many entries as the count octet says
-      pub error-entries : length part ≡ 10 * getD s 3 0
-      error-entries = entries s r re (Error flags) e refl part pe .0
-
       pub error-whole : length part % 10 ≡ 0
       error-whole = omega (arith, entries s r re (Error flags) e refl part pe)
 

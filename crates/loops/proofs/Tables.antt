@@ -11,7 +11,7 @@ use Rattle.table.proofs.WellFormed.{same-is, same-itself, differ}
 use Rattle.rules.proofs.Branches.{cond-cases}
 use Rattle.loops.specs.Mesh.{tableOf, withTable}
 
--- the table that is found is one of them, and of that point
+-- the table that is found is that of the point
 pub table-own : (a : Address) (tables : List (List ℕ)) (t : List ℕ) → tableOf a tables ≡ some t → own t ≡ a
 unfolding tableOf
 table-own a [] t = λ e. absurd (Option·none-ne-some t e)
@@ -19,6 +19,7 @@ table-own a (u ∷ tables) t =
     cond-cases (λ (o : Option (List ℕ)). o ≡ some t → own t ≡ a) (same (own u) a)
     (λ q e. ap own (sym (Option·some-injective u t e)) ∙ same-is (own u) a q) (λ _. table-own a tables t)
 
+-- and one of the list
 pub table-listed : (a : Address) (tables : List (List ℕ)) (t : List ℕ) → tableOf a tables ≡ some t → List·Memᴰ t tables
 unfolding tableOf
 table-listed a [] t = λ e. absurd (Option·none-ne-some t e)

@@ -111,7 +111,7 @@ ActionFits readsOnly = Unit {0}
 --
 -- (The proof does not use what is said of the points: a call on octets that are no table is refused, and of two points with
 -- one address the second would never be called or met. Of the numbers it uses only those in rows: that these lie so is enough.
--- A forget is not among the calls: with it the statement is false.)
+-- A forget is not among the calls: a forgotten row is a dropped one, and with those there are loops.)
 abbrev pub LoopFree : Type 0
 LoopFree =
     (points : List Point) → All PointFits points → twice (map (λ (p : Point). p .address) points) ≡ false
@@ -133,7 +133,7 @@ NotVacuous = all (λ b. b) (worked outcome ++ wentRound outcome) ≡ true
 -- twice: numbers compared as plain numbers, the reply of 11-06-1778 that takes an equal number with a worse metric,
 -- an equal number into an inactive row at a worse metric, a broken row dropped, a break that does not step the number.
 --
--- (Other errors cannot loop, since no row gets worse by them: an error matched by destination only; an error with a newer number
+-- (For other errors there is no such list. No row gets worse by them, which is argued here and not proved: an error matched by destination only; an error with a newer number
 -- or a break that leaves the metric; a break that hits expired rows too. Demand 3 does not exclude them. The edges exclude the
 -- first and a break that leaves the metric; code that is proved equal to the rules, and tests, exclude all.)
 abbrev pub Sharp : Type 0

@@ -30,7 +30,7 @@ isThrough c hop r = active c r && same (r .next) hop
 unfoldable pub isLostBy : ℕ → Address → Row → Bool
 isLostBy c transmitter r = isThrough c transmitter r && eqb (r .known) 1
 
--- a destination that the RERR names and whose row is so
+-- a match as in refusal 26: a destination that the RERR names, with such a row
 unfoldable pub matches : List ℕ → ℕ → Address → NumberedAddress → Bool
 matches t c transmitter m = has (isLostBy c transmitter) (rowFor t (m .address))
 
@@ -39,7 +39,7 @@ unfoldable pub numberBeside : Address → List NumberedAddress → Option Sequen
 numberBeside d [] = none
 numberBeside d (m ∷ named) = cond (same (m .address) d) (some (m .number)) (numberBeside d named)
 
--- the row of a match: it is so, and the RERR names its destination
+-- the row of a match: such a row, whose destination the RERR names
 unfoldable pub isMatch : ℕ → Address → List NumberedAddress → Row → Bool
 isMatch c transmitter named r = isLostBy c transmitter r && has (λ _. true) (numberBeside (r .destination) named)
 

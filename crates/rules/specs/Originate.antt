@@ -65,7 +65,7 @@ requested t flags lifetime targets =
 
 -- ---- ask
 
--- what 8 asks of an ask: 7 octets an item, 1 to 20 items
+-- what 8 asks of an ask: 7 octets an item, 1 to 20 items, so 7 to 140 octets
 unfoldable pub itemsFit : List ℕ → Bool
 itemsFit s = eqb (length s % 7) 0 && leb 7 (length s) && leb (length s) 140
 

@@ -10,7 +10,7 @@ use borrow.Author.Tests.{eqb-true, eq-eqb}
 use native.Mathlib.Nat.{add-zero, add-assoc}
 use native.Mathlib.Omega.{arith, ne-cases}
 use Rattle.octets.specs.LittleEndian.{numberAt, fieldsAt, total, zeros, Octets}
-use Rattle.octets.proofs.Laws.{FitFields, split, length-fields, fields-same, fields-other, fields-back, fields-fit, fields-zero, octets-fields}
+use Rattle.octets.proofs.Laws.{FitFields, split, length-fields, fields-same, fields-other, fields-fit, fields-zero, octets-fields}
 use Rattle.table.specs.declared.row.Head.{Head}
 use Rattle.table.specs.declared.row.Row.{Row}
 use Rattle.table.specs.Row.{freeRow, isFree}
@@ -56,11 +56,6 @@ row-other t i k r n =
 pub head-stays : (t : List ℕ) (i : ℕ) (r : Row) → headAt (putRow t i r) ≡ headAt t
 unfolding headAt putRow total
 head-stays t i r = ap headOf (fields-other headWidths rowWidths t 0 0 (place i) 0 (rowNumbers r) (inl (omega arith)))
-
--- to put the row that is there changes nothing
-pub row-back : (t : List ℕ) (i : ℕ) → Octets t → putRow t i (rowAt t i) ≡ t
-unfolding rowAt putRow fieldsAt
-row-back t i o = fields-back rowWidths t (place i) 0 o
 
 pub row-octets : (t : List ℕ) (i : ℕ) (r : Row) → Octets t → Octets (putRow t i r)
 unfolding putRow

@@ -336,10 +336,6 @@ module _ (t : List ℕ) (d : Address) where
   unfolding freed
   freed-length = put-length t freeRow (findRow t d)
 
-  pub freed-head : headAt (freed t d) ≡ headAt t
-  unfolding freed
-  freed-head = put-head t freeRow (findRow t d)
-
   pub freed-octets : Octets t → Octets (freed t d)
   unfolding freed
   freed-octets o = put-octets t freeRow o (findRow t d)

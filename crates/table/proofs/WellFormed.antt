@@ -1,5 +1,5 @@
 -- A table by its parts, and the row of a destination by its place. Assumes nothing.
-use Prim.Native.Nat.{ℕ, _^_, _<_}
+use Prim.Native.Nat.{ℕ, _<_}
 use mathlib.Core.Path.{_≡_, refl, ap}
 use mathlib.Core.Bool.{Bool, true, false, not, and-eq-true-iff}
 use mathlib.Core.List.{List}
@@ -7,12 +7,10 @@ use mathlib.Core.Logic.{_⊎_, inl, inr}
 use native.Mathlib.Decide.{ℕ-discrete}
 use native.Mathlib.Omega.{arith, ne-cases}
 use borrow.Author.Tests.{eqb-true, eqb-false, eq-eqb, ne-eqb, not-true}
-use Rattle.octets.specs.LittleEndian.{zeros}
-use Rattle.octets.proofs.Laws.{number-same}
 use Rattle.table.specs.declared.address.Address.{Address}
 use Rattle.table.specs.declared.search.Found.{Found}
 use Rattle.table.specs.declared.search.Found.the-variants.{At, Nothing}
-use Rattle.table.specs.Address.{addressOf, octetsOf, same}
+use Rattle.table.specs.Address.{same}
 use Rattle.table.specs.Row.{headOk, rowOk}
 use Rattle.table.specs.Layout.{rows, rowAt, headAt}
 use Rattle.table.specs.Places.{first, every}
@@ -51,10 +49,6 @@ equal-or-not a b = by (same a b) refl
     by : (c : Bool) → same a b ≡ c → (a ≡ b) ⊎ (a ≡ b → ⊥)
     by true e = inl (same-is a b e)
     by false e = inr (not-same a b e)
-
--- the octets of an address are read back as that address
-pub address-back : (a : Address) → a .0 < 256 ^ 6 → addressOf (octetsOf a) ≡ a
-address-back a l = address-is (addressOf (octetsOf a)) a (number-same 6 (zeros 6) 0 (a .0) (omega arith) l)
 
 -- ---- a row that is held for a destination
 

@@ -8,7 +8,7 @@ use Rattle.octets.specs.LittleEndian.{fieldsAt, withFields}
 use Rattle.table.specs.declared.row.Head.{Head}
 use Rattle.table.specs.declared.row.Row.{Row}
 
--- a table is a head of 32 octets and R rows of 32, R from 1 to 128
+-- a table is a head of 32 octets and R rows of 32, R from 1 to 128: 64 to 4128 octets
 unfoldable pub sized : List ℕ → Bool
 sized t = eqb (length t % 32) 0 && leb 64 (length t) && leb (length t) 4128
 

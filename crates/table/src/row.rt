@@ -10,7 +10,7 @@ ghost use lib.ListN.{length};
 ghost use Rattle.table.specs.Row.{active, freeRow, freshHead, headWith, invalidated, numbered, raised, renewed};
 ghost use Rattle.table.specs.Layout.{headAt, headNumbers, place, putHead, putRow, rowAt, rowNumbers};
 
-// The fields of the head and of a row, in the order of the octets. Those called zero hold no more than that.
+// The fields of the head and of a row, in the order of the octets. A table has 0 in those called zero (refusal 21).
 pub struct Head {
     pub own: Address,
     pub zero2: u16,
@@ -102,7 +102,7 @@ impl Row {
         self
     }
 
-    // No longer valid; the row stays, and with it the memory of its number.
+    // No longer valid; the row stays, and with it its number.
     pub fn invalidated(mut self) -> Self
         ensures { λ r. ⌜ r ≡ invalidated self ⌝ }
     {

@@ -40,7 +40,7 @@ pub fn is_vacant(table: &[u8], i: usize) -> bool
 }
 
 // Whether row i is held for d.
-pub fn is_held_for(table: &[u8], i: usize, d: Address) -> bool
+fn is_held_for(table: &[u8], i: usize, d: Address) -> bool
     requires { ⌜ place i + 32 ≤ length (now table) ⌝ }
     ensures { λ r. ⌜ r ≡ holds (now (table .entry)) d i ⌝ }
 {
@@ -87,7 +87,7 @@ fn vacant_below(table: &[u8], n: usize) -> Found
     Found::Nothing
 }
 
-pub fn first_free(table: &[u8]) -> Found
+fn first_free(table: &[u8]) -> Found
     requires { ⌜ 32 ≤ length (now table) ⌝ }
     ensures { λ r. ⌜ r ≡ firstFree (now (table .entry)) ⌝ }
 {
