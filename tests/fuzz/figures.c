@@ -1,0 +1,155 @@
+#include "figures.h"
+
+#include <inttypes.h>
+#include <stdio.h>
+#include <stdlib.h>
+#include <string.h>
+
+#include "promises.h"
+
+enum { ANSWER_NUMBERS = 64 };
+
+/* libFuzzer takes a counter that was not seen at this height before as something new. */
+__attribute__((section("__libfuzzer_extra_counters"))) static uint8_t counters[1 << 16];
+
+static uint64_t inputs, seen[ENTRIES][ANSWER_NUMBERS];
+
+/* Print each call? */
+static int is_traced;
+
+/* Entry and answer of the call before, of the same input. */
+static uint64_t before;
+
+enum noted { ANSWERED, FOLLOWED, SENT, LISTED, WALKED, ROW_CHANGED, ROWS_CHANGED, ROWS_HELD };
+
+static void note(enum noted noted, uint64_t what)
+{
+    uint64_t mixed = (what * 16 + noted + 1) * UINT64_C(0x9e3779b97f4a7c15);
+    uint8_t *counter = &counters[mixed >> 48];
+
+    if (*counter != UINT8_MAX)
+        ++*counter;
+}
+
+/* Few counts are told apart one by one, many by their magnitude. */
+static uint64_t magnitude(uint64_t count)
+{
+    uint64_t bits = 4;
+
+    if (count < 5)
+        return count;
+    for (; count > 4; count /= 2)
+        bits++;
+    return bits;
+}
+
+/* The call, and of an element of known type its ID. */
+static uint64_t what_is_called(const struct call *call)
+{
+    int has_id = call->entry == RECEIVE && call->octets_len != 0;
+    uint8_t id = has_id ? call->octets[0] : 0;
+    int is_known = id == RANN || (id >= RREQ && id <= RERR);
+
+    return (uint64_t)call->entry * 256 + (is_known ? id : 0);
+}
+
+/* Which fields of a row differ, by the widths of document 01. */
+static uint64_t fields_changed(const uint8_t *old, const uint8_t *new)
+{
+    static const uint8_t widths[] = {1, 1, 1, 1, 6, 6, 4, 4, 8};
+    uint64_t changed = 0;
+    size_t at = 0;
+
+    for (size_t i = 0; i < sizeof widths; at += widths[i++])
+        changed = changed * 2 + (memcmp(old + at, new + at, widths[i]) != 0);
+    return changed;
+}
+
+static void note_changes(const struct call *call, const uint8_t *table)
+{
+    uint64_t changed = 0, held = 0;
+
+    for (size_t at = HWMP_HEAD_OCTETS; at < call->table_len; at += HWMP_ROW_OCTETS) {
+        const uint8_t *old = call->table + at, *new = table + at;
+        uint64_t fields = fields_changed(old, new);
+
+        held += *new != 0;
+        if (fields == 0)
+            continue;
+        changed++;
+        note(ROW_CHANGED, ((what_is_called(call) * 512 + fields) * 4 + *old) * 4 + *new);
+    }
+    note(ROWS_CHANGED, what_is_called(call) * 16 + magnitude(changed));
+    note(ROWS_HELD, magnitude(held));
+}
+
+static void note_frames(const struct call *call, const struct made *made)
+{
+    uint64_t kinds = 0;
+    size_t at = 0;
+
+    for (uint32_t i = 0; i < made->result.frames; i++) {
+        const uint8_t *frame = made->output + at;
+
+        kinds |= UINT64_C(1) << (frame[6] & 7);
+        note(SENT, ((what_is_called(call) * 256 + frame[6]) * 2 + (frame[0] & 1)) * 256 + frame[7]);
+        at += 8 + (size_t)frame[7];
+    }
+    note(SENT, (what_is_called(call) * 256 + kinds) * 16 + magnitude(made->result.frames));
+}
+
+static void note_accepted(const struct call *call, const struct made *made)
+{
+    note(LISTED, what_is_called(call) * 512 + call->octets_len);
+    if (may_send(call->entry))
+        note_frames(call, made);
+    if (writes_table(call->entry))
+        note_changes(call, made->table);
+}
+
+static void print_figures(void)
+{
+    uint64_t calls = 0, pairs = 0, listed = 0, by_number[ANSWER_NUMBERS] = {0};
+
+    for (int entry = 0; entry < ENTRIES; entry++)
+        for (int answer = 0; answer < ANSWER_NUMBERS; answer++) {
+            calls += seen[entry][answer];
+            by_number[answer] += seen[entry][answer];
+            pairs += seen[entry][answer] != 0;
+            listed += listed_answers((enum entry)entry) >> answer & 1;
+        }
+    printf("%" PRIu64 " inputs, %" PRIu64 " calls, each made twice\n", inputs, calls);
+    printf("%" PRIu64 " of %" PRIu64 " listed answers seen, for each call\n", pairs, listed);
+    printf("answers by number:");
+    for (int answer = 0; answer < ANSWER_NUMBERS; answer++)
+        if (by_number[answer] != 0)
+            printf(" %d:%" PRIu64, answer, by_number[answer]);
+    printf("\n");
+}
+
+void note_input(void)
+{
+    if (inputs++ == 0) {
+        atexit(print_figures);
+        is_traced = getenv("HWMP_TRACE") != NULL;
+    }
+    before = 0;
+}
+
+void note_call(const struct call *call, const struct made *made)
+{
+    const struct result *result = &made->result;
+    uint64_t pair = (uint64_t)call->entry * ANSWER_NUMBERS + result->answer;
+
+    if (is_traced)
+        fprintf(stderr, "%s: answer %" PRIu32 ", frames %" PRIu32 ", hops %" PRIu32 "\n",
+                entry_name(call->entry), result->answer, result->frames, result->hops);
+    seen[call->entry][result->answer]++;
+    note(ANSWERED, what_is_called(call) * ANSWER_NUMBERS + result->answer);
+    note(FOLLOWED, before * ENTRIES * ANSWER_NUMBERS + pair);
+    before = pair;
+    if (call->entry == WALK)
+        note(WALKED, (pair * 32 + magnitude(call->number)) * 32 + result->hops);
+    if (result->answer == 0)
+        note_accepted(call, made);
+}

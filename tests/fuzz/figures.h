@@ -1,0 +1,15 @@
+/*
+ * What was seen: figures for the reader, and counters by which the fuzzer tells inputs apart.
+ * The archive is not instrumented, so that answers and changes are all there is to go by.
+ */
+#ifndef FIGURES_H
+#define FIGURES_H
+
+#include "call.h"
+
+/* Begins an input: no call stands before its first. */
+void note_input(void);
+
+void note_call(const struct call *call, const struct made *made);
+
+#endif

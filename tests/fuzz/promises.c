@@ -1,0 +1,264 @@
+#include "promises.h"
+
+#include <inttypes.h>
+#include <stdio.h>
+#include <stdlib.h>
+#include <string.h>
+
+/* Two fills of the output that differ in every bit, so that one of them shows any write. */
+enum { FIRST_FILL = 0xaa, SECOND_FILL = 0x55 };
+
+#define ANSWER(n) (UINT64_C(1) << (n))
+#define ANSWERS(first, last) (ANSWER((last) + 1) - ANSWER(first))
+
+static _Noreturn void found(const struct call *call, const struct result *result, const char *what)
+{
+    fprintf(stderr,
+            "finding: %s: %s (answer %" PRIu32 ", frames %" PRIu32 ", octets %" PRIu32
+            ", hops %" PRIu32 ")\n",
+            entry_name(call->entry), what, result->answer, result->frames, result->octets,
+            result->hops);
+    abort();
+}
+
+uint64_t listed_answers(enum entry entry)
+{
+    static const uint64_t listed[ENTRIES] = {
+        [FRESH] = ANSWER(0) | ANSWER(1) | ANSWER(9),
+        [NEXT_HOP] = ANSWERS(0, 1) | ANSWER(3) | ANSWER(9) | ANSWERS(21, 22) | ANSWER(28),
+        [FORGET] = ANSWERS(0, 1) | ANSWER(9) | ANSWER(21) | ANSWER(29),
+        [WALK] = ANSWERS(0, 1) | ANSWER(3) | ANSWERS(9, 10) | ANSWERS(21, 22) |
+                 ANSWER(HWMP_NO_ROUTE) | ANSWER(HWMP_TOO_LONG),
+        [ASK] = ANSWERS(0, 2) | ANSWERS(8, 11) | ANSWER(21) | ANSWER(24),
+        [ANNOUNCE] = ANSWERS(0, 2) | ANSWERS(10, 11) | ANSWER(21),
+        [ROOT_REQUEST] = ANSWERS(0, 2) | ANSWERS(10, 11) | ANSWER(21),
+        [BREAK] = ANSWERS(0, 4) | ANSWERS(21, 23),
+        [RECEIVE] = ANSWERS(0, 14) | ANSWERS(21, 27),
+    };
+
+    return listed[entry];
+}
+
+/* Of received elements, some answers belong to one type. */
+static uint64_t listed_for(const struct call *call)
+{
+    uint64_t listed = listed_answers(call->entry);
+
+    if (call->entry != RECEIVE || call->octets_len == 0)
+        return listed;
+    if (call->octets[0] != RREP)
+        listed &= ~ANSWER(14);
+    if (call->octets[0] != RERR)
+        return listed & ~ANSWER(26);
+    return listed & ~(ANSWERS(11, 13) | ANSWERS(24, 25) | ANSWER(27));
+}
+
+static int is_refusal(const struct call *call, const struct result *result)
+{
+    if (call->entry != WALK)
+        return result->answer != 0;
+    return result->answer != 0 && result->answer != HWMP_NO_ROUTE &&
+           result->answer != HWMP_TOO_LONG;
+}
+
+/* Each octet is compared with the one before it: quicker than one by one with the value. */
+static int are_all(const uint8_t *octets, size_t count, uint8_t value)
+{
+    return count == 0 || (octets[0] == value && memcmp(octets, octets + 1, count - 1) == 0);
+}
+
+static int is_individual(const uint8_t address[6])
+{
+    return (address[0] & 1) == 0 && !are_all(address, 6, 0);
+}
+
+static void check_answer(const struct call *call, const struct result *result)
+{
+    if (result->answer > 63 || (listed_for(call) & ANSWER(result->answer)) == 0)
+        found(call, result, "the answer is not listed for this call");
+}
+
+static void check_refusal(const struct call *call, const struct made *made, uint8_t fill)
+{
+    const struct result *result = &made->result;
+
+    if (result->frames != 0 || result->octets != 0 || result->hops != 0 ||
+        !are_all(result->next_hop, 6, 0))
+        found(call, result, "what stands beside a refusal is not zero");
+    if (memcmp(made->table, call->table, call->table_len) != 0)
+        found(call, result, "a refusal changed the table");
+    if (!are_all(made->output, call->output_len, fill))
+        found(call, result, "a refusal changed the output");
+}
+
+/* One frame from this place of the output on; gives the place behind it. */
+static size_t check_frame(const struct call *call, const struct made *made, size_t at)
+{
+    const struct result *result = &made->result;
+    const uint8_t *receiver = made->output + at;
+    size_t element = at + HWMP_ADDRESS_OCTETS;
+
+    if (element + ELEMENT_HEAD_OCTETS > result->octets)
+        found(call, result, "the octets written do not hold the frames");
+    if (!are_all(receiver, 6, 0xff) && !is_individual(receiver))
+        found(call, result, "a receiver is neither all ones nor an individual address");
+    return element + ELEMENT_HEAD_OCTETS + made->output[element + 1];
+}
+
+static void check_output(const struct call *call, const struct made *made, uint8_t fill)
+{
+    const struct result *result = &made->result;
+    size_t at = 0;
+
+    if (result->octets > HWMP_OUTPUT_OCTETS)
+        found(call, result, "more octets were written than all frames of a call may have");
+    for (uint32_t i = 0; i < result->frames; i++)
+        at = check_frame(call, made, at);
+    if (at != result->octets)
+        found(call, result, "the octets written do not hold the frames");
+    if (!are_all(made->output + at, call->output_len - at, fill))
+        found(call, result, "output beyond the frames was changed");
+}
+
+/* Ask, announcement and root request send one frame to all, a break only to all. */
+static void check_receivers(const struct call *call, const struct made *made)
+{
+    const struct result *result = &made->result;
+
+    if (call->entry != RECEIVE && call->entry != BREAK && result->frames != 1)
+        found(call, result, "the call did not send one frame");
+    if (call->entry != RECEIVE && result->frames != 0 && !are_all(made->output, 6, 0xff))
+        found(call, result, "the frame does not go to all neighbours");
+}
+
+static void check_walked(const struct call *call, const struct result *result)
+{
+    if (result->hops > call->number)
+        found(call, result, "more hops than points");
+    if (result->answer == HWMP_TOO_LONG && result->hops != call->number)
+        found(call, result, "42 after fewer hops than points");
+}
+
+static void check_next_hop(const struct call *call, const struct result *result)
+{
+    if (!is_individual(result->next_hop))
+        found(call, result, "the next hop is not an individual address");
+    if (memcmp(result->next_hop, call->table, 6) == 0)
+        found(call, result, "the next hop is the point itself");
+}
+
+static void check_accepted(const struct call *call, const struct made *made, uint8_t fill)
+{
+    if (may_send(call->entry)) {
+        check_output(call, made, fill);
+        check_receivers(call, made);
+    }
+    if (call->entry == WALK)
+        check_walked(call, &made->result);
+    if (call->entry == NEXT_HOP)
+        check_next_hop(call, &made->result);
+}
+
+static struct made make_once(const struct call *call, enum side side, uint8_t fill)
+{
+    struct made made = make_call(call, side, fill);
+
+    check_answer(call, &made.result);
+    if (is_refusal(call, &made.result))
+        check_refusal(call, &made, fill);
+    else
+        check_accepted(call, &made, fill);
+    return made;
+}
+
+static int are_same(const struct result *a, const struct result *b)
+{
+    return a->answer == b->answer && a->frames == b->frames && a->octets == b->octets &&
+           a->hops == b->hops && memcmp(a->next_hop, b->next_hop, 6) == 0;
+}
+
+/* The same call again, elsewhere in memory and with other octets in the output. */
+static void check_repeats(const struct call *call, const struct made *first,
+                          const struct made *second)
+{
+    if (!are_same(&first->result, &second->result))
+        found(call, &first->result, "the same call returns something else");
+    if (memcmp(first->table, second->table, call->table_len) != 0)
+        found(call, &first->result, "the same call leaves another table");
+    if (memcmp(first->output, second->output, first->result.octets) != 0)
+        found(call, &first->result, "the same call writes other frames");
+}
+
+/* A next hop is looked for at the last clock, so that neither 3 nor 22 hides 21. */
+static void check_stays_a_table(const struct call *call, const struct result *result,
+                                const uint8_t *table)
+{
+    struct call next_hop = {.entry = NEXT_HOP,
+                            .table = table,
+                            .table_len = call->table_len,
+                            .clock = HWMP_MAX_CLOCK,
+                            .address = {2, 0, 0, 0, 0, 1}};
+    uint32_t answer = make_once(&next_hop, AT_END, FIRST_FILL).result.answer;
+
+    if (answer != 0 && answer != 28)
+        found(call, result, "an accepted call left no table");
+}
+
+static void check_forgotten(const struct call *call, const struct result *result,
+                            const uint8_t *table)
+{
+    struct call again = *call;
+
+    again.table = table;
+    if (make_once(&again, AT_END, FIRST_FILL).result.answer != 29)
+        found(call, result, "the row was not forgotten");
+}
+
+/* Every element sent passes 1 to 8 at a point that has nothing to do with it. */
+static void check_reads_back(const struct call *call, const struct result *result,
+                             const uint8_t *frames)
+{
+    static uint8_t reader[HWMP_TABLE_OCTETS(2)];
+    struct call receive = {.entry = RECEIVE,
+                           .table = reader,
+                           .table_len = sizeof reader,
+                           .output_len = HWMP_OUTPUT_OCTETS,
+                           .number = 1,
+                           .address = {2, 0, 0, 0, 0xff, 1}};
+    const uint8_t *next = frames;
+
+    hwmp_fresh(reader, sizeof reader, (const uint8_t[6]){2, 0, 0, 0, 0xff, 2}, 0);
+    for (uint32_t i = 0; i < result->frames; i++) {
+        receive.octets = next + HWMP_ADDRESS_OCTETS;
+        receive.octets_len = ELEMENT_HEAD_OCTETS + (size_t)receive.octets[1];
+        next = receive.octets + receive.octets_len;
+
+        uint32_t answer = make_once(&receive, AT_END, FIRST_FILL).result.answer;
+        if (answer >= 1 && answer <= 8)
+            found(call, result, "another point cannot read a frame that was sent");
+    }
+}
+
+struct made make_checked(const struct call *call)
+{
+    static uint8_t table[MOST_TABLES_OCTETS];
+    static uint8_t output[MOST_OUTPUT_OCTETS];
+    struct made first = make_once(call, AT_END, FIRST_FILL);
+    struct made second;
+
+    memcpy(table, first.table, call->table_len);
+    memcpy(output, first.output, call->output_len);
+    first.table = table;
+    first.output = output;
+    second = make_once(call, AT_START, SECOND_FILL);
+    check_repeats(call, &first, &second);
+
+    if (is_refusal(call, &first.result))
+        return first;
+    check_reads_back(call, &first.result, output);
+    if (writes_table(call->entry))
+        check_stays_a_table(call, &first.result, table);
+    if (call->entry == FORGET)
+        check_forgotten(call, &first.result, table);
+    return first;
+}
