@@ -9,7 +9,10 @@
 
 enum { ANSWER_NUMBERS = 64 };
 
-/* libFuzzer takes a counter that was not seen at this height before as something new. */
+/*
+ * libFuzzer keeps an input that sets a counter which no other did. They are not counted up, and
+ * little is told apart: the more inputs are kept, the fewer changes of each are tried.
+ */
 __attribute__((section("__libfuzzer_extra_counters"))) static uint8_t counters[1 << 16];
 
 static uint64_t inputs, seen[ENTRIES][ANSWER_NUMBERS];
@@ -17,18 +20,13 @@ static uint64_t inputs, seen[ENTRIES][ANSWER_NUMBERS];
 /* Print each call? */
 static int is_traced;
 
-/* Entry and answer of the call before, of the same input. */
-static uint64_t before;
-
-enum noted { ANSWERED, FOLLOWED, SENT, LISTED, WALKED, ROW_CHANGED, ROWS_CHANGED, ROWS_HELD };
+enum noted { ANSWERED, SENT, LISTED, WALKED, ROW_CHANGED, ROWS_CHANGED, ROWS_HELD };
 
 static void note(enum noted noted, uint64_t what)
 {
     uint64_t mixed = (what * 16 + noted + 1) * UINT64_C(0x9e3779b97f4a7c15);
-    uint8_t *counter = &counters[mixed >> 48];
 
-    if (*counter != UINT8_MAX)
-        ++*counter;
+    counters[mixed >> 48] = 1;
 }
 
 /* Few counts are told apart one by one, many by their magnitude. */
@@ -92,7 +90,8 @@ static void note_frames(const struct call *call, const struct made *made)
         const uint8_t *frame = made->output + at;
 
         kinds |= UINT64_C(1) << (frame[6] & 7);
-        note(SENT, ((what_is_called(call) * 256 + frame[6]) * 2 + (frame[0] & 1)) * 256 + frame[7]);
+        note(SENT, ((what_is_called(call) * 256 + frame[6]) * 2 + (frame[0] & 1)) * 16 +
+                       magnitude(frame[7] / 10));
         at += 8 + (size_t)frame[7];
     }
     note(SENT, (what_is_called(call) * 256 + kinds) * 16 + magnitude(made->result.frames));
@@ -119,7 +118,7 @@ static void print_figures(void)
             listed += listed_answers((enum entry)entry) >> answer & 1;
         }
     printf("%" PRIu64 " inputs, %" PRIu64 " calls, each made twice\n", inputs, calls);
-    printf("%" PRIu64 " of %" PRIu64 " listed answers seen, for each call\n", pairs, listed);
+    printf("%" PRIu64 " of %" PRIu64 " pairs of call and listed answer seen\n", pairs, listed);
     printf("answers by number:");
     for (int answer = 0; answer < ANSWER_NUMBERS; answer++)
         if (by_number[answer] != 0)
@@ -129,27 +128,23 @@ static void print_figures(void)
 
 void note_input(void)
 {
-    if (inputs++ == 0) {
-        atexit(print_figures);
-        is_traced = getenv("HWMP_TRACE") != NULL;
-    }
-    before = 0;
+    if (inputs++ != 0)
+        return;
+    atexit(print_figures);
+    is_traced = getenv("HWMP_TRACE") != NULL;
 }
 
 void note_call(const struct call *call, const struct made *made)
 {
     const struct result *result = &made->result;
-    uint64_t pair = (uint64_t)call->entry * ANSWER_NUMBERS + result->answer;
 
     if (is_traced)
         fprintf(stderr, "%s: answer %" PRIu32 ", frames %" PRIu32 ", hops %" PRIu32 "\n",
                 entry_name(call->entry), result->answer, result->frames, result->hops);
     seen[call->entry][result->answer]++;
     note(ANSWERED, what_is_called(call) * ANSWER_NUMBERS + result->answer);
-    note(FOLLOWED, before * ENTRIES * ANSWER_NUMBERS + pair);
-    before = pair;
     if (call->entry == WALK)
-        note(WALKED, (pair * 32 + magnitude(call->number)) * 32 + result->hops);
+        note(WALKED, (result->answer * 32 + magnitude(call->number)) * 32 + result->hops);
     if (result->answer == 0)
         note_accepted(call, made);
 }

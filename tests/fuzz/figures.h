@@ -7,7 +7,6 @@
 
 #include "call.h"
 
-/* Begins an input: no call stands before its first. */
 void note_input(void);
 
 void note_call(const struct call *call, const struct made *made);

@@ -11,7 +11,7 @@
 
 enum { POINTS = HWMP_MAX_POINTS, ROWS = 8, FRAMES = 32 };
 /* No input takes long: libFuzzer is to try many. */
-enum { MOST_STEPS = 64 };
+enum { ENOUGH_CALLS = 300 };
 
 struct point {
     uint8_t table[MOST_TABLE_OCTETS];
@@ -30,6 +30,7 @@ static struct frame frames[FRAMES];
 static size_t frames_kept; /* the last FRAMES of these */
 static uint64_t clock_now;
 static size_t output_len;
+static size_t calls_made;
 
 static struct point *take_point(struct input *input)
 {
@@ -67,6 +68,7 @@ static uint32_t play(const struct call *call, struct point *point)
     struct made made = make_checked(call);
 
     note_call(call, &made);
+    calls_made++;
     if (writes_table(call->entry)) {
         memcpy(point->table, made.table, call->table_len);
         keep_frames(point, &made);
@@ -195,36 +197,38 @@ static size_t take_element(struct input *input, uint8_t element[MOST_ELEMENT_OCT
     return length + (damage == 2);
 }
 
-static void receive(struct input *input, struct point *point, const uint8_t *element, size_t length)
+static struct call take_receive(struct input *input, const struct point *point)
 {
     struct call call = call_on(RECEIVE, point);
 
     take_address(input, call.address);
     call.number = take_number(input);
-    call.octets = element;
-    call.octets_len = length;
-    play(&call, point);
+    return call;
 }
 
-/* Point, element by its fields, transmitter, link metric. */
+/* Point, transmitter, link metric, element by its fields. */
 static void receive_element(struct input *input)
 {
     struct point *point = take_point(input);
+    struct call call = take_receive(input, point);
     uint8_t element[MOST_ELEMENT_OCTETS] = {0};
-    size_t length = take_element(input, element);
 
-    receive(input, point, element, length);
+    call.octets = element;
+    call.octets_len = take_element(input, element);
+    play(&call, point);
 }
 
-/* Point, length (2 octets), octets of the element as they are, transmitter, link metric. */
+/* Point, transmitter, link metric, length (2 octets), octets of the element as they are. */
 static void receive_octets(struct input *input)
 {
     struct point *point = take_point(input);
+    struct call call = take_receive(input, point);
     uint8_t element[MOST_ELEMENT_OCTETS];
-    size_t length = take_plain(input, 2) % (sizeof element + 1);
 
-    take_octets(input, element, length);
-    receive(input, point, element, length);
+    call.octets = element;
+    call.octets_len = take_plain(input, 2) % (sizeof element + 1);
+    take_octets(input, element, call.octets_len);
+    play(&call, point);
 }
 
 /* Point, which frame (0 the last), link metric, place and octet to change it by (0 not at all). */
@@ -248,7 +252,10 @@ static void deliver(struct input *input)
     play(&call, point);
 }
 
-/* Point, transmitter, lifetime, how many: originators are heard until one is refused. */
+/*
+ * Point, transmitter, lifetime, how many: announcements of 02:00:00:00:01:00 and following are
+ * heard until one is refused.
+ */
 static void hear_many(struct input *input)
 {
     struct point *point = take_point(input);
@@ -267,7 +274,7 @@ static void hear_many(struct input *input)
         answer = play(&call, point);
 }
 
-/* Point, lifetime, how many items (flags and address), these, octets to leave off the last one. */
+/* Point, lifetime, octets to leave off the last item, how many items, these (flags, address). */
 static void ask(struct input *input)
 {
     struct point *point = take_point(input);
@@ -276,11 +283,11 @@ static void ask(struct input *input)
     uint8_t count, cut;
 
     call.number = take_number(input);
-    count = take_octet(input) % (HWMP_MAX_ITEMS + 3);
-    call.octets_len = take_list(input, "oA", count, items);
     cut = take_octet(input) % HWMP_ITEM_OCTETS;
-    call.octets_len -= count == 0 ? 0 : cut;
+    count = take_octet(input) % (HWMP_MAX_ITEMS + 3);
     call.octets = items;
+    call.octets_len = take_list(input, "oA", count, items);
+    call.octets_len -= count == 0 ? 0 : cut;
     play(&call, point);
 }
 
@@ -369,6 +376,7 @@ static void begin(void)
     frames_kept = 0;
     clock_now = 0;
     output_len = HWMP_OUTPUT_OCTETS;
+    calls_made = 0;
     note_input();
 }
 
@@ -376,10 +384,13 @@ int LLVMFuzzerTestOneInput(const uint8_t *octets, size_t count);
 
 int LLVMFuzzerTestOneInput(const uint8_t *octets, size_t count)
 {
-    struct input input = {octets, octets + count};
+    struct input input = {.next = octets, .end = octets + count};
 
     begin();
-    for (int i = 0; i < MOST_STEPS && input.next != input.end; i++)
-        steps[take_octet(&input) % (sizeof steps / sizeof *steps)](&input);
+    for (int i = 0; i < MOST_STEPS && calls_made < ENOUGH_CALLS && input.next != input.end; i++) {
+        struct input step = take_step(&input);
+
+        steps[take_octet(&step) % (sizeof steps / sizeof *steps)](&step);
+    }
     return 0;
 }

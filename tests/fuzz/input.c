@@ -35,6 +35,17 @@ uint32_t take_number(struct input *input)
     return (uint32_t)take_plain(input, 4);
 }
 
+struct input take_step(struct input *input)
+{
+    size_t length = take_plain(input, STEP_HEAD_OCTETS) % (MOST_STEP_OCTETS + 1);
+    size_t left = (size_t)(input->end - input->next);
+    struct input step = {.next = input->next};
+
+    input->next += length < left ? length : left;
+    step.end = input->next;
+    return step;
+}
+
 static void put_address(uint8_t address[6], uint8_t first, uint8_t second, uint8_t last)
 {
     const uint8_t octets[6] = {first, second, 0, 0, 0, last};
@@ -42,10 +53,22 @@ static void put_address(uint8_t address[6], uint8_t first, uint8_t second, uint8
     memcpy(address, octets, sizeof octets);
 }
 
+static void make_up_address(struct input *input, uint8_t address[6])
+{
+    const uint8_t octets[6] = {2, 0, 0, 0, 1, input->made_up++};
+
+    memcpy(address, octets, sizeof octets);
+}
+
 void take_address(struct input *input, uint8_t address[6])
 {
-    uint8_t chosen = take_octet(input);
+    uint8_t chosen;
 
+    if (input->next == input->end) {
+        make_up_address(input, address);
+        return;
+    }
+    chosen = take_octet(input);
     if (chosen < 192)
         put_address(address, 2, 0, chosen);
     else if (chosen == 192)

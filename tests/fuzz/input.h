@@ -1,5 +1,7 @@
 /*
- * The octets of an input, taken as operands. Behind its end every octet is 0.
+ * The octets of an input: steps, each with its length in two octets before it, lowest first. Of
+ * a step, its octets are taken as operands. Behind its end every octet is 0, and every address
+ * another one, 02:00:00:00:01 and an octet that counts up: so a list may have any count.
  *
  * An address is an octet: below 192, 02:00:00:00:00 and that octet, which points 0 to 15 have;
  * 192 all ones, 193 all zero, 194 a group address; 208 to 223 one that the search for doubles
@@ -15,10 +17,16 @@
 #include <stddef.h>
 #include <stdint.h>
 
+enum { MOST_STEPS = 64, STEP_HEAD_OCTETS = 2, MOST_STEP_OCTETS = 600 };
+
 struct input {
     const uint8_t *next;
     const uint8_t *end;
+    uint8_t made_up; /* addresses, behind the end */
 };
+
+/* The next step, or what is there of it. */
+struct input take_step(struct input *input);
 
 uint8_t take_octet(struct input *input);
 uint32_t take_number(struct input *input);
