@@ -1,43 +1,40 @@
-//! What the checked library costs beside plain Rust and beside Rust by the same method.
+//! What the checked library costs beside plain Rust and beside Rust by the same method: in
+//! instructions, in time and in stack.
 
 mod cases;
+mod contenders;
 mod element_cases;
+mod instructions;
+mod measuring;
+mod report;
 mod same_method;
 mod stack;
 mod timing;
 mod walk_cases;
 
-use hwmp_tests::implementation::{Implementation, LIBRARY, REFERENCE};
 use hwmp_tests::probe;
 use hwmp_tests::random::Random;
 
-use cases::{Case, EMITTING, RECEIVING, SILENT};
 use element_cases::ELEMENT_CASES;
-use same_method::SAME_METHOD;
-use walk_cases::WALK_CASES;
+use instructions::Counts;
+use report::{PLAIN, Report, SAME};
 
 fn main() {
     println!("machine: {}", machine());
-    println!("nanoseconds per call, median of interleaved rounds; all are release builds");
-    let random = &mut Random::announced("tables and elements", 2026);
-    println!("plain: the separately written reference");
-    println!("same: Rust by the library's method, for calls that emit nothing");
+    let seed = Random::announced("tables and elements", 2026).number();
+    if std::env::args().any(|argument| argument == instructions::ARGUMENT) {
+        return instructions::count(seed);
+    }
+    println!("plain: the separately written reference; same: Rust by the library's method");
+    println!("instructions: of the call alone, mean of several tables, counted by callgrind");
+    println!("nanoseconds: median of interleaved rounds; 'and mended' and the steps of numbers");
+    println!("between received elements are in them. All are release builds.");
     println!();
-    compare(random);
-    println!();
-    growth(random);
-    println!();
-    compare_walks(random);
-    println!();
+    compare_calls(counts(), seed);
+    let random = &mut Random::new(seed);
     compare_elements(random);
     println!();
-    let mut depths = stack::depths(random).to_vec();
-    depths.push(stack::receive_depth(random));
-    depths.push(stack::walk_depth(random));
-    depths.extend(stack::element_depths(random));
-    for (entry, octets) in depths {
-        println!("stack of {entry}: {octets} octets");
-    }
+    print_stack(random);
 }
 
 fn machine() -> String {
@@ -50,96 +47,29 @@ fn machine() -> String {
     })
 }
 
-fn measure(case: &Case, rows: usize, bys: &[&Implementation], random: &mut Random) -> Vec<f64> {
-    let mut inputs = cases::inputs(case, rows, random);
-    cases::confirm(case, rows, &inputs, bys);
-    timing::nanoseconds(case.call, &mut inputs, bys)
+fn counts() -> Option<Counts> {
+    let counts = instructions::counts();
+    if let Err(reason) = &counts {
+        println!("instructions were not counted: {reason}");
+        println!();
+    }
+    counts.ok()
 }
 
-fn compare(random: &mut Random) {
-    println!(
-        "{:<30} {:>4} {:>9} {:>9} {:>9} {:>14} {:>13}",
-        "full tables", "R", "library", "plain", "same", "library/plain", "library/same"
-    );
-    for case in &SILENT {
-        for rows in [16, 128] {
-            compare_case(case, rows, &[&LIBRARY, &REFERENCE, &SAME_METHOD], random);
-        }
-    }
-    for case in EMITTING.iter().chain(&RECEIVING) {
-        // With one row the check of the table takes little, and the time is that of emitting.
-        for rows in [1, 16, 128] {
-            compare_case(case, rows, &[&LIBRARY, &REFERENCE], random);
-        }
-    }
-}
-
-/// Leaves the columns of the same method blank if it is not among the implementations.
-fn compare_case(case: &Case, rows: usize, bys: &[&Implementation], random: &mut Random) {
-    let times = measure(case, rows, bys, random);
-    let (library, plain) = (times[0], times[1]);
-    let (same, to_same) = match times.get(2) {
-        Some(same) => (format!("{same:.1}"), format!("{:.2}", library / same)),
-        None => ("-".into(), "-".into()),
-    };
-    println!(
-        "{:<30} {rows:>4} {library:>9.1} {plain:>9.1} {same:>9} {:>14.2} {to_same:>13}",
-        format!("{} ({})", case.name, case.answer),
-        library / plain,
-    );
-}
-
-fn growth(random: &mut Random) {
-    let case = &SILENT[0];
-    println!(
-        "{:<30} {:>4} {:>9} {:>9} {:>13} {:>16}",
-        format!("{} ({})", case.name, case.answer),
-        "R",
-        "library",
-        "same",
-        "library/same",
-        "library per row"
-    );
-    for rows in (0..8).map(|power| 1 << power) {
-        let times = measure(case, rows, &[&LIBRARY, &SAME_METHOD], random);
-        let [library, same] = times[..] else {
-            unreachable!("one time for each implementation")
-        };
-        println!(
-            "{:<30} {rows:>4} {library:>9.1} {same:>9.1} {:>13.2} {:>16.1}",
-            "",
-            library / same,
-            library / rows as f64
-        );
-    }
-}
-
-fn compare_walks(random: &mut Random) {
-    println!(
-        "{:<30} {:>4} {:>9} {:>9} {:>14}",
-        "walk through all, full tables", "R", "library", "plain", "library/plain"
-    );
-    for case in &WALK_CASES {
-        let mut inputs = walk_cases::inputs(case, random);
-        let bys = [&LIBRARY, &REFERENCE];
-        walk_cases::confirm(&inputs, &bys);
-        let times = timing::nanoseconds(walk_cases::walk, &mut inputs, &bys);
-        let [library, plain] = times[..] else {
-            unreachable!("one time for each implementation")
-        };
-        println!(
-            "{:<30} {:>4} {library:>9.1} {plain:>9.1} {:>14.2}",
-            format!("points: {}", case.points),
-            case.rows,
-            library / plain
-        );
-    }
+fn compare_calls(counts: Option<Counts>, seed: u64) {
+    let mut report = Report::new(counts);
+    measuring::measure_all(seed, &mut report);
+    report.compare("plain", PLAIN);
+    println!();
+    report.compare("same", SAME);
+    println!();
+    report.growth();
 }
 
 fn compare_elements(random: &mut Random) {
     println!(
-        "{:<30} {:>4} {:>9} {:>9} {:>14}",
-        "largest elements", "N", "library", "plain", "library/plain"
+        "{:<32} {:>4}{:>10}{:>10}{:>7}",
+        "largest elements, nanoseconds", "N", "library", "plain", "ratio"
     );
     for case in &ELEMENT_CASES {
         let mut inputs = element_cases::inputs(case, random);
@@ -150,10 +80,20 @@ fn compare_elements(random: &mut Random) {
             unreachable!("one time for each implementation")
         };
         println!(
-            "{:<30} {:>4} {library:>9.1} {plain:>9.1} {:>14.2}",
+            "{:<32} {:>4}{library:>10.1}{plain:>10.1}{:>7.2}",
             case.name,
             case.count,
             library / plain
         );
+    }
+}
+
+fn print_stack(random: &mut Random) {
+    let mut depths = stack::depths(random).to_vec();
+    depths.push(stack::receive_depth(random));
+    depths.push(stack::walk_depth(random));
+    depths.extend(stack::element_depths(random));
+    for (entry, octets) in depths {
+        println!("stack of {entry}: {octets} octets");
     }
 }

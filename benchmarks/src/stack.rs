@@ -11,7 +11,7 @@ use hwmp_tests::tables;
 
 use crate::cases::{self, CLOCK, LIFETIME, LINK};
 use crate::element_cases;
-use crate::walk_cases::{self, WALK_CASES};
+use crate::walk_cases;
 
 const OCTETS: usize = 16 * 1024;
 const PAINT: u8 = 0xa5;
@@ -127,8 +127,7 @@ pub fn receive_depth(random: &mut Random) -> (&'static str, usize) {
 
 /// The walk, through as many points and rows as there can be.
 pub fn walk_depth(random: &mut Random) -> (&'static str, usize) {
-    let largest = WALK_CASES.last().expect("some case");
-    let input = walk_cases::input(largest, random);
+    let input = walk_cases::input(16, 128, random);
     let arguments = [
         input.tables.as_ptr() as usize,
         input.tables.len(),

@@ -19,23 +19,8 @@ pub struct Input {
     pub destination: [u8; 6],
 }
 
-pub struct WalkCase {
-    pub points: usize,
-    pub rows: usize,
-}
-
-const fn case(points: usize, rows: usize) -> WalkCase {
-    WalkCase { points, rows }
-}
-
-pub const WALK_CASES: [WalkCase; 6] = [
-    case(1, 16),
-    case(4, 16),
-    case(16, 16),
-    case(1, 128),
-    case(4, 128),
-    case(16, 128),
-];
+/// The numbers of points.
+pub const POINTS: [usize; 3] = [1, 4, 16];
 
 fn walked(by: &Implementation, input: &Input) -> Walked {
     let (start, destination) = (&input.start, &input.destination);
@@ -46,13 +31,14 @@ pub fn walk(by: &Implementation, input: &mut Input) -> u32 {
     walked(by, input).answer
 }
 
-pub fn inputs(case: &WalkCase, random: &mut Random) -> Vec<Input> {
-    (0..MESHES).map(|_| input(case, random)).collect()
+pub fn inputs(points: usize, rows: usize, random: &mut Random) -> Vec<Input> {
+    let input = |_| input(points, rows, random);
+    (0..MESHES).map(input).collect()
 }
 
 /// The way leads through the last row of each table, so that each is searched to its end.
-pub fn input(case: &WalkCase, random: &mut Random) -> Input {
-    let tables = (0..case.points).map(|_| tables::full(case.rows, random));
+pub fn input(points: usize, rows: usize, random: &mut Random) -> Input {
+    let tables = (0..points).map(|_| tables::full(rows, random));
     let mut tables: Vec<Vec<u8>> = tables.collect();
     let destination = tables::individual(random).0;
     let addresses: Vec<[u8; 6]> = tables.iter().map(|table| own_address(table)).collect();
@@ -62,7 +48,7 @@ pub fn input(case: &WalkCase, random: &mut Random) -> Input {
     }
     Input {
         tables: tables.concat(),
-        count: case.points as u32,
+        count: points as u32,
         start: addresses[0],
         destination,
     }

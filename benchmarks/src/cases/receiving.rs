@@ -79,7 +79,7 @@ pub fn rrep(input: &mut Input, _: &mut Random) {
     let rows = rows(input);
     let source = match rows.len() {
         1 => input.table[..6].try_into().expect("six octets"),
-        count => destination(&rows[count / 2]),
+        count => destination(&rows[(count - 1) / 2]),
     };
     let source_number_and_count = [7, 0, 0, 0, 0];
     let fields = [&HEAD[..], &path, &source, &source_number_and_count];
