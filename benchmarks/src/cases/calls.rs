@@ -22,6 +22,15 @@ pub fn forget(by: &Implementation, input: &mut Input) -> u32 {
     (by.forget)(&mut input.table, &input.address)
 }
 
+/// Puts the last row back, which is the one forgotten.
+pub fn forget_and_mend(by: &Implementation, input: &mut Input) -> u32 {
+    let before = *input.table.last_chunk::<ROW_OCTETS>().expect("a row");
+    let answer = forget(by, input);
+    let row = input.table.last_chunk_mut().expect("a row");
+    *row = before;
+    answer
+}
+
 pub fn ask(by: &Implementation, input: &mut Input) -> u32 {
     let (table, output) = (&mut input.table, &mut input.output);
     let outcome = (by.ask)(table, output, LIFETIME, &input.items);

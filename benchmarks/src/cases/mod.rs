@@ -71,8 +71,9 @@ const fn emitting(
 
 fn nothing(_: &mut Input, _: &mut Random) {}
 
-/// The calls that emit nothing.
-pub const SILENT: [Case; 5] = [
+/// The calls that emit nothing. Where a row was forgotten it is put back for the next call, and
+/// the time includes that.
+pub const SILENT: [Case; 6] = [
     silent("next hop, no such row", 28, calls::next_hop, nothing),
     silent(
         "next hop, the last row",
@@ -81,6 +82,12 @@ pub const SILENT: [Case; 5] = [
         calls::want_last_row,
     ),
     silent("forget, no such row", 29, calls::forget, nothing),
+    silent(
+        "forget the last row, mended",
+        0,
+        calls::forget_and_mend,
+        calls::want_last_row,
+    ),
     silent(
         "next hop, refused early",
         21,
@@ -103,7 +110,7 @@ pub const EMITTING: [Case; 5] = [
         calls::lead_elsewhere,
     ),
     emitting(
-        "break, all lost and mended",
+        "break, all lost, mended",
         |rows| rows.div_ceil(25),
         calls::break_and_mend,
         calls::lead_through_neighbour,
