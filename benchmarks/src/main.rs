@@ -26,9 +26,9 @@ fn main() {
         return instructions::count(seed);
     }
     println!("plain: the separately written reference; same: Rust by the library's method");
-    println!("instructions: of the call alone, mean of several tables, counted by callgrind");
-    println!("nanoseconds: median of interleaved rounds; 'and mended' and the steps of numbers");
-    println!("between received elements are in them. All are release builds.");
+    println!("instructions: of the call alone, the mean of several tables, by callgrind");
+    println!("nanoseconds: the median of interleaved rounds, with what mends the table or steps");
+    println!("the element's number after a call; all are release builds");
     println!();
     compare_calls(counts(), seed);
     let random = &mut Random::new(seed);
@@ -60,15 +60,13 @@ fn compare_calls(counts: Option<Counts>, seed: u64) {
     let mut report = Report::new(counts);
     measuring::measure_all(seed, &mut report);
     report.compare("plain", PLAIN);
-    println!();
     report.compare("same", SAME);
-    println!();
     report.growth();
 }
 
 fn compare_elements(random: &mut Random) {
     println!(
-        "{:<32} {:>4}{:>10}{:>10}{:>7}",
+        "{:<32}{:>4}{:>10}{:>10}{:>8}",
         "largest elements, nanoseconds", "N", "library", "plain", "ratio"
     );
     for case in &ELEMENT_CASES {
@@ -80,7 +78,7 @@ fn compare_elements(random: &mut Random) {
             unreachable!("one time for each implementation")
         };
         println!(
-            "{:<32} {:>4}{library:>10.1}{plain:>10.1}{:>7.2}",
+            "{:<32}{:>4}{library:>10.1}{plain:>10.1}{:>8.2}",
             case.name,
             case.count,
             library / plain

@@ -7,6 +7,11 @@ use crate::instructions::Counts;
 use crate::measuring::{Meter, ROWS, Subject};
 use crate::timing::{self, Call};
 
+/// The places of the contenders in a line.
+const LIBRARY: usize = 0;
+pub const PLAIN: usize = 1;
+pub const SAME: usize = 2;
+
 /// The figures of one call at one number of rows, in the order of the contenders. There are no
 /// instructions if they could not be counted.
 struct Line {
@@ -15,10 +20,23 @@ struct Line {
     nanoseconds: Vec<f64>,
 }
 
-/// The places of the contenders in a line.
-const LIBRARY: usize = 0;
-pub const PLAIN: usize = 1;
-pub const SAME: usize = 2;
+struct Unit {
+    name: &'static str,
+    decimals: usize,
+    figures: fn(&Line) -> &[f64],
+}
+
+const INSTRUCTIONS: Unit = Unit {
+    name: "instructions",
+    decimals: 0,
+    figures: |line| &line.instructions,
+};
+
+const NANOSECONDS: Unit = Unit {
+    name: "nanoseconds",
+    decimals: 1,
+    figures: |line| &line.nanoseconds,
+};
 
 pub struct Report {
     counts: Option<Counts>,
@@ -33,15 +51,15 @@ impl Meter for Report {
         inputs: &mut [Input],
         contenders: &[&Contender],
     ) {
-        let timed: Vec<&Implementation> = contenders.iter().map(|by| &by.timed).collect();
-        let nanoseconds = timing::nanoseconds(call, inputs, &timed);
+        let bys: Vec<&Implementation> = contenders.iter().map(|by| &by.timed).collect();
         let instructions = match &self.counts {
             Some(counts) => {
-                let of = |by: &&Implementation| counts.per_call(&subject, by.name, inputs.len());
-                timed.iter().map(of).collect()
+                let per_call = |by: &&Implementation| counts.per_call(&subject, by, inputs.len());
+                bys.iter().map(per_call).collect()
             }
             None => Vec::new(),
         };
+        let nanoseconds = timing::nanoseconds(call, inputs, &bys);
         self.lines.push(Line {
             subject,
             instructions,
@@ -56,47 +74,44 @@ impl Report {
         Report { counts, lines }
     }
 
-    /// The library beside another implementation, a line for each call that this one has too.
+    /// The library beside another contender, a line for each call that both were measured on.
     pub fn compare(&self, name: &str, other: usize) {
         println!(
-            "{:<37}{:^27} {:^27}",
-            "full tables", "instructions", "nanoseconds"
+            "{:<36}{:>28}{:>28}",
+            "full tables", INSTRUCTIONS.name, NANOSECONDS.name
         );
-        let columns = format!("{:>10}{name:>10}{:>7}", "library", "ratio");
-        println!("{:<32} {:>4}{columns} {columns}", "", "R");
-        let lines = self.lines.iter();
-        let lines = lines.filter(|line| line.nanoseconds.len() > other);
-        for line in lines.filter(|line| [16, 128].contains(&line.subject.rows)) {
+        let columns = format!("{:>10}{name:>10}{:>8}", "library", "ratio");
+        println!("{:<32}{:>4}{columns}{columns}", "", "R");
+        let measured = |line: &&Line| line.nanoseconds.len() > other;
+        let shown = |line: &&Line| [16, 128].contains(&line.subject.rows);
+        for line in self.lines.iter().filter(measured).filter(shown) {
             let Subject { name, rows } = &line.subject;
-            let instructions = side_by_side(&line.instructions, other, 0);
-            let nanoseconds = side_by_side(&line.nanoseconds, other, 1);
-            println!("{name:<32} {rows:>4}{instructions} {nanoseconds}");
+            let instructions = side_by_side(line, &INSTRUCTIONS, other);
+            let nanoseconds = side_by_side(line, &NANOSECONDS, other);
+            println!("{name:<32}{rows:>4}{instructions}{nanoseconds}");
         }
+        println!();
     }
 
-    /// How cost grows with the number of rows: of both, and their ratio.
+    /// How cost grows with the number of rows.
     pub fn growth(&self) {
-        let instructions = |line: &Line| line.instructions.clone();
-        let nanoseconds = |line: &Line| line.nanoseconds.clone();
         if self.counts.is_some() {
-            self.grow("instructions", 0, instructions);
+            self.growth_in(&INSTRUCTIONS);
         }
-        self.grow("nanoseconds", 1, nanoseconds);
+        self.growth_in(&NANOSECONDS);
     }
 
-    fn grow(&self, unit: &str, decimals: usize, figures: fn(&Line) -> Vec<f64>) {
-        let figures = |line: &Line| figures(line);
-        self.by_rows(&format!("{unit}, library"), decimals, |line| {
-            figures(line)[LIBRARY]
-        });
-        self.by_rows(&format!("{unit}, plain"), decimals, |line| {
-            figures(line)[PLAIN]
-        });
-        let ratio = |line: &Line| ratio(&figures(line), PLAIN);
-        self.by_rows(&format!("{unit}, library/plain"), 2, ratio);
+    fn growth_in(&self, unit: &Unit) {
+        let Unit { name, figures, .. } = unit;
+        let library = |line: &Line| figures(line)[LIBRARY];
+        let plain = |line: &Line| figures(line)[PLAIN];
+        self.by_rows(&format!("{name}, library"), unit.decimals, library);
+        self.by_rows(&format!("{name}, plain"), unit.decimals, plain);
+        let ratio = |line: &Line| library(line) / plain(line);
+        self.by_rows(&format!("{name}, library/plain"), 2, ratio);
     }
 
-    /// A line for each call, a column for each number of rows.
+    /// A line for each call, a column for each number of rows: they were measured in this order.
     fn by_rows(&self, title: &str, decimals: usize, figure: impl Fn(&Line) -> f64) {
         let columns: String = ROWS.iter().map(|rows| format!("{rows:>9}")).collect();
         println!("{:<32}{columns}", format!("{title}; R ="));
@@ -109,19 +124,14 @@ impl Report {
     }
 }
 
-fn ratio(figures: &[f64], other: usize) -> f64 {
-    figures[LIBRARY] / figures[other]
-}
-
 /// Dashes where nothing was measured.
-fn side_by_side(figures: &[f64], other: usize, decimals: usize) -> String {
+fn side_by_side(line: &Line, unit: &Unit, other: usize) -> String {
+    let figures = (unit.figures)(line);
     if figures.is_empty() {
-        return format!("{:>10}{:>10}{:>7}", "-", "-", "-");
+        return format!("{:>10}{:>10}{:>8}", "-", "-", "-");
     }
-    format!(
-        "{:>10.decimals$}{:>10.decimals$}{:>7.2}",
-        figures[LIBRARY],
-        figures[other],
-        ratio(figures, other)
-    )
+    let (library, other) = (figures[LIBRARY], figures[other]);
+    let decimals = unit.decimals;
+    let ratio = library / other;
+    format!("{library:>10.decimals$}{other:>10.decimals$}{ratio:>8.2}")
 }

@@ -29,14 +29,14 @@ pub struct Counts(HashMap<String, u64>);
 
 impl Counts {
     /// Instructions of one call, the mean of so many.
-    pub fn per_call(&self, subject: &Subject, by: &str, calls: usize) -> f64 {
+    pub fn per_call(&self, subject: &Subject, by: &Implementation, calls: usize) -> f64 {
         let total = self.0[&part_name(subject, by)];
         total as f64 / calls as f64 - self.0[BRACKET] as f64
     }
 }
 
-fn part_name(subject: &Subject, by: &str) -> String {
-    format!("{}; R = {}; {by}", subject.name, subject.rows)
+fn part_name(subject: &Subject, by: &Implementation) -> String {
+    format!("{}; R = {}; {}", subject.name, subject.rows, by.name)
 }
 
 struct Counter;
@@ -53,7 +53,7 @@ impl Meter for Counter {
             for input in inputs.iter_mut() {
                 call(&by.counted, input);
             }
-            callgrind::end_part(&part_name(&subject, by.timed.name));
+            callgrind::end_part(&part_name(&subject, &by.timed));
         }
     }
 }
@@ -93,6 +93,8 @@ fn run(output: &Path) -> Result<String, String> {
 
 #[cfg(test)]
 mod tests {
+    use hwmp_tests::implementation::LIBRARY;
+
     use super::{BRACKET, Counts};
     use crate::measuring::Subject;
 
@@ -105,6 +107,6 @@ mod tests {
             name: "fresh (0)".into(),
             rows: 16,
         };
-        assert_eq!(counts.per_call(&subject, "library", 8), 100.0);
+        assert_eq!(counts.per_call(&subject, &LIBRARY, 8), 100.0);
     }
 }
