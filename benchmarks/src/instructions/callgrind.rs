@@ -2,7 +2,7 @@
 //! C: a sequence of instructions that does nothing on the processor itself.
 
 use std::arch::asm;
-use std::ffi::{CStr, CString};
+use std::ffi::{CString, c_char};
 use std::hint::black_box;
 use std::ptr;
 
@@ -13,9 +13,9 @@ const DUMP_STATS_AT: u64 = BASE + 3;
 
 /// Not inlined, so that it takes as many instructions wherever it is called.
 #[inline(never)]
-fn request(code: u64, operand: *const i8) {
+fn request(code: u64, operand: *const c_char) {
     let arguments = [code, operand as u64, 0, 0, 0, 0];
-    // SAFETY: on the processor rdi is rotated once around, and rbx exchanged with itself.
+    // SAFETY: on the processor rdi is rotated by 128 bits in all, and rbx exchanged with itself.
     // Callgrind reads the arguments and the operand, and answers in rdx.
     unsafe {
         asm!(
@@ -41,6 +41,5 @@ pub fn counting<Answer>(call: impl FnOnce() -> Answer) -> Answer {
 /// Writes what was counted since the last time as a part of this name.
 pub fn end_part(name: &str) {
     let name = CString::new(name).expect("a name without zeros");
-    let name: &CStr = &name;
     request(DUMP_STATS_AT, name.as_ptr());
 }
