@@ -7,6 +7,7 @@ pub mod elements;
 pub mod fence;
 pub mod implementation;
 pub mod library;
+pub mod mesh;
 pub mod probe;
 pub mod random;
 pub mod received;

@@ -16,5 +16,4 @@ mod runs;
 mod script;
 mod short_loops;
 mod three_points;
-mod ways;
 mod window;

@@ -1,8 +1,9 @@
 //! Many meshes, one after another.
 
 use hwmp_tests::comparing::{Listed, Run, Tally};
+use hwmp_tests::mesh::{ACCEPTED, LOOPS, WALKS};
 
-use crate::mesh::{ACCEPTED, LOOPS, Mesh, WALKS};
+use crate::mesh::RandomMesh;
 
 /// How many elements are delivered in all.
 const DELIVERIES: u64 = 6_000_000;
@@ -35,11 +36,11 @@ fn points_agree_and_no_walk_meets_a_point_twice() {
     let seen = &mut Tally::default();
     let mut meshes = 0;
     while run.answers.total_of("receive") < DELIVERIES {
-        let mut mesh = Mesh::fresh(run);
+        let mut random_mesh = RandomMesh::fresh(run);
         for _ in 0..200 + run.random.below(600) {
-            mesh.step(run, seen);
+            random_mesh.step(run, seen);
         }
-        mesh.check_all_walks(seen);
+        random_mesh.mesh.check_all_walks(run, seen);
         meshes += 1;
     }
     println!("meshes: {meshes}");
