@@ -5,6 +5,8 @@ mod known;
 mod lists;
 mod path;
 
+use std::mem;
+
 use crate::elements;
 use crate::random::Random;
 use crate::tables;
@@ -43,6 +45,12 @@ pub fn suited(table: &[u8], random: &mut Random) -> Received {
 /// The same with one fault or some other damage.
 pub fn faulty(table: &[u8], random: &mut Random) -> Received {
     let mut received = suited(table, random);
+    spoil(&mut received, table, random);
+    received
+}
+
+/// Lays one fault or some other damage over what a point with this table is to receive.
+pub fn spoil(received: &mut Received, table: &[u8], random: &mut Random) {
     let own = Known::of(table).head.own.0;
     match random.below(16) {
         0 => received.clock = tables::some_clock(table, random),
@@ -51,10 +59,9 @@ pub fn faulty(table: &[u8], random: &mut Random) -> Received {
         3 => received.link_metric = random.pick(&[0, 0, u32::MAX, u32::MAX - 1]),
         4..7 => path::spoil(&mut received.element, own, random),
         7..11 => lists::spoil(&mut received.element, own, random),
-        11..14 => received.element = elements::damaged(received.element, random),
+        11..14 => received.element = elements::damaged(mem::take(&mut received.element), random),
         _ => received.element = elements::any(random),
     }
-    received
 }
 
 fn rann(known: &Known, received: &Received, random: &mut Random) -> Vec<u8> {
