@@ -1,6 +1,7 @@
 //! What the tests and benchmarks share: the library behind safe functions, a separately
-//! written implementation of document 01 to compare it with, random tables and elements, and
-//! what is asked of a call that was worked out by hand.
+//! written implementation of document 01 to compare it with, random tables and elements, points
+//! that send to each other, thirty days of them, and what is asked of a call that was worked out
+//! by hand.
 
 pub mod comparing;
 pub mod elements;
@@ -13,4 +14,5 @@ pub mod random;
 pub mod received;
 pub mod reference;
 pub mod tables;
+pub mod thirty_days;
 pub mod worked;

@@ -19,8 +19,12 @@ pub struct Run {
 
 impl Run {
     pub fn announced(purpose: &str, seed: u64) -> Run {
+        Run::new(Random::announced(purpose, seed))
+    }
+
+    pub fn new(random: Random) -> Run {
         Run {
-            random: Random::announced(purpose, seed),
+            random,
             answers: Tally::default(),
             fence: Fence::build(),
             element_fence: Fence::build(),

@@ -28,6 +28,15 @@ impl Tally {
         all.map(|(_, count)| count).sum()
     }
 
+    /// How often each outcome came, whatever was counted.
+    pub fn by_outcome(&self) -> BTreeMap<u32, u64> {
+        let mut sums = BTreeMap::new();
+        for ((_, outcome), count) in &self.counts {
+            *sums.entry(*outcome).or_default() += count;
+        }
+        sums
+    }
+
     pub fn report(&self, listed: &[Listed]) {
         for &(what, outcomes) in listed {
             let counts: Vec<String> = outcomes

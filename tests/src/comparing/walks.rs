@@ -28,8 +28,12 @@ pub struct Walks {
 
 impl Walks {
     pub fn announced(purpose: &str, seed: u64) -> Walks {
+        Walks::new(Random::announced(purpose, seed))
+    }
+
+    pub fn new(random: Random) -> Walks {
         Walks {
-            random: Random::announced(purpose, seed),
+            random,
             answers: Tally::default(),
             tables: Fence::build(),
             start: Fence::build(),
