@@ -59,11 +59,15 @@ number-parts (suc m) n s at low high small =
     others : low / 256 + 256 ^ m * high ≡ (low + 256 ^ suc m * high) / 256
     others = rw pow-suc (omega arith)
 
--- what a number is written by, from its parts
+-- the same of a number that has these parts
 parted : (m n : ℕ) (s t u : List ℕ) (at x low high : ℕ) → low < 256 ^ m → x ≡ low + 256 ^ m * high
     → t ≡ withNumber m s at low → u ≡ withNumber n t (at + m) high → u ≡ withNumber (m + n) s at x
 parted m n s t u at x low high small xe te ue =
     ue ∙ ap (λ (v : List ℕ). withNumber n v (at + m) high) te ∙ number-parts m n s at low high small ∙ ap (withNumber (m + n) s at) (sym xe)
+
+pub written-1 : (s : List ℕ) (at x : ℕ) → x < 256 → set s at x ≡ withNumber 1 s at x
+unfolding withNumber over numberOctets
+written-1 s at x small = ap (set s at) (omega arith)
 
 -- the second of two octets has its place when the first is written
 pub second-in : (s : List ℕ) (at x : ℕ) → at + 2 ≤ length s → at + 1 < length (set s at x)
@@ -80,19 +84,12 @@ module _ (s t u : List ℕ) (at x : ℕ) where
   pub written-8 : t ≡ withNumber 4 s at (x % 4294967296) → u ≡ withNumber 4 t (at + 4) (x / 4294967296) → u ≡ withNumber 8 s at x
   written-8 = parted 4 4 s t u at x (x % 4294967296) (x / 4294967296) (omega arith) (omega arith)
 
--- by a width that was tested for
-pub of-width : (w n : ℕ) (s u : List ℕ) (at x : ℕ) → n ≡ w → u ≡ withNumber w s at x → u ≡ withNumber n s at x
-of-width w n s u at x e ue = ue ∙ ap (λ (k : ℕ). withNumber k s at x) (sym e)
-
 -- what lies above the octets written plays no part
 lowest-alone : (m : ℕ) (s u : List ℕ) (at x low high : ℕ) → low < 256 ^ m → x ≡ low + 256 ^ m * high → u ≡ withNumber m s at low → u ≡ withNumber m s at x
 lowest-alone m s u at x low high small xe ue =
     parted m 0 s u u at x low high small xe ue (sym (with-zero u (at + m) high)) ∙ ap (λ (k : ℕ). withNumber k s at x) (add-zero m)
 
 module _ (s : List ℕ) (at x : ℕ) where
-  pub lowest-4 : (n : ℕ) (u : List ℕ) → n ≡ 4 → u ≡ withNumber 4 s at (x % 4294967296) → u ≡ withNumber n s at x
-  lowest-4 n u e ue = of-width 4 n s u at x e (lowest-alone 4 s u at x (x % 4294967296) (x / 4294967296) (omega arith) (omega arith) ue)
-
   pub written-6 : (t u : List ℕ) → t ≡ withNumber 4 s at (x % 4294967296) → u ≡ withNumber 2 t (at + 4) (x / 4294967296 % 65536)
       → u ≡ withNumber 6 s at x
   written-6 t u te ue =

@@ -40,7 +40,14 @@ pub fn read_u64(s: &[u8], at: usize) -> u64
     read_u32(s, at) as u64 + 4294967296 * read_u32(s, at + 4) as u64
 }
 
-fn write_u16(s: &mut [u8], at: usize, x: u16)
+pub fn write_u8(s: &mut [u8], at: usize, x: u8)
+    requires { ⌜ at + 1 ≤ length (now s) ⌝ }
+    ensures { λ _. ⌜ now (s .exit) ≡ withNumber 1 (now (s .entry)) at x ⌝ }
+{
+    s[at] = x;
+}
+
+pub fn write_u16(s: &mut [u8], at: usize, x: u16)
     requires { ⌜ at + 2 ≤ length (now s) ⌝ }
     ensures { λ _. ⌜ now (s .exit) ≡ withNumber 2 (now (s .entry)) at x ⌝ }
 {
@@ -48,7 +55,7 @@ fn write_u16(s: &mut [u8], at: usize, x: u16)
     s[at + 1] = (x / 256) as u8;
 }
 
-fn write_u32(s: &mut [u8], at: usize, x: u32)
+pub fn write_u32(s: &mut [u8], at: usize, x: u32)
     requires { ⌜ at + 4 ≤ length (now s) ⌝ }
     ensures { λ _. ⌜ now (s .exit) ≡ withNumber 4 (now (s .entry)) at x ⌝ }
 {
@@ -57,7 +64,7 @@ fn write_u32(s: &mut [u8], at: usize, x: u32)
 }
 
 // The lowest six octets of x.
-fn write_u48(s: &mut [u8], at: usize, x: u64)
+pub fn write_u48(s: &mut [u8], at: usize, x: u64)
     requires { ⌜ at + 6 ≤ length (now s) ⌝ }
     ensures { λ _. ⌜ now (s .exit) ≡ withNumber 6 (now (s .entry)) at x ⌝ }
 {
@@ -65,7 +72,7 @@ fn write_u48(s: &mut [u8], at: usize, x: u64)
     write_u16(s, at + 4, (x / 4294967296 % 65536) as u16);
 }
 
-fn write_u64(s: &mut [u8], at: usize, x: u64)
+pub fn write_u64(s: &mut [u8], at: usize, x: u64)
     requires { ⌜ at + 8 ≤ length (now s) ⌝ }
     ensures { λ _. ⌜ now (s .exit) ≡ withNumber 8 (now (s .entry)) at x ⌝ }
 {
@@ -74,7 +81,7 @@ fn write_u64(s: &mut [u8], at: usize, x: u64)
 }
 
 // The lowest n octets of x, the least significant first.
-fn write_one_by_one(s: &mut [u8], at: usize, n: usize, x: u64)
+pub fn write_number(s: &mut [u8], at: usize, n: usize, x: u64)
     requires { ⌜ at + n ≤ length (now s) ⌝ }
     ensures { λ _. ⌜ now (s .exit) ≡ withNumber n (now (s .entry)) at x ⌝ }
 {
@@ -85,23 +92,6 @@ fn write_one_by_one(s: &mut [u8], at: usize, n: usize, x: u64)
         rest = rest / 256;
         j += 1;
     }
-}
-
-// The same. Numbers of the widths that layouts have are written without a loop: the compiler then stores each of them whole.
-pub fn write_number(s: &mut [u8], at: usize, n: usize, x: u64)
-    requires { ⌜ at + n ≤ length (now s) ⌝ }
-    ensures { λ _. ⌜ now (s .exit) ≡ withNumber n (now (s .entry)) at x ⌝ }
-{
-    if n == 4 {
-        return write_u32(s, at, (x % 4294967296) as u32);
-    }
-    if n == 6 {
-        return write_u48(s, at, x);
-    }
-    if n == 8 {
-        return write_u64(s, at, x);
-    }
-    write_one_by_one(s, at, n, x)
 }
 
 // The numbers of values side by side from place at, each in as many octets as widths says.

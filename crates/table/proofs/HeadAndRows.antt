@@ -9,7 +9,7 @@ use mathlib.Core.Bool.{Bool, true, false, _&&_, and-eq-true-iff}
 use borrow.Author.Tests.{eqb-true, eq-eqb}
 use native.Mathlib.Nat.{add-zero, add-assoc}
 use native.Mathlib.Omega.{arith, ne-cases}
-use Rattle.octets.specs.LittleEndian.{numberAt, fieldsAt, total, zeros, Octets}
+use Rattle.octets.specs.LittleEndian.{numberAt, withNumber, fieldsAt, withFields, total, zeros, Octets}
 use Rattle.octets.proofs.Laws.{FitFields, split, length-fields, fields-same, fields-other, fields-fit, fields-zero, octets-fields}
 use Rattle.table.specs.declared.row.Head.{Head}
 use Rattle.table.specs.declared.row.Row.{Row}
@@ -32,6 +32,22 @@ pub read : (t : List ℕ) (i : ℕ) {a b c d e f g h k : ℕ}
     → rowOf (a ∷ b ∷ c ∷ d ∷ e ∷ f ∷ g ∷ h ∷ k ∷ []) ≡ rowAt t i
 unfolding rowAt fieldsAt
 read t i p₁ p₂ p₃ p₄ p₅ p₆ p₇ p₈ p₉ = cc (add-zero (place i))
+
+-- a row is put field by field
+module _ (t : List ℕ) (r : Row) where
+  pub status-put : (at : ℕ) (a b c u : List ℕ) → a ≡ withNumber 1 t at (r .status) → b ≡ withNumber 1 a (at + 1) (r .known)
+      → c ≡ withNumber 1 b (at + 2) (r .hops .0) → u ≡ withNumber 1 c (at + 3) (r .zero)
+      → u ≡ withFields (1 ∷ 1 ∷ 1 ∷ 1 ∷ []) t at 0 (r .status ∷ r .known ∷ r .hops .0 ∷ r .zero ∷ [])
+  unfolding withFields
+  status-put at a b c u ae be ce ue = cc (add-zero at)
+
+  pub fields-put : (i : ℕ) (s d n q m u : List ℕ)
+      → s ≡ withFields (1 ∷ 1 ∷ 1 ∷ 1 ∷ []) t (place i) 0 (r .status ∷ r .known ∷ r .hops .0 ∷ r .zero ∷ [])
+      → d ≡ withNumber 6 s (place i + 4) (r .destination .0) → n ≡ withNumber 6 d (place i + 10) (r .next .0)
+      → q ≡ withNumber 4 n (place i + 16) (r .number .0) → m ≡ withNumber 4 q (place i + 20) (r .metric .0)
+      → u ≡ withNumber 8 m (place i + 24) (r .expiry) → u ≡ putRow t i r
+  unfolding withFields putRow
+  fields-put i s d n q m u se de ne qe me ue = cc
 
 -- ---- a row that is put
 

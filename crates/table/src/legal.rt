@@ -166,14 +166,18 @@ fn rows_pass_by(table: &[u8], own: Address, n: usize, seen: &mut [u8], last: usi
     true
 }
 
-// Few rows take few marks: all of them have to be cleared.
+// Few rows take few marks, since all marks have to be cleared first.
 fn rows_pass(table: &[u8], own: Address, n: usize) -> bool
     requires { ⌜ place n ≤ length (now table) ⌝ }
     ensures { λ r. ⌜ r ≡ every (passes (now (table .entry)) own) n ⌝ }
 {
+    if n <= 4 {
+        let mut few = [0u8; 64];
+        return rows_pass_by(table, own, n, &mut few, 63);
+    }
     if n <= 16 {
-        let mut few = [0u8; 256];
-        return rows_pass_by(table, own, n, &mut few, 255);
+        let mut some = [0u8; 256];
+        return rows_pass_by(table, own, n, &mut some, 255);
     }
     let mut many = [0u8; 1024];
     rows_pass_by(table, own, n, &mut many, 1023)

@@ -5,10 +5,12 @@ use counters::Metric;
 use counters::RequestId;
 use counters::SequenceNumber;
 ghost use mathlib.Core.Path.{_≡_};
+ghost use mathlib.Core.List.{[], _∷_};
 ghost use Prim.Native.Nat.{_+_, _≤_};
 ghost use lib.ListN.{length};
 ghost use Rattle.table.specs.Row.{active, freeRow, freshHead, headWith, invalidated, numbered, raised, renewed};
-ghost use Rattle.table.specs.Layout.{headAt, headNumbers, place, putHead, putRow, rowAt, rowNumbers};
+ghost use Rattle.table.specs.Layout.{headAt, headNumbers, place, putHead, putRow, rowAt};
+ghost use Rattle.octets.specs.LittleEndian.{withFields};
 
 // The fields of the head and of a row, in the order of the octets. A table has 0 in those called zero (refusal 21).
 pub struct Head {
@@ -189,28 +191,27 @@ pub fn read_row(table: &[u8], i: usize) -> Row
     }
 }
 
-// The numbers of a row, in the order of the octets.
-fn row_numbers(row: Row) -> [u64; 9]
-    ensures { λ r. ⌜ r ≡ rowNumbers row ⌝ }
+// The first four octets of a row: status, number known, hop count, zero.
+fn write_status(table: &mut [u8], at: usize, row: Row)
+    requires { ⌜ at + 4 ≤ length (now table) ⌝ }
+    ensures { λ _. ⌜ now (table .exit) ≡ withFields (1 ∷ 1 ∷ 1 ∷ 1 ∷ []) (now (table .entry)) at 0 (row .status ∷ row .known ∷ row .hops .0 ∷ row .zero ∷ []) ⌝ }
 {
-    [
-        row.status as u64,
-        row.known as u64,
-        row.hops.0 as u64,
-        row.zero as u64,
-        row.destination.0,
-        row.next.0,
-        row.number.0 as u64,
-        row.metric.0 as u64,
-        row.expiry,
-    ]
+    octets::write_u8(table, at, row.status);
+    octets::write_u8(table, at + 1, row.known);
+    octets::write_u8(table, at + 2, row.hops.0);
+    octets::write_u8(table, at + 3, row.zero);
 }
 
+// Field by field, and not by a list of widths: the compiler then stores each field whole.
 pub fn write_row(table: &mut [u8], i: usize, row: Row)
     requires { ⌜ place i + 32 ≤ length (now table) ⌝ }
     ensures { λ _. ⌜ now (table .exit) ≡ putRow (now (table .entry)) i row ⌝ }
 {
-    let widths = [1u8, 1, 1, 1, 6, 6, 4, 4, 8];
-    let numbers = row_numbers(row);
-    octets::write_fields(table, 32 + 32 * i, &widths, &numbers);
+    let at = 32 + 32 * i;
+    write_status(table, at, row);
+    octets::write_u48(table, at + 4, row.destination.0);
+    octets::write_u48(table, at + 10, row.next.0);
+    octets::write_u32(table, at + 16, row.number.0);
+    octets::write_u32(table, at + 20, row.metric.0);
+    octets::write_u64(table, at + 24, row.expiry);
 }
