@@ -1,24 +1,24 @@
 -- Where rows lead, and the way along them. Assumes nothing.
 use Prim.Native.Nat.{ℕ, zero, suc, _+_, _-_, _/_, _<_, _≤_}
 use mathlib.Core.Path.{_≡_, refl, sym, ap, _∙_}
-use mathlib.Core.Bool.{Bool, true, false, not, _&&_, _||_, cond}
-use mathlib.Core.List.{List}
-use mathlib.Core.Option.{Option, none, some}
+use mathlib.Core.Bool.{Bool, true, false, not, _&&_, _||_, cond, or-true}
+use mathlib.Core.List.{List, [], _∷_}
+use mathlib.Core.Option.{Option, none, some, Option·none-ne-some, Option·some-injective}
 use lib.ListN.{length}
 use native.Mathlib.Omega.{arith}
 use native.Mathlib.Nat.{sub-zero}
 use borrow.Author.Tests.{eq-eqb, ne-eqb, not-true, not-false}
 use Rattle.table.specs.declared.address.Address.{Address}
 use Rattle.table.specs.declared.row.Row.{Row}
-use Rattle.table.specs.Address.{same}
+use Rattle.table.specs.Address.{addressOf, same}
 use Rattle.table.specs.Row.{active}
 use Rattle.table.specs.Table.{rowFor}
 use Rattle.element.specs.Entries.{each}
-use Rattle.element.specs.Lists.{among}
+use Rattle.element.specs.Lists.{among, twice}
 use Rattle.element.proofs.Scans.{each-next, each-end}
 use Rattle.rules.specs.Decision.{refused, accepted, decide}
 use Rattle.rules.specs.NextHop.{alongRow}
-use Rattle.rules.specs.Walk.{Walked, arrived, stopped, tooLong, tableAt, tablesIn, sideBySide, points, rowOfPoint, leadsTo, follow, walking, walk}
+use Rattle.rules.specs.Walk.{Walked, arrived, stopped, tooLong, tableAt, tablesIn, sideBySide, points, rowOfPoint, leadsTo, goOn, follow, walking, walk}
 use Rattle.point.specs.declared.Answer.{Answer}
 use Rattle.point.specs.declared.Answer.the-variants.{Accepted, Refused as NotWalked}
 use Rattle.point.specs.declared.next_hop.Hop.{Hop}
@@ -30,57 +30,36 @@ use Rattle.walk.specs.declared.Ending.{Ending}
 use Rattle.walk.specs.declared.way.Leads.{Leads}
 use Rattle.walk.specs.declared.way.Leads.the-variants.{To, Nowhere}
 use Rattle.walk.specs.Answers.{decisionOf, nextIn}
+use Rattle.walk.specs.OnTheWay.{activeNext, stoppedAt, resumed}
 use Rattle.walk.specs.Pieces.{Pieces, pieces, pointAt}
 use Rattle.walk.proofs.Tables.{pieces-there}
 
 -- ---- where a row leads, by the hop that it gives
 
-module _ (tables : List (List ℕ)) (c : ℕ) (d : Address) where
-  no-hop : (o : Option Row) (n : ℕ) → refused n ≡ decide (alongRow c o) → none ≡ leadsTo tables c d o
-  unfolding alongRow leadsTo
+module _ (t : List ℕ) (c : ℕ) (d : Address) (h : Hop) (he : hopDecision h ≡ decide (alongRow c (rowFor t d))) where
+  no-hop : (o : Option Row) (n : ℕ) → refused n ≡ decide (alongRow c o) → none ≡ activeNext c o
+  unfolding alongRow activeNext
   no-hop none n e = refl
   no-hop (some r) n e = by (active c r) e
     where
-      by : (b : Bool) → refused n ≡ cond (not b) (refused 28) (accepted (r .next))
-          → none ≡ cond (b && (same (r .next) d || among (r .next) (points tables))) (some (r .next)) none
+      by : (b : Bool) → refused n ≡ cond (not b) (refused 28) (accepted (r .next)) → none ≡ cond b (some (r .next)) none
       by true e = let z : _≡_ {A = ℕ} 0 1 = cc in absurd (omega arith)
       by false e = refl
 
-  a-hop : (o : Option Row) (a : Address) → accepted a ≡ decide (alongRow c o)
-      → cond (same a d || among a (points tables)) (some a) none ≡ leadsTo tables c d o
-  unfolding alongRow leadsTo
+  a-hop : (o : Option Row) (a : Address) → accepted a ≡ decide (alongRow c o) → some a ≡ activeNext c o
+  unfolding alongRow activeNext
   a-hop none a e = let z : _≡_ {A = ℕ} 0 1 = cc in absurd (omega arith)
   a-hop (some r) a e = by (active c r) e
     where
-      by : (b : Bool) → accepted a ≡ cond (not b) (refused 28) (accepted (r .next))
-          → cond (same a d || among a (points tables)) (some a) none
-          ≡ cond (b && (same (r .next) d || among (r .next) (points tables))) (some (r .next)) none
-      by true e = let n : a ≡ r .next = cc in rw n
+      by : (b : Bool) → accepted a ≡ cond (not b) (refused 28) (accepted (r .next)) → some a ≡ cond b (some (r .next)) none
+      by true e = let n : a ≡ r .next = cc in ap some n
       by false e = let z : _≡_ {A = ℕ} 0 1 = cc in absurd (omega arith)
 
-  module _ (t u : List ℕ) (te : t ≡ u) (h : Hop) (he : hopDecision h ≡ decide (alongRow c (rowFor t d))) where
-    abbrev row : Option Row
-    row = rowFor u d
+  pub leads-nowhere : (n : ℕ) → h ≡ Refused n → none ≡ activeNext c (rowFor t d)
+  leads-nowhere n e = no-hop (rowFor t d) n (sym (ap hopDecision e) ∙ he)
 
-    hop-of : hopDecision h ≡ decide (alongRow c row)
-    hop-of = he ∙ ap (λ (x : List ℕ). decide (alongRow c (rowFor x d))) te
-
-    pub leads-nowhere : (n : ℕ) → h ≡ Refused n → none ≡ leadsTo tables c d row
-    leads-nowhere n e = no-hop row n (sym (ap hopDecision e) ∙ hop-of)
-
-    module _ (a : Address) (ae : h ≡ Via a) where
-      hop-a : cond (same a d || among a (points tables)) (some a) none ≡ leadsTo tables c d row
-      hop-a = a-hop row a (sym (ap hopDecision ae) ∙ hop-of)
-
-      pub leads-there : a .0 ≡ d .0 → some a ≡ leadsTo tables c d row
-      leads-there e = rw (← hop-a, eq-eqb (a .0) (d .0) e)
-
-      module _ (ne : a .0 ≡ d .0 → ⊥) (b : Bool) (be : b ≡ among a (points tables)) where
-        pub leads-off : not b ≡ true → none ≡ leadsTo tables c d row
-        leads-off e = rw (← hop-a, ne-eqb (a .0) (d .0) ne, ← be, not-true b e)
-
-        pub leads-on : not b ≡ false → some a ≡ leadsTo tables c d row
-        leads-on e = rw (← hop-a, ne-eqb (a .0) (d .0) ne, ← be, not-false b e)
+  pub leads-there : (a : Address) → h ≡ Via a → some a ≡ activeNext c (rowFor t d)
+  leads-there a e = a-hop (rowFor t d) a (sym (ap hopDecision e) ∙ he)
 
 -- ---- the row of a point, sought from the first point on: g is the row that the whole list has
 
@@ -99,56 +78,137 @@ module _ (s : List ℕ) (long n : ℕ) (a d : Address) where
           ap (λ (l : List (List ℕ)). rowOfPoint l a d) (each-next (tableAt s long) i n l)
           ∙ ap (λ (x : Address). cond (same x a) (rowFor (tableAt s long i) d) (rowFrom (i + 1))) (sym pe)
 
-      pub row-found : p .0 ≡ a .0 → (tables : List (List ℕ)) (c : ℕ) (r : Leads) → nextIn r ≡ leadsTo tables c d (rowFor (tableAt s long i) d)
-          → nextIn r ≡ leadsTo tables c d g
-      row-found e tables c r re = rw (← so-far, row-next, eq-eqb (p .0) (a .0) e) re
+      pub row-found : p .0 ≡ a .0 → (t : List ℕ) → t ≡ tableAt s long i → (c : ℕ) (r : Leads) → nextIn r ≡ activeNext c (rowFor t d)
+          → nextIn r ≡ activeNext c g
+      row-found e t te c r re = rw (← so-far, row-next, eq-eqb (p .0) (a .0) e, ← te) re
 
       pub row-more : (p .0 ≡ a .0 → ⊥) → rowFrom (i + 1) ≡ g
       row-more ne = rw (← so-far, row-next, ne-eqb (p .0) (a .0) ne)
 
-    pub row-ended : n ≤ i → (tables : List (List ℕ)) (c : ℕ) → none ≡ leadsTo tables c d g
-    unfolding leadsTo rowOfPoint
-    row-ended l tables c = rw (← so-far, each-end (tableAt s long) i n l)
+    pub row-ended : n ≤ i → (c : ℕ) → none ≡ activeNext c g
+    unfolding activeNext rowOfPoint
+    row-ended l c = rw (← so-far, each-end (tableAt s long) i n l)
+
+-- ---- what the rules make of that: the destination or a point
+
+module _ (tables : List (List ℕ)) (c : ℕ) (d : Address) where
+  leads-none : (o : Option Row) → none ≡ activeNext c o → none ≡ leadsTo tables c d o
+  unfolding activeNext leadsTo
+  leads-none none e = refl
+  leads-none (some r) e = by (active c r) e
+    where
+      by : (b : Bool) → none ≡ cond b (some (r .next)) none
+          → none ≡ cond (b && (same (r .next) d || among (r .next) (points tables))) (some (r .next)) none
+      by true e = absurd (Option·none-ne-some (r .next) e)
+      by false e = refl
+
+  leads-some : (o : Option Row) (a : Address) → some a ≡ activeNext c o
+      → cond (same a d || among a (points tables)) (some a) none ≡ leadsTo tables c d o
+  unfolding activeNext leadsTo
+  leads-some none a e = absurd (Option·none-ne-some a (sym e))
+  leads-some (some r) a e = by (active c r) e
+    where
+      by : (b : Bool) → some a ≡ cond b (some (r .next)) none
+          → cond (same a d || among a (points tables)) (some a) none
+          ≡ cond (b && (same (r .next) d || among (r .next) (points tables))) (some (r .next)) none
+      by true e = rw (Option·some-injective a (r .next) e)
+      by false e = absurd (Option·none-ne-some a (sym e))
+
+-- an address with a row is a point's
+either-row : (c : ℕ) (next : Address) (b x : Bool) (o p : Option Row) → (some next ≡ activeNext c p → x ≡ true)
+    → some next ≡ activeNext c (cond b o p) → (b || x) ≡ true
+either-row c next true x o p further e = refl
+either-row c next false x o p further e = further e
+
+row-of-a-point : (tables : List (List ℕ)) (a d next : Address) (c : ℕ) → some next ≡ activeNext c (rowOfPoint tables a d) → among a (points tables) ≡ true
+unfolding rowOfPoint among activeNext
+row-of-a-point [] a d next c e = absurd (Option·none-ne-some next (sym e))
+row-of-a-point (t ∷ tables) a d next c e =
+    either-row c next (same (addressOf t) a) (among a (points tables)) (rowFor t d) (rowOfPoint tables a d) (row-of-a-point tables a d next c) e
 
 -- ---- the way: g is how the whole walk ends
 
-module _ (tables : List (List ℕ)) (c : ℕ) (d : Address) (remaining hops : ℕ) (a : Address) (g : Walked)
-    (so-far : follow tables c d remaining a hops ≡ g) where
+pub way-start : (tables : List (List ℕ)) (c : ℕ) (d : Address) (n : ℕ) (a : Address) → among a (points tables) ≡ true
+    → resumed tables c d n a 0 0 ≡ follow tables c d n a 0
+unfolding resumed
+way-start tables c d n a e = rw (e, or-true (same a d))
+
+module _ (tables : List (List ℕ)) (c : ℕ) (d : Address) (remaining hops before : ℕ) (a : Address) (g : Walked)
+    (so-far : resumed tables c d remaining a hops before ≡ g) where
   pub way-arrived : a .0 ≡ d .0 → accepted (arrived hops) ≡ accepted g
-  unfolding follow
+  unfolding resumed follow
   way-arrived e = by remaining so-far
     where
-      by : (n : ℕ) → follow tables c d n a hops ≡ g → accepted (arrived hops) ≡ accepted g
+      by : (n : ℕ) → resumed tables c d n a hops before ≡ g → accepted (arrived hops) ≡ accepted g
       by zero h = rw (← h, eq-eqb (a .0) (d .0) e)
       by (suc n) h = rw (← h, eq-eqb (a .0) (d .0) e)
 
-  module _ (ne : a .0 ≡ d .0 → ⊥) where
-    pub way-ended : remaining ≤ 0 → accepted (tooLong hops) ≡ accepted g
-    unfolding follow
-    way-ended l = by remaining so-far l
+  pub way-ended : remaining ≤ 0 → (r : Ending) → decisionOf r ≡ accepted (resumed tables 0 d 0 a hops before) → decisionOf r ≡ accepted g
+  unfolding resumed follow
+  way-ended l r re = by remaining so-far l
+    where
+      by : (n : ℕ) → resumed tables c d n a hops before ≡ g → n ≤ 0 → decisionOf r ≡ accepted g
+      by zero h l = re ∙ ap accepted h
+      by (suc n) h l = absurd (omega arith)
+
+  module _ (ne : a .0 ≡ d .0 → ⊥) (some-left : 0 < remaining) (r : Leads) (re : nextIn r ≡ activeNext c (rowOfPoint tables a d)) where
+    pub way-stopped : r ≡ Nowhere → (end : Ending) → decisionOf end ≡ accepted (stoppedAt tables a hops before) → decisionOf end ≡ accepted g
+    unfolding resumed follow stoppedAt
+    way-stopped e end ee = ee ∙ ap accepted (by remaining so-far some-left)
       where
-        by : (n : ℕ) → follow tables c d n a hops ≡ g → n ≤ 0 → accepted (tooLong hops) ≡ accepted g
-        by zero h l = rw (← h, ne-eqb (a .0) (d .0) ne)
-        by (suc n) h l = absurd (omega arith)
+        nowhere : none ≡ leadsTo tables c d (rowOfPoint tables a d)
+        nowhere = leads-none tables c d (rowOfPoint tables a d) (sym (ap nextIn e) ∙ re)
 
-    module _ (some-left : 0 < remaining) (r : Leads) (re : nextIn r ≡ leadsTo tables c d (rowOfPoint tables a d)) where
-      pub way-stopped : r ≡ Nowhere → accepted (stopped hops) ≡ accepted g
-      unfolding follow
-      way-stopped e = by remaining so-far some-left
-        where
-          by : (n : ℕ) → follow tables c d n a hops ≡ g → 0 < n → accepted (stopped hops) ≡ accepted g
-          by zero h l = absurd (omega arith)
-          by (suc n) h l = rw (← h, ne-eqb (a .0) (d .0) ne, ← re, e)
+        by : (n : ℕ) → resumed tables c d n a hops before ≡ g → 0 < n → stoppedAt tables a hops before ≡ g
+        by zero h l = absurd (omega arith)
+        by (suc n) h l = rw (← h, ne-eqb (a .0) (d .0) ne, ← nowhere)
 
-      pub way-more : (next : Address) → r ≡ To next → follow tables c d (remaining - 1) next (hops + 1) ≡ g
-      unfolding follow
-      way-more next e = by remaining so-far some-left
-        where
-          by : (n : ℕ) → follow tables c d n a hops ≡ g → 0 < n → follow tables c d (n - 1) next (hops + 1) ≡ g
-          by zero h l = absurd (omega arith)
-          by (suc n) h l = let m : suc n - 1 ≡ n = omega arith in rw (← h, ne-eqb (a .0) (d .0) ne, ← re, e, m)
+    pub way-more : (next : Address) → r ≡ To next → resumed tables c d (remaining - 1) next (hops + 1) hops ≡ g
+    unfolding resumed follow
+    way-more next e = by remaining so-far some-left
+      where
+        on : some next ≡ activeNext c (rowOfPoint tables a d)
+        on = sym (ap nextIn e) ∙ re
+
+        led : (n : ℕ) (b : Bool) → goOn tables c d (cond b (some next) none) hops (follow tables c d n) ≡ cond b (follow tables c d n next (hops + 1)) (stopped hops)
+        led n true = refl
+        led n false = refl
+
+        by : (n : ℕ) → resumed tables c d n a hops before ≡ g → 0 < n → resumed tables c d (n - 1) next (hops + 1) hops ≡ g
+        by zero h l = absurd (omega arith)
+        by (suc n) h l =
+            let m : suc n - 1 ≡ n = omega arith in
+            rw (← h, ne-eqb (a .0) (d .0) ne, row-of-a-point tables a d next c on, ← leads-some tables c d (rowOfPoint tables a d) next on, m)
+            (sym (led n (same next d || among next (points tables))))
+
+-- ---- where it stops
+
+module _ (tables : List (List ℕ)) (a : Address) (hops before : ℕ) (b : Bool) (be : b ≡ among a (points tables)) where
+  pub stopped-on : b ≡ true → accepted (stopped hops) ≡ accepted (stoppedAt tables a hops before)
+  unfolding stoppedAt
+  stopped-on e = rw (← be, e)
+
+  pub stopped-off : b ≡ false → accepted (stopped before) ≡ accepted (stoppedAt tables a hops before)
+  unfolding stoppedAt
+  stopped-off e = rw (← be, e)
+
+  module _ (d : Address) (ne : a .0 ≡ d .0 → ⊥) where
+    pub ended-off : not b ≡ true → accepted (stopped before) ≡ accepted (resumed tables 0 d 0 a hops before)
+    unfolding resumed
+    ended-off e = rw (ne-eqb (a .0) (d .0) ne, ← be, not-true b e)
+
+    pub ended-on : not b ≡ false → accepted (tooLong hops) ≡ accepted (resumed tables 0 d 0 a hops before)
+    unfolding resumed follow
+    ended-on e = rw (ne-eqb (a .0) (d .0) ne, ← be, not-false b e)
+
+pub ended-there : (tables : List (List ℕ)) (a d : Address) (hops before : ℕ) → a .0 ≡ d .0 → accepted (arrived hops) ≡ accepted (resumed tables 0 d 0 a hops before)
+ended-there tables a d hops before = way-arrived tables 0 d 0 hops before a (resumed tables 0 d 0 a hops before) refl
 
 -- ---- the call, by what its checks answer
+
+not-among-passed : (a b : Bool) → (not a || b) ≡ false → a ≡ true
+not-among-passed true b e = refl
+not-among-passed false b e = sym e
 
 module _ (s : List ℕ) (count c : ℕ) (start d : Address) (a : Answer) (ae : a ≡ answerTo (walking s count c start d .checks)) where
   abbrev way : Walked
@@ -165,6 +225,11 @@ module _ (s : List ℕ) (count c : ℕ) (start d : Address) (a : Answer) (ae : a
     pub pieces-accepted : Pieces s (length s / count) count
     pieces-accepted =
         pieces-there s count (sideBySide s count) refl (answer-passed (walking s count c start d .checks) (sym ok ∙ ae) .0)
+
+    pub start-accepted : among start (points (tablesIn s count)) ≡ true
+    start-accepted =
+        not-among-passed (among start (points (tablesIn s count))) (twice (points (tablesIn s count)))
+        (answer-passed (walking s count c start d .checks) (sym ok ∙ ae) .1 .1 .1 .0)
 
     pub count-accepted : 0 < count
     count-accepted = pieces-accepted .some-piece

@@ -1,2 +1,3 @@
 pub mod Answers
+pub mod OnTheWay
 pub mod Pieces

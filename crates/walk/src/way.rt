@@ -7,41 +7,31 @@ use point::next_hop;
 use point::next_hop::Hop;
 use table::address::Address;
 ghost use mathlib.Core.Path.{_≡_};
-ghost use Prim.Native.Nat.{_<_};
+ghost use mathlib.Core.Bool.{Bool};
+ghost use Prim.Native.Nat.{_≤_};
+ghost use lib.ListN.{length};
 ghost use Rattle.table.specs.Table.{rowFor};
+ghost use Rattle.element.specs.Lists.{among};
 ghost use Rattle.rules.specs.Decision.{accepted};
-ghost use Rattle.rules.specs.Walk.{follow, leadsTo, rowOfPoint, tableAt};
+ghost use Rattle.rules.specs.Walk.{follow, points, rowOfPoint};
 ghost use Rattle.walk.specs.Answers.{decisionOf, nextIn};
+ghost use Rattle.walk.specs.OnTheWay.{activeNext, resumed, stoppedAt};
 ghost use Rattle.walk.specs.Pieces.{Pieces, pieces};
 
-// Where a point's row leads.
+// Where a point's row leads, if it is active.
 pub enum Leads {
     To(Address),
     Nowhere,
 }
 
-// By the row in table i.
-fn next_in(
-    tables: &[u8],
-    long: usize,
-    count: usize,
-    i: usize,
-    clock: u64,
-    destination: Address,
-) -> Leads
-    requires { ⌜ Pieces (now tables) long count ⌝ }
-    requires { ⌜ i < count ⌝ }
-    ensures { λ r. ⌜ nextIn r ≡ leadsTo (pieces (now (tables .entry)) long count) clock destination (rowFor (tableAt (now (tables .entry)) long i) destination) ⌝ }
+// By the row that a table has for the destination.
+fn next_in(table: &[u8], clock: u64, destination: Address) -> Leads
+    requires { ⌜ 32 ≤ length (now table) ⌝ }
+    ensures { λ r. ⌜ nextIn r ≡ activeNext clock (rowFor (now (table .entry)) destination) ⌝ }
 {
-    let Hop::Via(next) = next_hop::along_row(table_at(tables, long, i), clock, destination) else {
+    let Hop::Via(next) = next_hop::along_row(table, clock, destination) else {
         return Leads::Nowhere;
     };
-    if next.0 == destination.0 {
-        return Leads::To(next);
-    }
-    if !pieces::is_point(tables, long, count, next) {
-        return Leads::Nowhere;
-    }
     Leads::To(next)
 }
 
@@ -55,18 +45,52 @@ fn next_from(
     destination: Address,
 ) -> Leads
     requires { ⌜ Pieces (now tables) long count ⌝ }
-    ensures { λ r. ⌜ nextIn r ≡ leadsTo (pieces (now (tables .entry)) long count) clock destination (rowOfPoint (pieces (now (tables .entry)) long count) at destination) ⌝ }
+    ensures { λ r. ⌜ nextIn r ≡ activeNext clock (rowOfPoint (pieces (now (tables .entry)) long count) at destination) ⌝ }
 {
     let mut i = 0;
     while i < count {
         if pieces::point_at(tables, long, count, i).0 == at.0 {
-            return next_in(tables, long, count, i, clock, destination);
+            return next_in(table_at(tables, long, i), clock, destination);
         }
         i += 1;
     }
     Leads::Nowhere
 }
 
+// No active row leads on from an address. If that is no point's, the hop to it is not counted.
+fn stopped(tables: &[u8], long: usize, count: usize, at: Address, hops: u8, before: u8) -> Ending
+    requires { ⌜ Pieces (now tables) long count ⌝ }
+    ensures { λ r. ⌜ decisionOf r ≡ accepted (stoppedAt (pieces (now (tables .entry)) long count) at hops before) ⌝ }
+{
+    if pieces::is_point(tables, long, count, at) {
+        return Ending::Stopped(HopCount(hops));
+    }
+    Ending::Stopped(HopCount(before))
+}
+
+// After as many hops as there are points, the last of which may lead to no point.
+fn ended(
+    tables: &[u8],
+    long: usize,
+    count: usize,
+    at: Address,
+    hops: u8,
+    before: u8,
+    destination: Address,
+) -> Ending
+    requires { ⌜ Pieces (now tables) long count ⌝ }
+    ensures { λ r. ⌜ decisionOf r ≡ accepted (resumed (pieces (now (tables .entry)) long count) 0 destination 0 at hops before) ⌝ }
+{
+    if at.0 == destination.0 {
+        return Ending::Arrived(HopCount(hops));
+    }
+    if !pieces::is_point(tables, long, count, at) {
+        return Ending::Stopped(HopCount(before));
+    }
+    Ending::TooLong(HopCount(hops))
+}
+
+// Whether a next hop is a point is seen where the walk goes on from it: so each is looked up once.
 pub fn follow(
     tables: &[u8],
     long: usize,
@@ -76,9 +100,11 @@ pub fn follow(
     destination: Address,
 ) -> Ending
     requires { ⌜ Pieces (now tables) long count ⌝ }
+    requires { ⌜ among start (points (pieces (now tables) long count)) ≡ Bool.true ⌝ }
     ensures { λ r. ⌜ decisionOf r ≡ accepted (follow (pieces (now (tables .entry)) long count) clock destination count start 0) ⌝ }
 {
     let mut at = start;
+    let mut before = 0u8;
     let mut hops = 0u8;
     let mut remaining = count;
     while 0 < remaining {
@@ -86,14 +112,12 @@ pub fn follow(
             return Ending::Arrived(HopCount(hops));
         }
         let Leads::To(next) = next_from(tables, long, count, at, clock, destination) else {
-            return Ending::Stopped(HopCount(hops));
+            return stopped(tables, long, count, at, hops, before);
         };
         at = next;
+        before = hops;
         hops += 1;
         remaining -= 1;
     }
-    if at.0 == destination.0 {
-        return Ending::Arrived(HopCount(hops));
-    }
-    Ending::TooLong(HopCount(hops))
+    ended(tables, long, count, at, hops, before, destination)
 }

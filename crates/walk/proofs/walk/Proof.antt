@@ -1,6 +1,6 @@
 -- `walk::walk` meets its contract: refused as the checks say, else the way. Assumes nothing.
 use borrow.Author.Needs.{needs}
-use Rattle.walk.proofs.Ways.{count-accepted, pieces-accepted, walk-accepted, walk-refused}
+use Rattle.walk.proofs.Ways.{count-accepted, pieces-accepted, start-accepted, walk-accepted, walk-refused}
 use Rattle.walk.proofs.walk.Statement.{statement}
 use Rattle.walk.proofs.walk.Tie as tie
 
@@ -11,7 +11,7 @@ walk-spec =
     (λ c κs. search needs)
     (λ c. search needs)
     (λ c. search count-accepted)
-    (λ c κs. search pieces-accepted)
+    (λ c κs. (search pieces-accepted, search start-accepted))
     (λ c. search needs)
     (λ c. search walk-accepted)
     (λ c. search walk-refused))
