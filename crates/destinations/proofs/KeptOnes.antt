@@ -32,7 +32,7 @@ use Rattle.destinations.specs.declared.answering.Answering.{Answering}
 use Rattle.destinations.specs.declared.answering.Answering.the-variants.{By, Nobody}
 use Rattle.destinations.specs.declared.kept.Kept.{Kept}
 use Rattle.destinations.specs.declared.kept.Kept.the-variants.{As, Struck}
-use Rattle.destinations.specs.Answering.{rowIn, answeringRow}
+use Rattle.destinations.specs.Answering.{answeringIn, answeringRow}
 use Rattle.destinations.specs.Kept.{keptIn, keptBy, keptOf, keptOctets, keptAmong}
 use Rattle.destinations.proofs.AnsweringRows.{anotherBy, answering-is}
 
@@ -49,17 +49,17 @@ module _ (t : List ℕ) (c : ℕ) (q : Target) where
       unfolding keptOf
       ones-kept e = rw (is-other t h he (q .address) not-own, eq-eqb (q .address .0) 281474976710655 e)
 
-      module _ (not-ones : q .address .0 ≡ 281474976710655 → ⊥) (x : Answering) (xe : rowIn x ≡ answeringRow t c q) where
-        another-kept : keptBy q (rowIn x) ≡ keptOf t c q
+      module _ (not-ones : q .address .0 ≡ 281474976710655 → ⊥) (x : Answering) (xe : answeringIn x ≡ answeringRow t c q) where
+        another-kept : keptBy q (answeringIn x) ≡ keptOf t c q
         unfolding keptOf
         another-kept = rw (is-other t h he (q .address) not-own, ne-eqb (q .address .0) 281474976710655 not-ones, ← xe)
 
         pub unanswered-kept : x ≡ Nobody → q ∷ [] ≡ keptOf t c q
-        unanswered-kept e = ap (λ (y : Answering). keptBy q (rowIn y)) (sym e) ∙ another-kept
+        unanswered-kept e = ap (λ (y : Answering). keptBy q (answeringIn y)) (sym e) ∙ another-kept
 
         module _ (r : Row) (by-r : x ≡ By r) (b : Bool) (be : b ≡ hasRF q) where
           after-reply : keptAfterReply q ≡ keptOf t c q
-          after-reply = ap (λ (y : Answering). keptBy q (rowIn y)) (sym by-r) ∙ another-kept
+          after-reply = ap (λ (y : Answering). keptBy q (answeringIn y)) (sym by-r) ∙ another-kept
 
           pub answered-struck : not b ≡ true → [] ≡ keptOf t c q
           answered-struck e = rw (← after-reply, ← be, not-true b e)

@@ -38,7 +38,7 @@ use Rattle.rules.proofs.FrameOctets.{one-frame, frames-append}
 use Rattle.destinations.specs.declared.answering.Answering.{Answering}
 use Rattle.destinations.specs.declared.answering.Answering.the-variants.{By, Nobody}
 use Rattle.destinations.specs.declared.replies.Replied.{Replied}
-use Rattle.destinations.specs.Answering.{rowIn, answeringRow}
+use Rattle.destinations.specs.Answering.{answeringIn, answeringRow}
 use Rattle.destinations.specs.Replies.{repliedFrom}
 use Rattle.destinations.proofs.AnsweringRows.{anotherBy, answering-is}
 
@@ -107,16 +107,16 @@ module _ (before : Replied) where
 
 -- ---- to another, by the row that answers
 
-module _ (t : List ℕ) (a : Arrival) (p : PathInfo) (q : Target) (before : Replied) (x : Answering) (xe : rowIn x ≡ answeringRow t (a .clock) q) where
+module _ (t : List ℕ) (a : Arrival) (p : PathInfo) (q : Target) (before : Replied) (x : Answering) (xe : answeringIn x ≡ answeringRow t (a .clock) q) where
   abbrev toAnother : Answered
   toAnother = forAnother t a p (before .number) q (rowFor t (q .address))
 
-  another-is : toAnother ≡ anotherBy t a p (before .number) q (rowIn x)
+  another-is : toAnother ≡ anotherBy t a p (before .number) q (answeringIn x)
   another-is = answering-is t a p (before .number) q ∙ ap (anotherBy t a p (before .number) q) (sym xe)
 
   module _ (e : x ≡ Nobody) where
     unanswered : toAnother ≡ anotherBy t a p (before .number) q none
-    unanswered = another-is ∙ ap (λ (y : Answering). anotherBy t a p (before .number) q (rowIn y)) e
+    unanswered = another-is ∙ ap (λ (y : Answering). anotherBy t a p (before .number) q (answeringIn y)) e
 
     pub another-silent-place : before ≡ repliedFrom (before .place) toAnother
     another-silent-place = silent-place before toAnother (ap (λ (y : Answered). y .replies) unanswered) (ap (λ (y : Answered). y .number) unanswered)
@@ -126,7 +126,7 @@ module _ (t : List ℕ) (a : Arrival) (p : PathInfo) (q : Target) (before : Repl
 
   module _ (r : Row) (e : x ≡ By r) (f : RrepFields) (fe : f ≡ replyFields p (r .destination) (r .number) (r .hops) (r .metric)) where
     row-answer : toAnother ≡ anotherBy t a p (before .number) q (some r)
-    row-answer = another-is ∙ ap (λ (y : Answering). anotherBy t a p (before .number) q (rowIn y)) e
+    row-answer = another-is ∙ ap (λ (y : Answering). anotherBy t a p (before .number) q (answeringIn y)) e
 
     row-said : toAnother .replies ≡ record { receiver = a .transmitter; element = rrep f [] } ∷ []
     unfolding reply

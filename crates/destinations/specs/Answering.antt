@@ -11,9 +11,9 @@ use Rattle.rules.specs.Destinations.{answersFor}
 use Rattle.destinations.specs.declared.answering.Answering.{Answering}
 use Rattle.destinations.specs.declared.answering.Answering.the-variants.{By, Nobody}
 
-abbrev pub rowIn : Answering → Option Row
-rowIn (By r) = some r
-rowIn Nobody = none
+abbrev pub answeringIn : Answering → Option Row
+answeringIn (By r) = some r
+answeringIn Nobody = none
 
 -- the row if it answers
 abbrev pub ifAnswers : ℕ → Target → Option Row → Option Row

@@ -9,7 +9,7 @@ ghost use mathlib.Core.Path.{_≡_};
 ghost use Prim.Native.Nat.{_≤_};
 ghost use lib.ListN.{length};
 ghost use Rattle.rules.specs.Destinations.{answersFor};
-ghost use Rattle.destinations.specs.Answering.{answeringRow, rowIn};
+ghost use Rattle.destinations.specs.Answering.{answeringRow, answeringIn};
 
 // The row that an intermediate reply is made from, if there is one.
 pub enum Answering {
@@ -37,7 +37,7 @@ fn answers_for(clock: u64, q: Target, r: Row) -> bool
 // With DO = 1 no row is looked for.
 pub fn answering_row(table: &[u8], clock: u64, q: Target) -> Answering
     requires { ⌜ 32 ≤ length (now table) ⌝ }
-    ensures { λ r. ⌜ rowIn r ≡ answeringRow (now (table .entry)) clock q ⌝ }
+    ensures { λ r. ⌜ answeringIn r ≡ answeringRow (now (table .entry)) clock q ⌝ }
 {
     if flags::has_do(q) {
         return Answering::Nobody;

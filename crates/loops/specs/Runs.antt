@@ -122,15 +122,15 @@ unfoldable pub heldIn : Run → Mesh → List ℕ
 heldIn r m = map (λ (n : SequenceNumber). n .0) (flatMap (held (r .destination)) (m .tables))
 
 -- the lines of the bench for calls: for each event the answer and how many frames are emitted; 0 and 0 where it is no call
-abbrev pub decisionOf : Rules → ℕ → Option (List ℕ) → Option Call → Decision Effect
-decisionOf rules room none call = refused 0
-decisionOf rules room (some t) none = refused 0
-decisionOf rules room (some t) (some call) = rules t room call
+abbrev pub decisionAt : Rules → ℕ → Option (List ℕ) → Option Call → Decision Effect
+decisionAt rules room none call = refused 0
+decisionAt rules room (some t) none = refused 0
+decisionAt rules room (some t) (some call) = rules t room call
 
 unfoldable pub linesFrom : Rules → Mesh → List Event → List ℕ
 linesFrom rules m [] = []
 linesFrom rules m (e ∷ events) =
-    let x : Exit = atExit [] [] (decisionOf rules (e .room) (tableOf (e .point) (m .tables)) (callOf (m .log) (e .action))) in
+    let x : Exit = atExit [] [] (decisionAt rules (e .room) (tableOf (e .point) (m .tables)) (callOf (m .log) (e .action))) in
     x .answer ∷ x .frames ∷ linesFrom rules (happen rules m e) events
 
 unfoldable pub lines : Rules → Run → List ℕ

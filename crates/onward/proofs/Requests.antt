@@ -28,7 +28,7 @@ use Rattle.destinations.specs.Kept.{keptOf, keptAmong}
 use Rattle.destinations.proofs.KeptOnes.{kept-address, kept-few}
 use Rattle.onward.specs.declared.receiver.Receiver.{Receiver}
 use Rattle.onward.specs.declared.receiver.Receiver.the-variants.{To, Nobody}
-use Rattle.onward.specs.Sent.{sentTo, activeHop, requestReceiver, rreqForward, sentWith, sentBy, requestSent, unicastToSeveral}
+use Rattle.onward.specs.Sent.{sentTo, activeHop, requestReceiver, rreqForward, sentWith, keptSentTo, requestSent, unicastToSeveral}
 use Rattle.onward.proofs.Going.{none-counted, none-written, one-counted, one-written, towards-is}
 
 -- ---- to whom
@@ -103,9 +103,9 @@ module _ (t : List ℕ) (c : ℕ) (part : List ℕ) (to : Address) (f : RreqFiel
 -- ---- to its receiver, if there is one
 
 module _ (t : List ℕ) (c : ℕ) (f : RreqFields) (part : List ℕ) (x : Receiver) (xe : x ≡ requestReceiver t c (f .path) part) where
-  sent-by : (y : Receiver) → x ≡ y → requestSent t c f part ≡ sentBy f (keptAmong t c part) y
+  sent-by : (y : Receiver) → x ≡ y → requestSent t c f part ≡ keptSentTo f (keptAmong t c part) y
   unfolding requestSent
-  sent-by y e = ap (sentBy f (keptAmong t c part)) (sym xe ∙ e)
+  sent-by y e = ap (keptSentTo f (keptAmong t c part)) (sym xe ∙ e)
 
   module _ (e : x ≡ Nobody) where
     pub request-none : (em : Emitted) → em ≡ emitted [] → em ≡ emitted (requestSent t c f part)
@@ -142,17 +142,17 @@ module _ (t : List ℕ) (a : Arrival) (f : RreqFields) where
     abbrev receiverFor : Bool → Receiver
     receiverFor b = cond b (activeHop (a .clock) (rowFor t d)) (To allOnes)
 
-    sent-as : (q : Target) (qs : List Target) (x : Receiver) → sentTo (rreq (rreqForward a f) (q ∷ qs)) x ≡ sentBy (rreqForward a f) (q ∷ qs) x
+    sent-as : (q : Target) (qs : List Target) (x : Receiver) → sentTo (rreq (rreqForward a f) (q ∷ qs)) x ≡ keptSentTo (rreqForward a f) (q ∷ qs) x
     unfolding sentWith
     sent-as q qs (To to) = refl
     sent-as q qs Nobody = refl
 
     goes-by : (kept : List Target) → (unicast (f .path) ≡ true → All (λ (k : Target). k .address ≡ d) kept)
-        → rreqOnward t a f kept ≡ sentBy (rreqForward a f) kept (receiverFor (unicast (f .path)))
+        → rreqOnward t a f kept ≡ keptSentTo (rreqForward a f) kept (receiverFor (unicast (f .path)))
     unfolding rreqOnward sentWith All
     goes-by [] h = by (receiverFor (unicast (f .path)))
       where
-        by : (x : Receiver) → [] ≡ sentBy (rreqForward a f) [] x
+        by : (x : Receiver) → [] ≡ keptSentTo (rreqForward a f) [] x
         by (To to) = refl
         by Nobody = refl
     goes-by (q ∷ qs) h = rw (le-ltb (f .path .ttl) 2 left) (by (unicast (f .path)) h)
@@ -161,7 +161,7 @@ module _ (t : List ℕ) (a : Arrival) (f : RreqFields) where
         e = rreq (rreqForward a f) (q ∷ qs)
 
         by : (b : Bool) → (b ≡ true → All (λ (k : Target). k .address ≡ d) (q ∷ qs))
-            → cond b (towards (a .clock) e (rowFor t (q .address))) (toAll e) ≡ sentBy (rreqForward a f) (q ∷ qs) (receiverFor b)
+            → cond b (towards (a .clock) e (rowFor t (q .address))) (toAll e) ≡ keptSentTo (rreqForward a f) (q ∷ qs) (receiverFor b)
         by true h =
             towards-is (a .clock) e (rowFor t (q .address)) ∙ ap (λ (k : Address). sentTo e (activeHop (a .clock) (rowFor t k))) (h refl .0)
             ∙ sent-as q qs (activeHop (a .clock) (rowFor t d))

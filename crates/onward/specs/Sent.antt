@@ -62,10 +62,10 @@ sentWith to f [] = []
 sentWith to f (q ∷ qs) = record { receiver = to; element = rreq f (q ∷ qs) } ∷ []
 
 -- the same to a receiver, if there is one
-abbrev pub sentBy : RreqFields → List Target → Receiver → List Frame
-sentBy f kept (To to) = sentWith to f kept
-sentBy f kept Nobody = []
+abbrev pub keptSentTo : RreqFields → List Target → Receiver → List Frame
+keptSentTo f kept (To to) = sentWith to f kept
+keptSentTo f kept Nobody = []
 
 -- a RREQ with the destinations of part that are kept, to its receiver
 unfoldable pub requestSent : List ℕ → ℕ → RreqFields → List ℕ → List Frame
-requestSent t c f part = sentBy f (keptAmong t c part) (requestReceiver t c (f .path) part)
+requestSent t c f part = keptSentTo f (keptAmong t c part) (requestReceiver t c (f .path) part)

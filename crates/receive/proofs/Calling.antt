@@ -26,7 +26,7 @@ use Rattle.point.specs.declared.Outcome.the-variants.{Refused as NotDone}
 use Rattle.point.specs.Answers.{answerTo, exits}
 use Rattle.point.proofs.Checks.{answer-passed, part-refused, part-decided, refusal, table-long, table-short, output-long}
 use Rattle.receive.specs.Checks.{arrivalChecks}
-use Rattle.receive.specs.Judged.{judged, readingOctets, judgedOctets}
+use Rattle.receive.specs.Judged.{judgedElement, readingOctets, judgedOctets}
 
 -- ---- the first checks
 
@@ -71,11 +71,11 @@ module _ (t : List ℕ) (a : Arrival) (s : List ℕ) (r : Reading) (re : r ≡ r
   never-unread (rerr flags destinations) n h = let z : _≡_ {A = ℕ} 0 1 = cc in omega arith
 
   unread : (n : ℕ) → r ≡ Unread n → refused n ≡ judgedOctets t a s
-  unfolding reading judgedOctets judged
+  unfolding reading judgedOctets judgedElement
   unread n e = by (wrongLength s) (otherId s) (misfit s) (sym e ∙ re)
     where
       by : (x y z : Bool) → Unread n ≡ cond x (Unread 6) (cond y (Unread 7) (cond z (Unread 8) (fixedFields (readElement s))))
-          → refused n ≡ cond x (refused 6) (cond y (refused 7) (cond z (refused 8) (judged t a (readElement s))))
+          → refused n ≡ cond x (refused 6) (cond y (refused 7) (cond z (refused 8) (judgedElement t a (readElement s))))
       by true y z h = cc
       by false true z h = cc
       by false false true h = cc
@@ -92,31 +92,31 @@ module _ (t : List ℕ) (a : Arrival) (s : List ℕ) (r : Reading) (re : r ≡ r
   isUnread (Error flags) = false
   isUnread (Unread n) = true
 
-  read-so : isUnread r ≡ false → judged t a (readElement s) ≡ judgedOctets t a s
-  unfolding reading judgedOctets judged
+  read-so : isUnread r ≡ false → judgedElement t a (readElement s) ≡ judgedOctets t a s
+  unfolding reading judgedOctets judgedElement
   read-so e = by (wrongLength s) (otherId s) (misfit s) re
     where
       by : (x y z : Bool) → r ≡ cond x (Unread 6) (cond y (Unread 7) (cond z (Unread 8) (fixedFields (readElement s))))
-          → judged t a (readElement s) ≡ cond x (refused 6) (cond y (refused 7) (cond z (refused 8) (judged t a (readElement s))))
+          → judgedElement t a (readElement s) ≡ cond x (refused 6) (cond y (refused 7) (cond z (refused 8) (judgedElement t a (readElement s))))
       by true y z h = absurd (false≢true (sym e ∙ ap isUnread h))
       by false true z h = absurd (false≢true (sym e ∙ ap isUnread h))
       by false false true h = absurd (false≢true (sym e ∙ ap isUnread h))
       by false false false h = refl
 
   module _ (output : List ℕ) (x : Exit) where
-    read-as : (q : Reading) → r ≡ q → isUnread q ≡ false → (e : Element) → readElement s ≡ e → x ≡ atExit t output (judged t a e) → x ≡ atExit t output (judgedOctets t a s)
+    read-as : (q : Reading) → r ≡ q → isUnread q ≡ false → (e : Element) → readElement s ≡ e → x ≡ atExit t output (judgedElement t a e) → x ≡ atExit t output (judgedOctets t a s)
     read-as q rq so e ee xe =
-        xe ∙ ap (λ (y : Element). atExit t output (judged t a y)) (sym ee) ∙ ap (atExit t output) (read-so (ap isUnread rq ∙ so))
+        xe ∙ ap (λ (y : Element). atExit t output (judgedElement t a y)) (sym ee) ∙ ap (atExit t output) (read-so (ap isUnread rq ∙ so))
 
-    pub rann-read : (p : PathInfo) → r ≡ Announcement p → x ≡ atExit t output (judged t a (rann p)) → x ≡ atExit t output (judgedOctets t a s)
+    pub rann-read : (p : PathInfo) → r ≡ Announcement p → x ≡ atExit t output (judgedElement t a (rann p)) → x ≡ atExit t output (judgedOctets t a s)
     rann-read p e = read-as (Announcement p) e refl (rann p) (announcement-element s r re p e)
 
     module _ (part : List ℕ) (pe : part ≡ listPart s) where
-      pub rreq-read : (f : RreqFields) → r ≡ Request f → x ≡ atExit t output (judged t a (rreq f (targetsIn part))) → x ≡ atExit t output (judgedOctets t a s)
+      pub rreq-read : (f : RreqFields) → r ≡ Request f → x ≡ atExit t output (judgedElement t a (rreq f (targetsIn part))) → x ≡ atExit t output (judgedOctets t a s)
       rreq-read f e = read-as (Request f) e refl (rreq f (targetsIn part)) (request-element s r re f e part pe)
 
-      pub rrep-read : (f : RrepFields) → r ≡ Reply f → x ≡ atExit t output (judged t a (rrep f (numberedIn part))) → x ≡ atExit t output (judgedOctets t a s)
+      pub rrep-read : (f : RrepFields) → r ≡ Reply f → x ≡ atExit t output (judgedElement t a (rrep f (numberedIn part))) → x ≡ atExit t output (judgedOctets t a s)
       rrep-read f e = read-as (Reply f) e refl (rrep f (numberedIn part)) (reply-element s r re f e part pe)
 
-      pub rerr-read : (flags : ℕ) → r ≡ Error flags → x ≡ atExit t output (judged t a (rerr flags (numberedIn part))) → x ≡ atExit t output (judgedOctets t a s)
+      pub rerr-read : (flags : ℕ) → r ≡ Error flags → x ≡ atExit t output (judgedElement t a (rerr flags (numberedIn part))) → x ≡ atExit t output (judgedOctets t a s)
       rerr-read flags e = read-as (Error flags) e refl (rerr flags (numberedIn part)) (error-element s r re flags e part pe)

@@ -33,7 +33,7 @@ use Rattle.point.proofs.Checks.{answer-passed, refusal, acceptance}
 use Rattle.onward.specs.Sent.{unicastToSeveral}
 use Rattle.receive.specs.declared.faults.Faults.{Faults}
 use Rattle.receive.specs.Checks.{faultsOf, pathChecks, errorChecks}
-use Rattle.receive.specs.Judged.{elementChecks, judged}
+use Rattle.receive.specs.Judged.{elementChecks, judgedElement}
 
 -- ---- the parts are the checks of an element
 
@@ -62,13 +62,13 @@ module _ (t : List ℕ) (a : Arrival) (r : Answer) where
 -- ---- what the answer says
 
 module _ (t : List ℕ) (a : Arrival) (e : Element) (r : Answer) (re : r ≡ answerTo (elementChecks t a e)) where
-  pub element-refused : (output : List ℕ) (n : ℕ) → r ≡ Refused n → exits (NotDone n) t output ≡ atExit t output (judged t a e)
-  unfolding elementChecks judged
+  pub element-refused : (output : List ℕ) (n : ℕ) → r ≡ Refused n → exits (NotDone n) t output ≡ atExit t output (judgedElement t a e)
+  unfolding elementChecks judgedElement
   element-refused output = refusal t output (judging t a e) r re
 
   module _ (ok : r ≡ Accepted) where
-    pub element-accepted : (output : List ℕ) (x : Exit) → x ≡ atExit t output (accepted (received t a e)) → x ≡ atExit t output (judged t a e)
-    unfolding elementChecks judged
+    pub element-accepted : (output : List ℕ) (x : Exit) → x ≡ atExit t output (accepted (received t a e)) → x ≡ atExit t output (judgedElement t a e)
+    unfolding elementChecks judgedElement
     element-accepted output = acceptance t output (judging t a e) r re ok
 
     none-applied : Passed (judging t a e .checks)

@@ -13,8 +13,8 @@ use Rattle.rules.specs.Receive.{judging}
 unfoldable pub elementChecks : List ℕ → Arrival → Element → List Check
 elementChecks t a e = judging t a e .checks
 
-unfoldable pub judged : List ℕ → Arrival → Element → Decision Effect
-judged t a e = decide (judging t a e)
+unfoldable pub judgedElement : List ℕ → Arrival → Element → Decision Effect
+judgedElement t a e = decide (judging t a e)
 
 -- the octets of an element: from 6 on
 abbrev pub readingOctets : List ℕ → Arrival → List ℕ → Ruling Effect

@@ -17,7 +17,7 @@ ghost use Rattle.rules.specs.Decision.{accepted};
 ghost use Rattle.rules.specs.Outcome.{atExit};
 ghost use Rattle.rules.specs.Receive.{received};
 ghost use Rattle.point.specs.Answers.{answerTo, exits};
-ghost use Rattle.receive.specs.Judged.{elementChecks, judged};
+ghost use Rattle.receive.specs.Judged.{elementChecks, judgedElement};
 
 fn check(table: &[u8], a: Arrival, p: PathInfo) -> Answer
     requires { ⌜ 32 ≤ length (now table) ⌝ }
@@ -48,7 +48,7 @@ pub fn receive(table: &mut [u8], output: &mut [u8], a: Arrival, p: PathInfo) -> 
     requires { ⌜ length (now table) ≤ 4128 ⌝ }
     requires { ⌜ 1560 ≤ length (now output) ⌝ }
     requires { ⌜ a .clock ≤ 281474976710655 ⌝ }
-    ensures { λ r. ⌜ exits r (now (table .exit)) (now (output .exit)) ≡ atExit (now (table .entry)) (now (output .entry)) (judged (now (table .entry)) a (rann p)) ⌝ }
+    ensures { λ r. ⌜ exits r (now (table .exit)) (now (output .exit)) ≡ atExit (now (table .entry)) (now (output .entry)) (judgedElement (now (table .entry)) a (rann p)) ⌝ }
 {
     match check(table, a, p) {
         Answer::Accepted => take(table, output, a, p),

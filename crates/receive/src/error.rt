@@ -25,7 +25,7 @@ ghost use Rattle.rules.specs.Receive.{received};
 ghost use Rattle.point.specs.Answers.{answerTo, exits};
 ghost use Rattle.point.specs.Checks.{stateChecks};
 ghost use Rattle.receive.specs.Checks.{listChecks, matchChecks};
-ghost use Rattle.receive.specs.Judged.{elementChecks, judged};
+ghost use Rattle.receive.specs.Judged.{elementChecks, judgedElement};
 
 // By its destinations alone: 9 and 10.
 fn check_list(part: &[u8]) -> Answer
@@ -84,7 +84,7 @@ pub fn receive(table: &mut [u8], output: &mut [u8], a: Arrival, flags: u8, part:
     requires { ⌜ 32 ≤ length (now table) ⌝ }
     requires { ⌜ 1560 ≤ length (now output) ⌝ }
     requires { ⌜ length (now part) ≤ 250 ⌝ }
-    ensures { λ r. ⌜ exits r (now (table .exit)) (now (output .exit)) ≡ atExit (now (table .entry)) (now (output .entry)) (judged (now (table .entry)) a (rerr flags (numberedIn (now (part .entry))))) ⌝ }
+    ensures { λ r. ⌜ exits r (now (table .exit)) (now (output .exit)) ≡ atExit (now (table .entry)) (now (output .entry)) (judgedElement (now (table .entry)) a (rerr flags (numberedIn (now (part .entry))))) ⌝ }
 {
     match check(table, a, flags, part) {
         Answer::Accepted => take(table, output, a, flags, part),

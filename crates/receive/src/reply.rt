@@ -18,7 +18,7 @@ ghost use Rattle.rules.specs.Decision.{accepted};
 ghost use Rattle.rules.specs.Outcome.{atExit};
 ghost use Rattle.rules.specs.Receive.{received};
 ghost use Rattle.point.specs.Answers.{answerTo, exits};
-ghost use Rattle.receive.specs.Judged.{elementChecks, judged};
+ghost use Rattle.receive.specs.Judged.{elementChecks, judgedElement};
 
 // Dependents play no part; the contract names the element.
 fn check(table: &[u8], a: Arrival, f: RrepFields, part: &[u8]) -> Answer
@@ -61,7 +61,7 @@ pub fn receive(
     requires { ⌜ a .clock ≤ 281474976710655 ⌝ }
     requires { ⌜ length (now part) ≤ 220 ⌝ }
     requires { ⌜ length (now part) % 10 ≡ 0 ⌝ }
-    ensures { λ r. ⌜ exits r (now (table .exit)) (now (output .exit)) ≡ atExit (now (table .entry)) (now (output .entry)) (judged (now (table .entry)) a (rrep f (numberedIn (now (part .entry))))) ⌝ }
+    ensures { λ r. ⌜ exits r (now (table .exit)) (now (output .exit)) ≡ atExit (now (table .entry)) (now (output .entry)) (judgedElement (now (table .entry)) a (rrep f (numberedIn (now (part .entry))))) ⌝ }
 {
     match check(table, a, f, part) {
         Answer::Accepted => take(table, output, a, f, part),

@@ -26,7 +26,7 @@ ghost use Rattle.rules.specs.Outcome.{atExit, frameOctets};
 ghost use Rattle.rules.specs.Receive.{received};
 ghost use Rattle.point.specs.Answers.{answerTo, exits};
 ghost use Rattle.onward.specs.Sent.{unicastToSeveral};
-ghost use Rattle.receive.specs.Judged.{elementChecks, judged};
+ghost use Rattle.receive.specs.Judged.{elementChecks, judgedElement};
 ghost use Rattle.receive.specs.Sent.{framesAfter, sentFor, together};
 
 // What a RREQ was answered with: the own number after it, and what was written.
@@ -116,7 +116,7 @@ pub fn receive(
     requires { ⌜ a .clock ≤ 281474976710655 ⌝ }
     requires { ⌜ 11 ≤ length (now part) ⌝ }
     requires { ⌜ length (now part) ≤ 220 ⌝ }
-    ensures { λ r. ⌜ exits r (now (table .exit)) (now (output .exit)) ≡ atExit (now (table .entry)) (now (output .entry)) (judged (now (table .entry)) a (rreq f (targetsIn (now (part .entry))))) ⌝ }
+    ensures { λ r. ⌜ exits r (now (table .exit)) (now (output .exit)) ≡ atExit (now (table .entry)) (now (output .entry)) (judgedElement (now (table .entry)) a (rreq f (targetsIn (now (part .entry))))) ⌝ }
 {
     match check(table, a, f, part) {
         Answer::Accepted => take(table, output, a, f, part),

@@ -28,6 +28,6 @@ abbrev pub pointAt : List ℕ → ℕ → ℕ → Address
 pointAt s long i = addressOf (tableAt s long i)
 
 -- the checks that look at the state
-abbrev pub stateChecks : List ℕ → ℕ → ℕ → ℕ → List Check
-stateChecks s long count c =
+abbrev pub piecesChecks : List ℕ → ℕ → ℕ → ℕ → List Check
+piecesChecks s long count c =
     (refuse 21 when any (λ (t : List ℕ). not (isTable t)) (pieces s long count)) ∷ (refuse 22 when any (hasLaterClock c) (pieces s long count)) ∷ []
