@@ -2,7 +2,6 @@
 
 pub const HEAD: usize = 32;
 pub const ROW: usize = 32;
-const MARKS: usize = 1021;
 
 pub fn u32_at(octets: &[u8], at: usize) -> u32 {
     u32::from_le_bytes(octets[at..at + 4].try_into().unwrap())
@@ -61,13 +60,12 @@ pub fn row_for(rows: &[u8], destination: u64) -> Option<usize> {
         .position(|row| address(&row[4..]) == destination)
 }
 
-pub fn is_table(table: &[u8]) -> bool {
-    if !head_fits(table) {
-        return false;
-    }
-    let own = address(table);
-    let rows = &table[HEAD..];
-    let mut marks = [0u8; MARKS];
+/// One of the marks, a power of two of them.
+fn mark_of(destination: u64, marks: usize) -> usize {
+    (destination * 40503 >> 40) as usize & (marks - 1)
+}
+
+fn rows_fit(rows: &[u8], own: u64, marks: &mut [u8]) -> bool {
     for (place, row) in rows.chunks_exact(ROW).enumerate() {
         if row[0] == 0 {
             if !is_free(row) {
@@ -79,11 +77,25 @@ pub fn is_table(table: &[u8]) -> bool {
             return false;
         }
         let destination = address(&row[4..]);
-        let mark = &mut marks[(destination % MARKS as u64) as usize];
+        let mark = &mut marks[mark_of(destination, marks.len())];
         if *mark != 0 && row_for(&rows[..place * ROW], destination).is_some() {
             return false;
         }
         *mark = 1;
     }
     true
+}
+
+/// Few rows take few marks, since all marks have to be cleared first.
+pub fn is_table(table: &[u8]) -> bool {
+    if !head_fits(table) {
+        return false;
+    }
+    let own = address(table);
+    let rows = &table[HEAD..];
+    match rows.len() / ROW {
+        ..=4 => rows_fit(rows, own, &mut [0; 64]),
+        5..=16 => rows_fit(rows, own, &mut [0; 256]),
+        _ => rows_fit(rows, own, &mut [0; 1024]),
+    }
 }
