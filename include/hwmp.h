@@ -126,7 +126,9 @@ struct hwmp_hop hwmp_next_hop(const uint8_t *table, size_t table_len, uint64_t c
                               const uint8_t destination[6]);
 
 /*
- * Forgets a destination: its row, valid, expired or invalidated, becomes free.
+ * Forgets a destination: its row, valid, expired or invalidated, becomes free. With the row
+ * goes the number that turns old elements away, so that loops become possible: docs/FIRMWARE.md
+ * says when it is safe.
  * Refusals: 1, 9 (destination), 21, 29 (also for the point's own address).
  */
 uint32_t hwmp_forget(uint8_t *table, size_t table_len, const uint8_t destination[6]);
