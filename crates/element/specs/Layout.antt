@@ -13,12 +13,13 @@ idOf Rreq = 130
 idOf Rrep = 131
 idOf Rerr = 132
 
+-- an ID that is a type's
 unfoldable pub known : ℕ → Bool
-known id = eqb id 126 || eqb id 130 || eqb id 131 || eqb id 132
+known id = eqb id (idOf Rann) || eqb id (idOf Rreq) || eqb id (idOf Rrep) || eqb id (idOf Rerr)
 
 -- the type with this ID, where it is known
 unfoldable pub kindWith : ℕ → Kind
-kindWith id = cond (eqb id 126) Rann (cond (eqb id 130) Rreq (cond (eqb id 131) Rrep Rerr))
+kindWith id = cond (eqb id (idOf Rann)) Rann (cond (eqb id (idOf Rreq)) Rreq (cond (eqb id (idOf Rrep)) Rrep Rerr))
 
 -- Length counts what follows it
 abbrev pub lengthWith : Kind → ℕ → ℕ

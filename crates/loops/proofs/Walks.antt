@@ -16,7 +16,8 @@ use Rattle.table.proofs.WellFormed.{same-is}
 use Rattle.element.specs.Lists.{among, twice}
 use Rattle.element.specs.Entries.{All}
 use Rattle.rules.proofs.Branches.{cond-cases}
-use Rattle.loops.specs.Mesh.{Mesh, tableOf, isThere, validNext, nextIn, nextAt, metBy, met}
+use Rattle.rules.specs.Lists.{isThere}
+use Rattle.loops.specs.Mesh.{Mesh, tableOf, validNext, nextIn, nextAt, metBy, met}
 use Rattle.loops.proofs.Invariant.{Leads, home, nearer, rowAt, Inv}
 
 not-among : (P : Address → Type 0) (a : Address) → (P a → ⊥) → (l : List Address) → All P l → among a l ≡ false

@@ -12,6 +12,7 @@ use Rattle.table.specs.declared.row.Row.{Row}
 use Rattle.table.specs.Address.{same}
 use Rattle.table.specs.Table.{own, rowFor, fresh}
 use Rattle.element.specs.Octets.{writeElement}
+use Rattle.rules.specs.Lists.{isThere}
 use Rattle.rules.specs.Decision.{Decision, refused, accepted}
 use Rattle.rules.specs.Outcome.{Frame, Effect}
 use Rattle.rules.specs.Calls.{OwnCall, Call}
@@ -116,11 +117,6 @@ module _ (rules : Rules) where
 
 -- ---- the walk of demand 3, along valid rows, expired or not (that of document 01, `walk` in crate `rules`, goes along rows that are
 -- active at a clock, and counts hops)
-
--- there is one
-abbrev pub isThere : {A : Type 0} → Option A → Bool
-isThere none = false
-isThere (some x) = true
 
 -- the next hop of a row that is valid
 abbrev pub validNext : Option Row → Option Address

@@ -31,10 +31,10 @@ use Rattle.rules.specs.Outcome.{Exit, atExit}
 use Rattle.rules.specs.Originate.{numberedHead, ownRequest, requested, itemsFit, hasHighFlags, knownNumber, askedFor, asking, ask}
 use Rattle.rules.proofs.AnyOf.{any-found, any-more}
 use Rattle.rules.proofs.Rulings.{Passed, passed-check}
+use Rattle.point.specs.declared.Outcome.{Outcome}
 use Rattle.point.specs.declared.Answer.{Answer}
 use Rattle.point.specs.declared.Answer.the-variants.{Accepted, Refused}
 use Rattle.point.specs.declared.Emitted.{Emitted}
-use Rattle.point.specs.declared.Outcome.the-variants.{Accepted as Done, Refused as NotDone}
 use Rattle.point.specs.Answers.{answerTo, exits}
 use Rattle.point.specs.Checks.{itemChecks}
 use Rattle.point.proofs.Checks.{table-long, output-long, answer-passed, refused-first, passed-first, refusal, acceptance}
@@ -103,7 +103,7 @@ module _ (t s output u v : List ℕ) (octets : ℕ) (size : octets ≡ 34 + 11 *
   pub asked-exit : (lifetime : ℕ) (h₀ h : Head) → h₀ ≡ headAt t → h ≡ numberedHead true h₀
       → v ≡ over output 0 (writeFrame allOnes (rreq (ownRequest h 0 lifetime) (map (askedFor t) (itemsIn s)))) → u ≡ putHead t h
       → (em : Emitted) → em ≡ record { frames = 1; octets = octets }
-      → exits (Done em) u v ≡ atExit t output (accepted (requested t 0 lifetime (map (askedFor t) (itemsIn s))))
+      → exits (Outcome.Accepted em) u v ≡ atExit t output (accepted (requested t 0 lifetime (map (askedFor t) (itemsIn s))))
   asked-exit lifetime h₀ h e₀ he ve ue =
       requested-exit t output u v 0 lifetime h₀ h e₀ he ue (map (askedFor t) (itemsIn s)) (length s / 7) (asked-many t s) ve octets size
 
@@ -147,7 +147,7 @@ module _ (t output s : List ℕ) (lifetime : ℕ) (a : Answer) (ae : a ≡ answe
     pub items-few : length s ≤ 140
     items-few = leb-true (length s) 140 (items-fit .1)
 
-  pub ask-refused : (n : ℕ) → a ≡ Refused n → exits (NotDone n) t output ≡ atExit t output (ask t (length output) lifetime s)
+  pub ask-refused : (n : ℕ) → a ≡ Refused n → exits (Outcome.Refused n) t output ≡ atExit t output (ask t (length output) lifetime s)
   unfolding ask
   ask-refused = refusal t output (asking t (length output) lifetime s) a ae
 

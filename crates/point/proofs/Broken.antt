@@ -27,10 +27,10 @@ use Rattle.rules.specs.Outcome.{Exit, frameOctets, atExit}
 use Rattle.rules.specs.Break.{brokenOff, breaking, breakNeighbour}
 use Rattle.rules.specs.Decision.{accepted}
 use Rattle.rules.proofs.Room.{entry-one, entries-few}
+use Rattle.point.specs.declared.Outcome.{Outcome}
 use Rattle.point.specs.declared.Answer.{Answer}
 use Rattle.point.specs.declared.Answer.the-variants.{Accepted, Refused}
 use Rattle.point.specs.declared.Emitted.{Emitted}
-use Rattle.point.specs.declared.Outcome.the-variants.{Accepted as Done, Refused as NotDone}
 use Rattle.point.specs.Answers.{answerTo, exits}
 use Rattle.point.specs.Reports.{framesFor, octetsFor, begunAfter, closed}
 use Rattle.point.proofs.Reported.{begun-append, begun-length, closes, errors-many, errors-long}
@@ -208,7 +208,7 @@ pub broken-exit : (t output w u v : List ℕ) (c : ℕ) (neighbour : Address) (h
     → (lost : ℕ) → lost ≡ length (brokenEntries t c neighbour) → lost ≤ 128
     → w ≡ changeWhere (isThrough c neighbour) broken t → v ≡ over output 0 (frameOctets (errorsFor (brokenEntries t c neighbour)))
     → u ≡ putHead w (headWith (h .number) (h .request) c h) → (e : Emitted) → e ≡ record { frames = framesFor lost; octets = octetsFor lost }
-    → exits (Done e) u v ≡ atExit t output (accepted (brokenOff t c neighbour))
+    → exits (Outcome.Accepted e) u v ≡ atExit t output (accepted (brokenOff t c neighbour))
 unfolding brokenOff
 broken-exit t output w u v c neighbour h he lost le few we ve ue e ee =
     let entries : List NumberedAddress = brokenEntries t c neighbour in
@@ -233,7 +233,7 @@ module _ (t output : List ℕ) (c : ℕ) (neighbour : Address) (a : Answer) (ae 
     unfolding breaking
     break-output-long = output-long t output _ a ae ok
 
-  pub break-refused : (n : ℕ) → a ≡ Refused n → exits (NotDone n) t output ≡ atExit t output (breakNeighbour t (length output) c neighbour)
+  pub break-refused : (n : ℕ) → a ≡ Refused n → exits (Outcome.Refused n) t output ≡ atExit t output (breakNeighbour t (length output) c neighbour)
   unfolding breakNeighbour
   break-refused = refusal t output (breaking t (length output) c neighbour) a ae
 

@@ -14,10 +14,10 @@ use Rattle.table.proofs.Cases.{sized-long, sized-short}
 use Rattle.rules.specs.Decision.{Decision, refused, accepted, Check, Ruling, judged, decide}
 use Rattle.rules.specs.Outcome.{Effect, frameOctets, Exit, atExit}
 use Rattle.rules.proofs.Rulings.{Passed, passed}
+use Rattle.point.specs.declared.Outcome.{Outcome}
 use Rattle.point.specs.declared.Answer.{Answer}
 use Rattle.point.specs.declared.Answer.the-variants.{Accepted, Refused}
 use Rattle.point.specs.declared.Emitted.{Emitted}
-use Rattle.point.specs.declared.Outcome.the-variants.{Accepted as Done, Refused as NotDone}
 use Rattle.point.specs.Answers.{answerTo, emitted, exits}
 
 -- ---- one check after another
@@ -113,7 +113,7 @@ pub decided-as : {A : Type 0} (r : Ruling A) (a : Answer) → a ≡ answerTo (r 
 decided-as r a ae = answer-decides (r .otherwise) (r .checks) a ae
 
 module _ (t output : List ℕ) (r : Ruling Effect) (a : Answer) (ae : a ≡ answerTo (r .checks)) where
-  pub refusal : (n : ℕ) → a ≡ Refused n → exits (NotDone n) t output ≡ atExit t output (decide r)
+  pub refusal : (n : ℕ) → a ≡ Refused n → exits (Outcome.Refused n) t output ≡ atExit t output (decide r)
   unfolding atExit
   refusal n e = sym (ap (atExit t output) (decided-as r a ae ∙ ap (as-decision (r .otherwise)) e))
 
@@ -122,7 +122,7 @@ module _ (t output : List ℕ) (r : Ruling Effect) (a : Answer) (ae : a ≡ answ
 
 -- an accepted call by the table, the output and the frames that it leaves
 pub accepted-exit : (t output : List ℕ) (x : Effect) (u v : List ℕ) (e : Emitted) → u ≡ x .table → v ≡ over output 0 (frameOctets (x .frames))
-    → e ≡ emitted (x .frames) → exits (Done e) u v ≡ atExit t output (accepted x)
+    → e ≡ emitted (x .frames) → exits (Outcome.Accepted e) u v ≡ atExit t output (accepted x)
 unfolding atExit
 accepted-exit t output x u v e ue ve ee = rw (ue, ve, ee)
 

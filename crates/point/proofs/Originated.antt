@@ -22,17 +22,17 @@ use Rattle.rules.specs.Outcome.{Exit, atExit}
 use Rattle.rules.specs.Onward.{toAll}
 use Rattle.rules.specs.Originate.{numberedHead, ownPath, ownRequest, announced, requested, originating, announcing, announce, isRootFlags, allWithDOAndRF, requestingAsRoot, rootRequest}
 use Rattle.rules.proofs.FrameOctets.{one-frame}
+use Rattle.point.specs.declared.Outcome.{Outcome}
 use Rattle.point.specs.declared.Answer.{Answer}
 use Rattle.point.specs.declared.Answer.the-variants.{Accepted, Refused}
 use Rattle.point.specs.declared.Emitted.{Emitted}
-use Rattle.point.specs.declared.Outcome.the-variants.{Accepted as Done, Refused as NotDone}
 use Rattle.point.specs.Answers.{answerTo, exits}
 use Rattle.point.proofs.Checks.{refusal, acceptance, accepted-exit}
 
 -- ---- one frame to all ones
 
 one-frame-exit : (t output u v : List ℕ) (n : ℕ) (e : Element) → v ≡ over output 0 (writeFrame allOnes e) → n ≡ length (writeFrame allOnes e)
-    → (em : Emitted) → em ≡ record { frames = 1; octets = n } → exits (Done em) u v ≡ atExit t output (accepted (record { table = u; frames = toAll e }))
+    → (em : Emitted) → em ≡ record { frames = 1; octets = n } → exits (Outcome.Accepted em) u v ≡ atExit t output (accepted (record { table = u; frames = toAll e }))
 one-frame-exit t output u v n e ve ne em eme =
     accepted-exit t output (record { table = u; frames = toAll e }) u v em refl (rw one-frame ve) (eme ∙ rw (one-frame, ne))
 
@@ -40,7 +40,7 @@ one-frame-exit t output u v n e ve ne em eme =
 
 pub announced-exit : (t output u v : List ℕ) (flags lifetime : ℕ) (h₀ h : Head) → h₀ ≡ headAt t → h ≡ numberedHead false h₀ → u ≡ putHead t h
     → (p : PathInfo) → p ≡ ownPath h flags lifetime → v ≡ over output 0 (writeFrame allOnes (rann p)) → (octets : ℕ) → octets ≡ 0 + 29
-    → (em : Emitted) → em ≡ record { frames = 1; octets = octets } → exits (Done em) u v ≡ atExit t output (accepted (announced t flags lifetime))
+    → (em : Emitted) → em ≡ record { frames = 1; octets = octets } → exits (Outcome.Accepted em) u v ≡ atExit t output (accepted (announced t flags lifetime))
 unfolding announced
 announced-exit t output u v flags lifetime h₀ h e₀ he ue p pe ve octets size em eme =
     one-frame-exit t output u v octets (rann p) ve (size ∙ sym (frame-length allOnes (rann p))) em eme
@@ -69,7 +69,7 @@ request-finished w output v h flags lifetime targets n ne we at ate ve =
 module _ (t output u v : List ℕ) (flags lifetime : ℕ) (h₀ h : Head) (e₀ : h₀ ≡ headAt t) (he : h ≡ numberedHead true h₀) (ue : u ≡ putHead t h) where
   pub requested-exit : (targets : List Target) (n : ℕ) → n ≡ length targets
       → v ≡ over output 0 (writeFrame allOnes (rreq (ownRequest h flags lifetime) targets)) → (octets : ℕ) → octets ≡ 34 + 11 * n
-      → (em : Emitted) → em ≡ record { frames = 1; octets = octets } → exits (Done em) u v ≡ atExit t output (accepted (requested t flags lifetime targets))
+      → (em : Emitted) → em ≡ record { frames = 1; octets = octets } → exits (Outcome.Accepted em) u v ≡ atExit t output (accepted (requested t flags lifetime targets))
   unfolding requested
   requested-exit targets n ne ve octets size em eme =
       one-frame-exit t output u v octets (rreq (ownRequest h flags lifetime) targets) ve
@@ -84,7 +84,7 @@ module _ (t output u v : List ℕ) (flags lifetime : ℕ) (h₀ h : Head) (e₀ 
   pub root-exit : (w : List ℕ) → w ≡ over output 0 (frameStart allOnes Rreq 1 (rreqNumbers (ownRequest h flags lifetime)))
       → (at : ℕ) → at ≡ 34 → v ≡ over w at (targetOctets allWithDOAndRF) → (octets : ℕ) → octets ≡ at + 11
       → (em : Emitted) → em ≡ record { frames = 1; octets = octets }
-      → exits (Done em) u v ≡ atExit t output (accepted (requested t flags lifetime (allWithDOAndRF ∷ [])))
+      → exits (Outcome.Accepted em) u v ≡ atExit t output (accepted (requested t flags lifetime (allWithDOAndRF ∷ [])))
   unfolding flatMap
   root-exit w we at ate ve octets size =
       requested-exit (allWithDOAndRF ∷ []) 1 refl
@@ -95,7 +95,7 @@ module _ (t output u v : List ℕ) (flags lifetime : ℕ) (h₀ h : Head) (e₀ 
 -- ---- decided by the check
 
 module _ (t output : List ℕ) (flags lifetime : ℕ) (a : Answer) (ae : a ≡ answerTo (announcing t (length output) flags lifetime .checks)) where
-  pub announce-refused : (n : ℕ) → a ≡ Refused n → exits (NotDone n) t output ≡ atExit t output (announce t (length output) flags lifetime)
+  pub announce-refused : (n : ℕ) → a ≡ Refused n → exits (Outcome.Refused n) t output ≡ atExit t output (announce t (length output) flags lifetime)
   unfolding announce
   announce-refused = refusal t output (announcing t (length output) flags lifetime) a ae
 
@@ -109,7 +109,7 @@ module _ (t output : List ℕ) (flags lifetime : ℕ) (b : Bool) (be : b ≡ isR
   root-checks : a ≡ answerTo (requestingAsRoot t (length output) flags lifetime .checks)
   root-checks = ae ∙ ap (λ (c : Bool). answerTo (originating {A = Unit {0}} t (length output) (not c) lifetime tt .checks)) be
 
-  pub root-refused : (n : ℕ) → a ≡ Refused n → exits (NotDone n) t output ≡ atExit t output (rootRequest t (length output) flags lifetime)
+  pub root-refused : (n : ℕ) → a ≡ Refused n → exits (Outcome.Refused n) t output ≡ atExit t output (rootRequest t (length output) flags lifetime)
   unfolding rootRequest
   root-refused = refusal t output (requestingAsRoot t (length output) flags lifetime) a root-checks
 

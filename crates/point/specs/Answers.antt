@@ -10,7 +10,6 @@ use Rattle.point.specs.declared.Answer.{Answer}
 use Rattle.point.specs.declared.Answer.the-variants.{Accepted, Refused}
 use Rattle.point.specs.declared.Emitted.{Emitted}
 use Rattle.point.specs.declared.Outcome.{Outcome}
-use Rattle.point.specs.declared.Outcome.the-variants.{Accepted as Done, Refused as NotDone}
 use Rattle.point.specs.declared.next_hop.Hop.{Hop}
 use Rattle.point.specs.declared.next_hop.Hop.the-variants.{Via, Refused as NoHop}
 
@@ -34,8 +33,8 @@ emitted frames = record { frames = length frames; octets = length (frameOctets f
 
 -- this outcome with the table and the output that the call leaves
 abbrev pub exits : Outcome → List ℕ → List ℕ → Exit
-exits (Done e) t output = record { answer = 0; frames = e .frames; octets = e .octets; table = t; output = output }
-exits (NotDone n) t output = record { answer = n; frames = 0; octets = 0; table = t; output = output }
+exits (Outcome.Accepted e) t output = record { answer = 0; frames = e .frames; octets = e .octets; table = t; output = output }
+exits (Outcome.Refused n) t output = record { answer = n; frames = 0; octets = 0; table = t; output = output }
 
 -- a next hop is an acceptance with its address
 abbrev pub decisionOf : Hop → Decision Address

@@ -20,9 +20,9 @@ use Rattle.rules.specs.Decision.{refused}
 use Rattle.rules.specs.Outcome.{Exit, atExit}
 use Rattle.rules.specs.Receive.{receiving, receive}
 use Rattle.rules.proofs.Rulings.{passed-check}
+use Rattle.point.specs.declared.Outcome.{Outcome}
 use Rattle.point.specs.declared.Answer.{Answer}
 use Rattle.point.specs.declared.Answer.the-variants.{Accepted, Refused}
-use Rattle.point.specs.declared.Outcome.the-variants.{Refused as NotDone}
 use Rattle.point.specs.Answers.{answerTo, exits}
 use Rattle.point.proofs.Checks.{answer-passed, part-refused, part-decided, refusal, table-long, table-short, output-long}
 use Rattle.receive.specs.Checks.{arrivalChecks}
@@ -31,7 +31,7 @@ use Rattle.receive.specs.Judged.{judgedElement, readingOctets, judgedOct
 -- ---- the first checks
 
 module _ (t output : List ℕ) (a : Arrival) (r : Answer) (re : r ≡ answerTo (arrivalChecks t (length output) a)) where
-  pub arrival-refused : (s : List ℕ) (n : ℕ) → r ≡ Refused n → exits (NotDone n) t output ≡ atExit t output (receive t (length output) a s)
+  pub arrival-refused : (s : List ℕ) (n : ℕ) → r ≡ Refused n → exits (Outcome.Refused n) t output ≡ atExit t output (receive t (length output) a s)
   unfolding receive arrivalChecks
   arrival-refused s n e =
       refusal t output (receiving t (length output) a s) (Refused n)
@@ -81,7 +81,7 @@ module _ (t : List ℕ) (a : Arrival) (s : List ℕ) (r : Reading) (re : r ≡ r
       by false false true h = cc
       by false false false h = absurd (never-unread (readElement s) n h)
 
-  pub read-refused : (output : List ℕ) (n : ℕ) → r ≡ Unread n → exits (NotDone n) t output ≡ atExit t output (judgedOctets t a s)
+  pub read-refused : (output : List ℕ) (n : ℕ) → r ≡ Unread n → exits (Outcome.Refused n) t output ≡ atExit t output (judgedOctets t a s)
   unfolding atExit
   read-refused output n e = ap (atExit t output) (unread n e)
 

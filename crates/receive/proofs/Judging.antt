@@ -25,9 +25,9 @@ use Rattle.rules.specs.Lists.{any, has}
 use Rattle.rules.specs.Outcome.{Exit, atExit}
 use Rattle.rules.specs.Receive.{pathOf, targetAddresses, hasBadAddress, hasBadList, severalOrAll, isLowTtlReply, matchesNothing, received, judging}
 use Rattle.rules.proofs.Rulings.{Passed, passed-check}
+use Rattle.point.specs.declared.Outcome.{Outcome}
 use Rattle.point.specs.declared.Answer.{Answer}
 use Rattle.point.specs.declared.Answer.the-variants.{Accepted, Refused}
-use Rattle.point.specs.declared.Outcome.the-variants.{Refused as NotDone}
 use Rattle.point.specs.Answers.{answerTo, exits}
 use Rattle.point.proofs.Checks.{answer-passed, refusal, acceptance}
 use Rattle.onward.specs.Sent.{unicastToSeveral}
@@ -62,7 +62,7 @@ module _ (t : List ℕ) (a : Arrival) (r : Answer) where
 -- ---- what the answer says
 
 module _ (t : List ℕ) (a : Arrival) (e : Element) (r : Answer) (re : r ≡ answerTo (elementChecks t a e)) where
-  pub element-refused : (output : List ℕ) (n : ℕ) → r ≡ Refused n → exits (NotDone n) t output ≡ atExit t output (judgedElement t a e)
+  pub element-refused : (output : List ℕ) (n : ℕ) → r ≡ Refused n → exits (Outcome.Refused n) t output ≡ atExit t output (judgedElement t a e)
   unfolding elementChecks judgedElement
   element-refused output = refusal t output (judging t a e) r re
 

@@ -31,8 +31,8 @@ use Rattle.rules.specs.Outcome.{Frame, frameOctets, underHead, atExit}
 use Rattle.rules.specs.Receive.{rannReceived, rrepReceived, rreqReceived, rerrReceived, received}
 use Rattle.rules.proofs.Emitting.{Emits, rreq-emitted}
 use Rattle.rules.proofs.FrameOctets.{no-frame, one-frame, frames-append}
+use Rattle.point.specs.declared.Outcome.{Outcome}
 use Rattle.point.specs.declared.Emitted.{Emitted}
-use Rattle.point.specs.declared.Outcome.the-variants.{Accepted as Done}
 use Rattle.point.specs.Answers.{emitted, exits}
 use Rattle.point.proofs.Checks.{accepted-exit}
 use Rattle.point.proofs.Neighbours.{head-under, same-number}
@@ -49,14 +49,14 @@ module _ (t output : List ℕ) (a : Arrival) (h : Head) (he : h ≡ headAt t) wh
 
   pub rann-exit : (p : PathInfo) (u : List ℕ) → u ≡ learnt a p t → (e : Emitted) → e ≡ emitted (rannOnward a p)
       → (v : List ℕ) → v ≡ over output 0 (frameOctets (rannOnward a p))
-      → (w : List ℕ) → w ≡ putHead u (headWith (h .number) (h .request) (a .clock) h) → exits (Done e) w v ≡ atExit t output (accepted (received t a (rann p)))
+      → (w : List ℕ) → w ≡ putHead u (headWith (h .number) (h .request) (a .clock) h) → exits (Outcome.Accepted e) w v ≡ atExit t output (accepted (received t a (rann p)))
   unfolding received rannReceived
   rann-exit p u ue e ee v ve w we = accepted-exit t output (received t a (rann p)) w v e (same-number t (a .clock) h he u (learnt a p t) w ue we) ve ee
 
   pub rrep-exit : (f : RrepFields) (part u : List ℕ) → u ≡ learnt a (f .path) t → (e : Emitted) → e ≡ emitted (rrepOnward u a f (numberedIn part))
       → (v : List ℕ) → v ≡ over output 0 (frameOctets (rrepOnward u a f (numberedIn part)))
       → (w : List ℕ) → w ≡ putHead u (headWith (h .number) (h .request) (a .clock) h)
-      → exits (Done e) w v ≡ atExit t output (accepted (received t a (rrep f (numberedIn part))))
+      → exits (Outcome.Accepted e) w v ≡ atExit t output (accepted (received t a (rrep f (numberedIn part))))
   unfolding received rrepReceived
   rrep-exit f part u ue e ee v ve w we =
       accepted-exit t output (received t a (rrep f (numberedIn part))) w v e (same-number t (a .clock) h he u (learnt a (f .path) t) w ue we)
@@ -70,7 +70,7 @@ module _ (t output : List ℕ) (a : Arrival) (h : Head) (he : h ≡ headAt t) wh
       → (e : Emitted) → e ≡ record { frames = 1; octets = octets }
       → (v : List ℕ) → v ≡ over output 0 (frameOctets (toAll (rerr flags (those (matches t (a .clock) (a .transmitter)) (numberedIn part)))))
       → (w : List ℕ) → w ≡ putHead u (headWith (h .number) (h .request) (a .clock) h)
-      → exits (Done e) w v ≡ atExit t output (accepted (received t a (rerr flags (numberedIn part))))
+      → exits (Outcome.Accepted e) w v ≡ atExit t output (accepted (received t a (rerr flags (numberedIn part))))
   unfolding received rerrReceived
   rerr-exit flags part u ue octets oe e ee v ve w we =
       accepted-exit t output (received t a (rerr flags (numberedIn part))) w v e (same-number t (a .clock) h he u _ w ue we) ve
@@ -82,7 +82,7 @@ module _ (t output : List ℕ) (a : Arrival) (h : Head) (he : h ≡ headAt t) wh
       → (s : Sent) → s ≡ sentFor u a f (allAnswered u a (f .path) (h .number) (targetsIn part))
       → (v : List ℕ) → v ≡ over output 0 (frameOctets (framesAfter u a f (allAnswered u a (f .path) (h .number) (targetsIn part))))
       → (w : List ℕ) → w ≡ putHead u (headWith (s .number) (h .request) (a .clock) h)
-      → exits (Done (s .emitted)) w v ≡ atExit t output (accepted (received t a (rreq f (targetsIn part))))
+      → exits (Outcome.Accepted (s .emitted)) w v ≡ atExit t output (accepted (received t a (rreq f (targetsIn part))))
   unfolding received rreqReceived framesAfter
   rreq-exit f part u ue s se v ve w we =
       let done : List ℕ → SequenceNumber → Answered = λ x n. allAnswered x a (f .path) n (targetsIn part) in

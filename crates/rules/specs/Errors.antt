@@ -1,6 +1,6 @@
 -- 'Errors and breaks': which rows are lost, what becomes of them, and the errors that name them. Assumes nothing.
 use Prim.Native.Nat.{ℕ, _+_, _*_, _/_}
-use mathlib.Core.Bool.{Bool, true, _&&_, cond}
+use mathlib.Core.Bool.{Bool, _&&_, cond}
 use mathlib.Core.List.{List, [], _∷_, flatMap}
 use mathlib.Core.Option.{Option, none, some}
 use lib.Dec.{eqb}
@@ -17,7 +17,7 @@ use Rattle.element.specs.declared.NumberedAddress.{NumberedAddress}
 use Rattle.element.specs.Element.{rerr}
 use Rattle.element.specs.Entries.{each}
 use Rattle.element.specs.Lists.{allOnes}
-use Rattle.rules.specs.Lists.{has}
+use Rattle.rules.specs.Lists.{has, isThere}
 use Rattle.rules.specs.Outcome.{Frame}
 
 -- an active row with this next hop
@@ -41,7 +41,7 @@ numberBeside d (m ∷ named) = cond (same (m .address) d) (some (m .number)) (nu
 
 -- the row of a match: such a row, whose destination the RERR names
 unfoldable pub isMatch : ℕ → Address → List NumberedAddress → Row → Bool
-isMatch c transmitter named r = isLostBy c transmitter r && has (λ _. true) (numberBeside (r .destination) named)
+isMatch c transmitter named r = isLostBy c transmitter r && isThere (numberBeside (r .destination) named)
 
 -- a match is invalidated; if the received number is newer, the row takes it and metric 4,294,967,295
 unfoldable pub erredWith : Option SequenceNumber → Row → Row

@@ -1,18 +1,13 @@
 -- Forget a destination. Assumes nothing.
 use Prim.Native.Nat.{ℕ}
-use mathlib.Core.Bool.{Bool, true, false, not}
+use mathlib.Core.Bool.{not}
 use mathlib.Core.List.{List}
-use mathlib.Core.Option.{Option, none, some}
 use Rattle.table.specs.declared.address.Address.{Address}
-use Rattle.table.specs.declared.row.Row.{Row}
 use Rattle.table.specs.Address.{individual}
 use Rattle.table.specs.Layout.{sized}
 use Rattle.table.specs.Table.{isTable, rowFor, freed}
 use Rattle.rules.specs.Decision.{Decision, Ruling, decide, refuse_when_, accept, _>>_}
-
-abbrev pub absent : Option Row → Bool
-absent (some r) = false
-absent none = true
+use Rattle.rules.specs.Lists.{isThere}
 
 -- forgetting frees a row for use
 abbrev pub forgetting : List ℕ → Address → Ruling (List ℕ)
@@ -20,7 +15,7 @@ forgetting t destination = do
   refuse 1 when not (sized t)
   refuse 9 when not (individual destination)
   refuse 21 when not (isTable t)
-  refuse 29 when absent (rowFor t destination)
+  refuse 29 when not (isThere (rowFor t destination))
   accept (freed t destination)
 
 unfoldable pub forget : List ℕ → Address → Decision (List ℕ)

@@ -19,6 +19,11 @@ module _ {A : Type 0} where
   those p [] = []
   those p (x ∷ xs) = cond (p x) (x ∷ those p xs) (those p xs)
 
+  -- there is one
+  abbrev pub isThere : Option A → Bool
+  isThere none = false
+  isThere (some x) = true
+
   -- it is there and passes the test
   abbrev pub has : (A → Bool) → Option A → Bool
   has p none = false

@@ -67,7 +67,7 @@ requested t flags lifetime targets =
 
 -- what 8 asks of an ask: 7 octets an item, 1 to 20 items, so 7 to 140 octets
 unfoldable pub itemsFit : List ℕ → Bool
-itemsFit s = eqb (length s % 7) 0 && leb 7 (length s) && leb (length s) 140
+itemsFit items = eqb (length items % 7) 0 && leb 7 (length items) && leb (length items) 140
 
 -- in an ask, flags above 3
 abbrev pub hasHighFlags : Item → Bool
@@ -82,19 +82,19 @@ unfoldable pub askedFor : List ℕ → Item → Target
 askedFor t i = record { flags = i .flags; address = i .address; number = knownNumber (rowFor t (i .address)) }
 
 unfoldable pub asking : List ℕ → ℕ → ℕ → List ℕ → Ruling Effect
-asking t room lifetime s = do
+asking t room lifetime items = do
   refuse 1 when not (sized t)
   refuse 2 when room below 1560
-  refuse 8 when not (itemsFit s)
-  refuse 9 when anyForbidden Items (addressesIn Items s)
-  refuse 10 when twice (addressesIn Items s) || any hasHighFlags (itemsIn s)
+  refuse 8 when not (itemsFit items)
+  refuse 9 when anyForbidden Items (addressesIn Items items)
+  refuse 10 when twice (addressesIn Items items) || any hasHighFlags (itemsIn items)
   refuse 11 when eqb lifetime 0
   refuse 21 when not (isTable t)
-  refuse 24 when among (own t) (addressesIn Items s)
-  accept (requested t 0 lifetime (map (askedFor t) (itemsIn s)))
+  refuse 24 when among (own t) (addressesIn Items items)
+  accept (requested t 0 lifetime (map (askedFor t) (itemsIn items)))
 
 unfoldable pub ask : List ℕ → ℕ → ℕ → List ℕ → Decision Effect
-ask t room lifetime s = decide (asking t room lifetime s)
+ask t room lifetime items = decide (asking t room lifetime items)
 
 -- ---- announce and root request
 

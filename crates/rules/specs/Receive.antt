@@ -161,18 +161,18 @@ judging t a e = do
   refuse 27 when ofPath (λ p. rowsNeeded t a p above freeRows t) e
   accept (received t a e)
 
--- the octets s of an element, of an output of `room` octets
+-- the octets of an element, with an output of `room` octets
 abbrev pub receiving : List ℕ → ℕ → Arrival → List ℕ → Ruling Effect
-receiving t room a s = do
+receiving t room a octets = do
   refuse 1 when not (sized t)
   refuse 2 when room below 1560
   refuse 3 when a .clock above 2 ^ 48 - 1
   refuse 4 when not (individual (a .transmitter))
   refuse 5 when eqb (a .link .0) 0
-  refuse 6 when wrongLength s
-  refuse 7 when otherId s
-  refuse 8 when misfit s
-  judging t a (readElement s)
+  refuse 6 when wrongLength octets
+  refuse 7 when otherId octets
+  refuse 8 when misfit octets
+  judging t a (readElement octets)
 
 unfoldable pub receive : List ℕ → ℕ → Arrival → List ℕ → Decision Effect
-receive t room a s = decide (receiving t room a s)
+receive t room a octets = decide (receiving t room a octets)

@@ -21,17 +21,18 @@ use Rattle.rules.specs.Lists.{any}
 
 -- the length of each, and table i
 abbrev pub lengthOfEach : List ℕ → ℕ → ℕ
-lengthOfEach s count = length s / count
+lengthOfEach octets count = length octets / count
 
 unfoldable pub tableAt : List ℕ → ℕ → ℕ → List ℕ
-tableAt s long i = take long (drop (long * i) s)
+tableAt octets long i = take long (drop (long * i) octets)
 
 abbrev pub tablesIn : List ℕ → ℕ → List (List ℕ)
-tablesIn s count = each (tableAt s (lengthOfEach s count)) 0 count
+tablesIn octets count = each (tableAt octets (lengthOfEach octets count)) 0 count
 
 -- what 1 asks: count 1 to 16, and the octets are that many pieces of one length that a table may have
 unfoldable pub sideBySide : List ℕ → ℕ → Bool
-sideBySide s count = leb 1 count && leb count 16 && eqb (length s % count) 0 && sized (tableAt s (lengthOfEach s count) 0)
+sideBySide octets count =
+    leb 1 count && leb count 16 && eqb (length octets % count) 0 && sized (tableAt octets (lengthOfEach octets count) 0)
 
 -- The own address is in the first six octets, table or not: 10 is judged before 21.
 abbrev pub points : List (List ℕ) → List Address
@@ -56,26 +57,28 @@ stopped hops = record { answer = 41; hops = hops }
 abbrev pub tooLong : ℕ → Walked
 tooLong hops = record { answer = 42; hops = hops }
 
--- the row for d of the point with address a, where that is a point
+-- the row that the point with this address has for the destination, where it is a point
 unfoldable pub rowOfPoint : List (List ℕ) → Address → Address → Option Row
-rowOfPoint [] a d = none
-rowOfPoint (t ∷ tables) a d = cond (same (addressOf t) a) (rowFor t d) (rowOfPoint tables a d)
+rowOfPoint [] address destination = none
+rowOfPoint (t ∷ tables) address destination =
+    cond (same (addressOf t) address) (rowFor t destination) (rowOfPoint tables address destination)
 
-module _ (tables : List (List ℕ)) (c : ℕ) (d : Address) where
+module _ (tables : List (List ℕ)) (c : ℕ) (destination : Address) where
   -- where a row leads: to its next hop, if the row is active and that is the destination or a point
   unfoldable pub leadsTo : Option Row → Option Address
   leadsTo none = none
-  leadsTo (some r) = cond (active c r && (same (r .next) d || among (r .next) (points tables))) (some (r .next)) none
+  leadsTo (some r) = cond (active c r && (same (r .next) destination || among (r .next) (points tables))) (some (r .next)) none
 
   -- nowhere to go on to: 41, and nothing more is counted
   abbrev pub goOn : Option Address → (hops : ℕ) → (Address → ℕ → Walked) → Walked
   goOn none hops further = stopped hops
   goOn (some next) hops further = further next (hops + 1)
 
-  -- from a, with so many hops walked and so many remaining before there are as many as points
+  -- from an address, with so many hops walked and so many remaining before there are as many as points
   unfoldable pub follow : (remaining : ℕ) → Address → (hops : ℕ) → Walked
-  follow zero a hops = cond (same a d) (arrived hops) (tooLong hops)
-  follow (suc remaining) a hops = cond (same a d) (arrived hops) (goOn (leadsTo (rowOfPoint tables a d)) hops (follow remaining))
+  follow zero at hops = cond (same at destination) (arrived hops) (tooLong hops)
+  follow (suc remaining) at hops =
+      cond (same at destination) (arrived hops) (goOn (leadsTo (rowOfPoint tables at destination)) hops (follow remaining))
 
 -- a refusal returns its number and else zeros, hops too
 abbrev pub walkedAtExit : Decision Walked → Walked
@@ -85,14 +88,14 @@ walkedAtExit (accepted w) = w
 -- ---- the call
 
 abbrev pub walking : List ℕ → ℕ → ℕ → Address → Address → Ruling Walked
-walking s count c start d = do
-  refuse 1 when not (sideBySide s count)
+walking octets count c start destination = do
+  refuse 1 when not (sideBySide octets count)
   refuse 3 when c above 2 ^ 48 - 1
-  refuse 9 when not (individual d)
-  refuse 10 when not (among start (points (tablesIn s count))) || twice (points (tablesIn s count))
-  refuse 21 when any (λ (t : List ℕ). not (isTable t)) (tablesIn s count)
-  refuse 22 when any (hasLaterClock c) (tablesIn s count)
-  accept (follow (tablesIn s count) c d count start 0)
+  refuse 9 when not (individual destination)
+  refuse 10 when not (among start (points (tablesIn octets count))) || twice (points (tablesIn octets count))
+  refuse 21 when any (λ (t : List ℕ). not (isTable t)) (tablesIn octets count)
+  refuse 22 when any (hasLaterClock c) (tablesIn octets count)
+  accept (follow (tablesIn octets count) c destination count start 0)
 
 unfoldable pub walk : List ℕ → ℕ → ℕ → Address → Address → Decision Walked
-walk s count c start d = decide (walking s count c start d)
+walk octets count c start destination = decide (walking octets count c start destination)

@@ -70,9 +70,9 @@ firstFree t = first (vacant t) (rows t)
 unfoldable pub alone : List ℕ → ℕ → Bool
 alone t i = vacant t i || isNothing (first (holds t (rowAt t i .destination)) i)
 
--- row i is as it should be in the table of the point with address a
+-- row i is as it should be in the table of the point with this address
 abbrev pub passes : List ℕ → Address → ℕ → Bool
-passes t a i = rowOk a (rowAt t i) && alone t i
+passes t self i = rowOk self (rowAt t i) && alone t i
 
 -- the head and each row are as they should be, and no destination stands twice
 unfoldable pub isTable : List ℕ → Bool
@@ -80,9 +80,9 @@ isTable t = headOk (headAt t) && every (passes t (own t)) (rows t)
 
 -- ---- what calls do to a table
 
--- n octets as a fresh table
+-- so many octets as a fresh table
 unfoldable pub fresh : ℕ → Address → SequenceNumber → List ℕ
-fresh n a s = putHead (zeros n) (freshHead a s)
+fresh octets address sequence = putHead (zeros octets) (freshHead address sequence)
 
 abbrev pub putAt : List ℕ → Row → Found → List ℕ
 putAt t r (At i) = putRow t i r
