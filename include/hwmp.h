@@ -176,10 +176,10 @@ struct hwmp_outcome hwmp_root_request(uint8_t *table, size_t table_len, uint8_t 
 
 /*
  * Reports that a neighbour can no longer be reached. Every active row through it is
- * invalidated but stays held; a known sequence number is stepped, so that what is older is
- * refused from now on. Those destinations go to all neighbours, 25 to a RERR, each with its
- * stepped number, or 0 if none was known; if there are none, there is no frame. The clock
- * is stored either way.
+ * invalidated but stays held; if its sequence number is known, that is stepped and the metric
+ * becomes 4294967295, so that what is older is refused from now on. Those destinations go to
+ * all neighbours, 25 to a RERR, each with its stepped number, or 0 if none was known; if there
+ * are none, there is no frame. The clock is stored either way.
  * Refusals: 1, 2, 3, 4, 21, 22, 23.
  */
 struct hwmp_outcome hwmp_break(uint8_t *table, size_t table_len, uint8_t *output,

@@ -133,9 +133,10 @@ NotVacuous = all (λ b. b) (worked outcome ++ wentRound outcome) ≡ true
 -- twice: numbers compared as plain numbers, the reply of 11-06-1778 that takes an equal number with a worse metric,
 -- an equal number into an inactive row at a worse metric, a broken row dropped, a break that does not step the number.
 --
--- (For other errors there is no such list. No row gets worse by them, which is argued here and not proved: an error matched by destination only; an error with a newer number
--- or a break that leaves the metric; a break that hits expired rows too. Demand 3 does not exclude them. The edges exclude the
--- first and a break that leaves the metric; code that is proved equal to the rules, and tests, exclude all.)
+-- (For other errors no list is given: an error matched by destination only; an error with a newer number or a break that leaves
+-- the metric; a break that hits expired rows too. That no row gets worse by these, and so none loops, is argued here and not
+-- proved. Demand 3 does not exclude them. The edges exclude the first and a break that leaves the metric; code that is proved
+-- equal to the rules, and tests, exclude all.)
 abbrev pub Sharp : Type 0
 Sharp = all loops counterexamples ≡ true
 

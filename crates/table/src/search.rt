@@ -107,7 +107,7 @@ pub fn place_for(table: &[u8], found: Found) -> Found
 
 // Free rows count wherever they lie, so a held row between them leaves the count as it is.
 fn counted(found: usize, free: bool) -> usize
-    requires { ⌜ found < 1000 ⌝ }
+    requires { ⌜ found < 128 ⌝ }
     ensures { λ r. ⌜ r ≡ found + cond free 1 0 ⌝ }
 {
     if free { found + 1 } else { found }

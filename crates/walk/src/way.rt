@@ -68,7 +68,8 @@ fn stopped(tables: &[u8], long: usize, count: usize, at: Address, hops: u8, befo
     Ending::Stopped(HopCount(before))
 }
 
-// After as many hops as there are points, the last of which may lead to no point.
+// After as many hops as there are points, the last of which may lead to no point. No row is asked any more, so the clock plays
+// no part; the contract has 0 for it.
 fn ended(
     tables: &[u8],
     long: usize,

@@ -1,4 +1,5 @@
--- `counters::own::advance` meets its contract: a walk of its MIR, by hand. The borrow is opened, the record behind it is read whole and passed to `advanced`, and what that returns is stored; the borrow is closed at the record returned.
+-- `counters::own::advance` meets its contract: a walk of its MIR, by hand. The borrow is opened, the record behind it is read
+-- whole and passed to `advanced`, and what that returns is stored; the borrow is closed at the record returned.
 -- All that the proof knows of `advanced` is that it meets its contract. Assumes nothing.
 use mathlib.Core.Path.{_≡_, refl}
 use Prim.Native.Nat.{ℕ}

@@ -1,4 +1,6 @@
--- `counters::own::numbered` meets its contract: a walk of its MIR, by hand. The parameter is copied to a local in memory, which is lent to `advance` for a lifetime that is made for the call; the lifetime is ended, the local is back at its last value, and that is returned.
+-- `counters::own::numbered` meets its contract: a walk of its MIR, by hand. The parameter is copied to a local in memory, which
+-- is lent to `advance` for a lifetime that is made for the call; the lifetime is ended, the local is back at its last value,
+-- and that is returned.
 -- All that the proof knows of `advance` is that it meets its contract. Assumes nothing.
 use mathlib.Core.Path.{_≡_, refl, sym, ap, subst}
 use Prim.Native.Nat.{ℕ}
