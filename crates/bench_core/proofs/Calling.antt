@@ -15,14 +15,13 @@ use Rattle.rules.specs.declared.Arrival.{Arrival}
 use Rattle.rules.specs.Originate.{ask, announce}
 use Rattle.rules.specs.Break.{breakNeighbour}
 use Rattle.rules.specs.Receive.{receive}
-use Rattle.point.specs.declared.Outcome.{Outcome}
-use Rattle.point.specs.Answers.{exits}
+use Rattle.calls.specs.declared.Outcome.{Outcome}
+use Rattle.calls.specs.Answers.{exits}
 use Rattle.bench_core.specs.declared.State.{State}
 use Rattle.bench_core.specs.declared.Done.{Done}
 use Rattle.bench_core.specs.declared.Done.the-variants.{Fault}
 use Rattle.bench_core.specs.Frames.{senderOf, elementOf}
-use Rattle.bench_core.specs.Bench.{calledBy, settled}
-use Rattle.bench_core.specs.Bench.{Done as Came}
+use Rattle.bench_core.specs.Bench.{calledBy, settled, Done as Came}
 use Rattle.bench_core.specs.Commands.{askFor, announceSelf, handedOver, arrivalFrom, deliver, breakOff}
 use Rattle.bench_core.specs.InCode.{benchOf, doneIn, settledAs, settledSlots}
 use Rattle.walk.proofs.Tables.{piece-is}

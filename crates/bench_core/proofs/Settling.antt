@@ -9,10 +9,10 @@ use native.Mathlib.Nat.{add-zero}
 use borrow.Author.Tests.{lt-ltb, le-ltb}
 use borrow.Rule.Slice.PartMut.{putMid}
 use Rattle.rules.specs.Outcome.{Exit}
-use Rattle.point.specs.declared.Emitted.{Emitted}
-use Rattle.point.specs.declared.Outcome.{Outcome}
-use Rattle.point.specs.declared.Outcome.the-variants.{Accepted, Refused}
-use Rattle.point.specs.Answers.{exits}
+use Rattle.calls.specs.declared.Emitted.{Emitted}
+use Rattle.calls.specs.declared.Outcome.{Outcome}
+use Rattle.calls.specs.declared.Outcome.the-variants.{Accepted, Refused}
+use Rattle.calls.specs.Answers.{exits}
 use Rattle.bench_core.specs.declared.State.{State}
 use Rattle.bench_core.specs.declared.Done.{Done}
 use Rattle.bench_core.specs.declared.Done.the-variants.{Fault}

@@ -15,8 +15,8 @@ use Rattle.table.specs.Table.{fresh}
 use Rattle.rules.specs.Decision.{Decision, refused, accepted, Left, left}
 use Rattle.rules.specs.Fresh.{makeFresh}
 use Rattle.rules.specs.Walk.{tableAt, walkedAtExit, walk}
-use Rattle.point.specs.declared.Answer.{Answer}
-use Rattle.point.specs.Answers.{answerOf, leaves}
+use Rattle.calls.specs.declared.Answer.{Answer}
+use Rattle.calls.specs.Answers.{answerOf, leaves}
 use Rattle.walk.specs.declared.Ending.{Ending}
 use Rattle.walk.specs.declared.Walked.{Walked as InNumbers}
 use Rattle.walk.specs.Answers.{decisionOf, numbersOf}

@@ -7,14 +7,13 @@ use lib.ListN.{length}
 use Rattle.counters.specs.declared.SequenceNumber.{SequenceNumber}
 use Rattle.table.specs.declared.address.Address.{Address}
 use Rattle.rules.specs.Decision.{_above_}
-use Rattle.point.specs.declared.Outcome.{Outcome}
-use Rattle.point.specs.declared.Outcome.the-variants.{Accepted, Refused}
+use Rattle.calls.specs.declared.Outcome.{Outcome}
+use Rattle.calls.specs.declared.Outcome.the-variants.{Accepted, Refused}
 use Rattle.bench_core.specs.declared.State.{State}
 use Rattle.bench_core.specs.declared.Done.{Done}
 use Rattle.bench_core.specs.declared.Done.the-variants.{Line, Fault}
 use Rattle.bench_core.specs.Frames.{keep}
-use Rattle.bench_core.specs.Bench.{Bench, fault, line}
-use Rattle.bench_core.specs.Bench.{Done as Came}
+use Rattle.bench_core.specs.Bench.{Bench, fault, line, Done as Came}
 use Rattle.bench_core.specs.Commands.{addPoint, advance, link, walkTo}
 
 abbrev pub benchOf : State → List ℕ → List ℕ → Bench

@@ -2,9 +2,9 @@
 use crate::Done;
 use crate::State;
 use counters::SequenceNumber;
-use point::fresh;
 use table::address::Address;
 use table::legal;
+use table_calls::fresh;
 use walk::pieces;
 ghost use mathlib.Core.Path.{_≡_};
 ghost use Prim.Native.Nat.{_<_, _≤_};
@@ -37,7 +37,7 @@ pub fn add_point(s: State, own: Address, number: SequenceNumber, tables: &mut [u
     }
     let at = TABLE * p;
     let part = &mut tables[at..at + TABLE];
-    let answer = point::number_of(fresh::make_fresh(part, own, number));
+    let answer = calls::number_of(fresh::make_fresh(part, own, number));
     if answer != 0 {
         return s.prints(answer, 0);
     }

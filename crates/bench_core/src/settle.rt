@@ -2,7 +2,7 @@
 use crate::Done;
 use crate::State;
 use crate::frames;
-use point::Outcome;
+use calls::Outcome;
 ghost use mathlib.Core.Path.{_≡_};
 ghost use Prim.Native.Nat.{_≤_};
 ghost use lib.ListN.{length};

@@ -17,7 +17,7 @@ use Rattle.table.proofs.Cases.{row-at, row-none}
 use Rattle.element.specs.declared.PathInfo.{PathInfo}
 use Rattle.element.specs.declared.Target.{Target}
 use Rattle.rules.specs.declared.Arrival.{Arrival}
-use Rattle.rules.specs.Flags.{hasDO}
+use Rattle.element.specs.Flags.{hasDO}
 use Rattle.rules.specs.Destinations.{Answered, rowReply, answersFor, keptOn, keptAfterReply, forAnother}
 use Rattle.destinations.specs.Answering.{ifAnswers, answeringRow}
 

@@ -1,4 +1,2 @@
 mod AnsweringRows
-mod Bits
-pub mod KeptOnes
 pub mod Replying

@@ -30,7 +30,7 @@ use Rattle.element.proofs.Scans.{each-next, each-end}
 use Rattle.element.proofs.Sizes.{frame-length}
 use Rattle.element.proofs.Written.{frame-parts}
 use Rattle.rules.specs.declared.Arrival.{Arrival}
-use Rattle.rules.specs.Flags.{replyWanted}
+use Rattle.element.specs.Flags.{replyWanted}
 use Rattle.rules.specs.Outcome.{Frame, frameOctets}
 use Rattle.rules.specs.Destinations.{Answered, reply, replyFields, ownReply, answeredNumber, forOneself, forAllOnes, forAnother, answered, allAnswered}
 use Rattle.rules.proofs.Emitting.{Each, Emits, one-answered, replies-emitted}

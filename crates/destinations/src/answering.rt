@@ -1,15 +1,14 @@
 // Whether this point answers for another.
-use crate::flags;
 use element::Target;
+use element::flags;
 use table::row;
 use table::row::Row;
 use table::search;
 use table::search::Found;
 ghost use mathlib.Core.Path.{_≡_};
-ghost use Prim.Native.Nat.{_≤_};
-ghost use lib.ListN.{length};
 ghost use Rattle.rules.specs.Destinations.{answersFor};
 ghost use Rattle.destinations.specs.Answering.{answeringRow, answeringIn};
+ghost use Rattle.table.specs.Layout.{Sized};
 
 // The row that an intermediate reply is made from, if there is one.
 pub enum Answering {
@@ -36,7 +35,7 @@ fn answers_for(clock: u64, q: Target, r: Row) -> bool
 
 // With DO = 1 no row is looked for.
 pub fn answering_row(table: &[u8], clock: u64, q: Target) -> Answering
-    requires { ⌜ 32 ≤ length (now table) ⌝ }
+    requires { ⌜ Sized (now table) ⌝ }
     ensures { λ r. ⌜ answeringIn r ≡ answeringRow (now (table .entry)) clock q ⌝ }
 {
     if flags::has_do(q) {

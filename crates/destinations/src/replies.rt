@@ -1,7 +1,6 @@
 // The replies to a RREQ, one after another from the start of the output. The table is that after steps 1 and 2.
 use crate::answering;
 use crate::answering::Answering;
-use crate::flags;
 use counters::HopCount;
 use counters::Metric;
 use counters::SequenceNumber;
@@ -9,6 +8,7 @@ use element::NumberedAddress;
 use element::PathInfo;
 use element::RrepFields;
 use element::Target;
+use element::flags;
 use element::list;
 use element::write;
 use rules::Arrival;
@@ -21,6 +21,7 @@ ghost use Prim.Native.Nat.{_+_, _≤_};
 ghost use lib.ListN.{length};
 ghost use Rattle.octets.specs.LittleEndian.{over};
 ghost use Rattle.table.specs.Table.{own, rowFor};
+ghost use Rattle.table.specs.Layout.{Sized};
 ghost use Rattle.element.specs.Element.{rrep};
 ghost use Rattle.element.specs.Entries.{targetsIn};
 ghost use Rattle.rules.specs.Destinations.{allAnswered, answered, answeredNumber, forAnother, ownReply, replyFields};
@@ -104,7 +105,7 @@ fn reply_as_oneself(
     number: SequenceNumber,
 ) -> Replied
     requires { ⌜ at + 40 ≤ length (now output) ⌝ }
-    requires { ⌜ 32 ≤ length (now table) ⌝ }
+    requires { ⌜ Sized (now table) ⌝ }
     ensures { λ r. ⌜ r ≡ record { number = number; place = at + 40 } ⌝ }
     ensures { λ _. ⌜ now (output .exit) ≡ over (now (output .entry)) at (frameOctets (ownReply a p (own (now (table .entry))) number ∷ [])) ⌝ }
 {
@@ -123,7 +124,7 @@ fn reply_for_another(
     before: Replied,
 ) -> Replied
     requires { ⌜ before .place + 40 ≤ length (now output) ⌝ }
-    requires { ⌜ 32 ≤ length (now table) ⌝ }
+    requires { ⌜ Sized (now table) ⌝ }
     ensures { λ r. ⌜ r ≡ repliedFrom (before .place) (forAnother (now (table .entry)) a p (before .number) q (rowFor (now (table .entry)) (q .address))) ⌝ }
     ensures { λ _. ⌜ now (output .exit) ≡ over (now (output .entry)) (before .place) (frameOctets (forAnother (now (table .entry)) a p (before .number) q (rowFor (now (table .entry)) (q .address)) .replies)) ⌝ }
 {
@@ -145,7 +146,7 @@ fn reply_to(
     before: Replied,
 ) -> Replied
     requires { ⌜ before .place + 40 ≤ length (now output) ⌝ }
-    requires { ⌜ 32 ≤ length (now table) ⌝ }
+    requires { ⌜ Sized (now table) ⌝ }
     ensures { λ r. ⌜ r ≡ repliedFrom (before .place) (answered (now (table .entry)) a p (before .number) q) ⌝ }
     ensures { λ _. ⌜ now (output .exit) ≡ over (now (output .entry)) (before .place) (frameOctets (answered (now (table .entry)) a p (before .number) q .replies)) ⌝ }
 {
@@ -172,7 +173,7 @@ pub fn write_replies(
     number: SequenceNumber,
     part: &[u8],
 ) -> Replied
-    requires { ⌜ 32 ≤ length (now table) ⌝ }
+    requires { ⌜ Sized (now table) ⌝ }
     requires { ⌜ length (now part) ≤ 220 ⌝ }
     requires { ⌜ 1560 ≤ length (now output) ⌝ }
     ensures { λ r. ⌜ r ≡ repliedFrom 0 (allAnswered (now (table .entry)) a p number (targetsIn (now (part .entry)))) ⌝ }

@@ -8,3 +8,4 @@ pub mod Written
 pub mod Listing
 pub mod Readings
 pub mod ReadBack
+mod Bits

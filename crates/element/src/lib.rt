@@ -1,4 +1,5 @@
 // The elements RANN, RREQ, RREP and RERR: their fields as values, read from octets and written to them.
+pub mod flags;
 pub mod list;
 pub mod read;
 pub mod write;

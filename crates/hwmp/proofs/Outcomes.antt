@@ -12,9 +12,9 @@ use Rattle.rules.specs.Break.{breakNeighbour}
 use Rattle.rules.specs.Receive.{receive}
 use Rattle.rules.specs.Walk.{Walked, walk, walkedAtExit}
 use Rattle.rules.proofs.Hops.{walk-hops}
-use Rattle.point.specs.declared.Outcome.{Outcome}
-use Rattle.point.specs.declared.Outcome.the-variants.{Accepted, Refused}
-use Rattle.point.specs.Answers.{exits}
+use Rattle.calls.specs.declared.Outcome.{Outcome}
+use Rattle.calls.specs.declared.Outcome.the-variants.{Accepted, Refused}
+use Rattle.calls.specs.Answers.{exits}
 use Rattle.walk.specs.declared.Ending.{Ending}
 use Rattle.walk.specs.declared.Walked.{Walked as InNumbers}
 use Rattle.walk.specs.Answers.{decisionOf, numbersOf}

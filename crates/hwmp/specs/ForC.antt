@@ -6,8 +6,8 @@ use Rattle.table.specs.declared.address.Address.{Address}
 use Rattle.table.specs.Address.{octetsOf}
 use Rattle.rules.specs.Decision.{Decision, refused, accepted}
 use Rattle.rules.specs.Outcome.{Exit}
-use Rattle.point.specs.declared.Outcome.{Outcome}
-use Rattle.point.specs.declared.Outcome.the-variants.{Accepted, Refused}
+use Rattle.calls.specs.declared.Outcome.{Outcome}
+use Rattle.calls.specs.declared.Outcome.the-variants.{Accepted, Refused}
 use Rattle.hwmp.specs.declared.HwmpHop.{HwmpHop}
 use Rattle.hwmp.specs.declared.HwmpOutcome.{HwmpOutcome}
 

@@ -1,17 +1,17 @@
 // The calls for C, on numbers and octet buffers: include/hwmp.h declares them.
+use breaking::break_neighbour;
+use calls::Outcome;
 use counters::Metric;
 use counters::SequenceNumber;
-use point::Outcome;
-use point::announce;
-use point::ask;
-use point::break_neighbour;
-use point::forget;
-use point::fresh;
-use point::next_hop;
-use point::next_hop::Hop;
-use point::root_request;
+use originate::announce;
+use originate::ask;
+use originate::root_request;
 use rules::Arrival;
 use table::address;
+use table_calls::forget;
+use table_calls::fresh;
+use table_calls::next_hop;
+use table_calls::next_hop::Hop;
 use walk::Walked;
 ghost use mathlib.Core.Path.{_≡_};
 ghost use Prim.Native.Nat.{_≤_};
@@ -26,7 +26,7 @@ ghost use Rattle.rules.specs.Receive.{receive};
 ghost use Rattle.rules.specs.Originate.{announce, ask, rootRequest};
 ghost use Rattle.rules.specs.Break.{breakNeighbour};
 ghost use Rattle.rules.specs.Walk.{walk, walkedAtExit};
-ghost use Rattle.point.specs.Answers.{decisionOf};
+ghost use Rattle.table_calls.specs.Answers.{decisionOf};
 ghost use Rattle.walk.specs.Answers.{numbersOf};
 ghost use Rattle.hwmp.specs.ForC.{hopFor, leaving, outcomeFor};
 
@@ -81,14 +81,14 @@ fn outcome_for(outcome: Outcome) -> HwmpOutcome
 pub extern "C" fn hwmp_fresh(table: &mut [u8], own: &[u8; 6], number: u32) -> u32
     ensures { λ r. ⌜ record { answer = r; table = now (table .exit) } ≡ left (now (table .entry)) (makeFresh (now (table .entry)) (addressOf (now (own .entry))) (record { 0 = number })) ⌝ }
 {
-    point::number_of(fresh::make_fresh(table, address::read(own), SequenceNumber(number)))
+    calls::number_of(fresh::make_fresh(table, address::read(own), SequenceNumber(number)))
 }
 
 #[no_mangle]
 pub extern "C" fn hwmp_forget(table: &mut [u8], destination: &[u8; 6]) -> u32
     ensures { λ r. ⌜ record { answer = r; table = now (table .exit) } ≡ left (now (table .entry)) (forget (now (table .entry)) (addressOf (now (destination .entry)))) ⌝ }
 {
-    point::number_of(forget::forget(table, address::read(destination)))
+    calls::number_of(forget::forget(table, address::read(destination)))
 }
 
 #[no_mangle]

@@ -7,13 +7,13 @@ use table::search::Found;
 ghost use mathlib.Core.Path.{_≡_};
 ghost use Prim.Native.Nat.{_≤_};
 ghost use lib.Dec.{ltb};
-ghost use lib.ListN.{length};
 ghost use Rattle.table.specs.Table.{freeRows, newRows, rowFor};
+ghost use Rattle.table.specs.Layout.{Sized};
 ghost use Rattle.rules.specs.Receive.{rowsNeeded};
 
 // How many new rows a destination needs: one if it has none.
 fn new_rows(table: &[u8], destination: Address) -> usize
-    requires { ⌜ 32 ≤ length (now table) ⌝ }
+    requires { ⌜ Sized (now table) ⌝ }
     ensures { λ r. ⌜ r ≡ newRows (rowFor (now (table .entry)) destination) ⌝ }
     ensures { λ r. ⌜ r ≤ 1 ⌝ }
 {
@@ -25,7 +25,7 @@ fn new_rows(table: &[u8], destination: Address) -> usize
 
 // For the subject, and for the transmitter if that is a different address.
 fn rows_needed(table: &[u8], a: Arrival, p: PathInfo) -> usize
-    requires { ⌜ 32 ≤ length (now table) ⌝ }
+    requires { ⌜ Sized (now table) ⌝ }
     ensures { λ r. ⌜ r ≡ rowsNeeded (now (table .entry)) a p ⌝ }
 {
     let needed = new_rows(table, p.subject);
@@ -36,8 +36,7 @@ fn rows_needed(table: &[u8], a: Arrival, p: PathInfo) -> usize
 }
 
 pub fn lacks_rows(table: &[u8], a: Arrival, p: PathInfo) -> bool
-    requires { ⌜ 32 ≤ length (now table) ⌝ }
-    requires { ⌜ length (now table) ≤ 4128 ⌝ }
+    requires { ⌜ Sized (now table) ⌝ }
     ensures { λ r. ⌜ r ≡ ltb (freeRows (now (table .entry))) (rowsNeeded (now (table .entry)) a p) ⌝ }
 {
     let needed = rows_needed(table, a, p);

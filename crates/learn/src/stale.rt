@@ -6,9 +6,8 @@ use table::row::Row;
 use table::search;
 use table::search::Found;
 ghost use mathlib.Core.Path.{_≡_};
-ghost use Prim.Native.Nat.{_≤_};
-ghost use lib.ListN.{length};
 ghost use Rattle.rules.specs.Receive.{isStale, isStaleFor};
+ghost use Rattle.table.specs.Layout.{Sized};
 
 // By the row, active or not: an older number, or an equal one with a metric that is not smaller.
 fn is_stale_for(a: Arrival, p: PathInfo, r: Row) -> bool
@@ -27,7 +26,7 @@ fn is_stale_for(a: Arrival, p: PathInfo, r: Row) -> bool
 }
 
 pub fn is_stale(table: &[u8], a: Arrival, p: PathInfo) -> bool
-    requires { ⌜ 32 ≤ length (now table) ⌝ }
+    requires { ⌜ Sized (now table) ⌝ }
     ensures { λ b. ⌜ b ≡ isStale (now (table .entry)) a p ⌝ }
 {
     let Found::At(i) = search::find_row(table, p.subject) else {

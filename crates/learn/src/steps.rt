@@ -1,5 +1,5 @@
 // Steps 1 and 2 of receiving: the rows of the subject and of the transmitter.
-use crate::here;
+use calls::here;
 use counters::HopCount;
 use counters::Metric;
 use counters::SequenceNumber;
@@ -14,9 +14,9 @@ use table::store;
 ghost use mathlib.Core.Path.{_≡_};
 ghost use mathlib.Core.Bool.{_||_};
 ghost use Prim.Native.Nat.{_+_, _<_, _≤_};
-ghost use lib.ListN.{length};
 ghost use Rattle.table.specs.Places.{isNothing};
 ghost use Rattle.table.specs.Table.{findRow, rowFor};
+ghost use Rattle.table.specs.Layout.{Sized};
 ghost use Rattle.rules.specs.Learn.{expiryOf, learnt, newRow, rowOrNew, rowTakesLink, subjectLearnt, subjectRow, transmitterLearnt, transmitterRow};
 
 // A row that is to be made, with number unknown.
@@ -38,7 +38,7 @@ fn new_row(destination: Address) -> Row
 
 // The row that a step changes, where its destination was found.
 fn row_or_new(table: &[u8], found: Found, destination: Address) -> Row
-    requires { ⌜ 32 ≤ length (now table) ⌝ }
+    requires { ⌜ Sized (now table) ⌝ }
     requires { ⌜ found ≡ findRow (now table) destination ⌝ }
     ensures { λ r. ⌜ r ≡ rowOrNew destination (rowFor (now (table .entry)) destination) ⌝ }
 {
@@ -76,7 +76,7 @@ fn subject_row(a: Arrival, p: PathInfo, r: Row) -> Row
 }
 
 fn learn_subject(table: &mut [u8], a: Arrival, p: PathInfo)
-    requires { ⌜ 32 ≤ length (now table) ⌝ }
+    requires { ⌜ Sized (now table) ⌝ }
     requires { ⌜ a .clock ≤ 281474976710655 ⌝ }
     requires { ⌜ p .metric .0 + a .link .0 ≤ 4294967294 ⌝ }
     requires { ⌜ p .hops .0 < 255 ⌝ }
@@ -115,7 +115,7 @@ fn transmitter_row(a: Arrival, lifetime: u32, r: Row) -> Row
 }
 
 fn learn_transmitter(table: &mut [u8], a: Arrival, lifetime: u32)
-    requires { ⌜ 32 ≤ length (now table) ⌝ }
+    requires { ⌜ Sized (now table) ⌝ }
     requires { ⌜ a .clock ≤ 281474976710655 ⌝ }
     ensures { λ _. ⌜ now (table .exit) ≡ transmitterLearnt a lifetime (now (table .entry)) ⌝ }
 {
@@ -129,7 +129,7 @@ fn learn_transmitter(table: &mut [u8], a: Arrival, lifetime: u32)
 
 // Step 1, and step 2 if the transmitter is a different address. The subject comes first: it takes the lower of two free rows.
 pub fn learn(table: &mut [u8], a: Arrival, p: PathInfo)
-    requires { ⌜ 32 ≤ length (now table) ⌝ }
+    requires { ⌜ Sized (now table) ⌝ }
     requires { ⌜ a .clock ≤ 281474976710655 ⌝ }
     requires { ⌜ p .metric .0 + a .link .0 ≤ 4294967294 ⌝ }
     requires { ⌜ p .hops .0 < 255 ⌝ }

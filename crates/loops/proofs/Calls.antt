@@ -9,7 +9,7 @@ use Rattle.octets.specs.LittleEndian.{Octets}
 use Rattle.table.specs.declared.address.Address.{Address}
 use Rattle.table.specs.declared.row.Head.{Head}
 use Rattle.table.specs.declared.row.Row.{Row}
-use Rattle.table.specs.Row.{headWith}
+use Rattle.table.specs.Row.{headWith, isThrough}
 use Rattle.table.specs.Layout.{putHead}
 use Rattle.table.specs.Table.{own, number, rowFor, changeWhere}
 use Rattle.table.proofs.Heads.{head-found}
@@ -27,7 +27,7 @@ use Rattle.rules.specs.declared.Arrival.{Arrival}
 use Rattle.rules.specs.Learn.{learnt}
 use Rattle.rules.specs.Destinations.{Answered, allAnswered}
 use Rattle.rules.specs.Onward.{onward, toAll, rannOnward, rreqOnward, rrepOnward}
-use Rattle.rules.specs.Errors.{isThrough, isMatch, erred, broken, brokenEntries, errorAt}
+use Rattle.rules.specs.Errors.{isMatch, erred, broken, brokenEntries, errorAt}
 use Rattle.rules.specs.Receive.{pathOf, rannReceived, rrepReceived, rreqReceived, rerrReceived, received, receiving, receive}
 use Rattle.rules.specs.Originate.{numberedHead, ownPath, announced, requested, asking, ask, announcing, announce, requestingAsRoot, rootRequest}
 use Rattle.rules.specs.Break.{brokenOff, breaking, breakNeighbour}

@@ -6,7 +6,7 @@ use mathlib.Core.List.{List, map}
 use lib.Dec.{eqb, ltb}
 use Rattle.table.specs.declared.address.Address.{Address}
 use Rattle.table.specs.declared.row.Row.{Row}
-use Rattle.table.specs.Row.{active, freeRow, invalidated, raised}
+use Rattle.table.specs.Row.{active, freeRow, invalidated, raised, isThrough}
 use Rattle.table.specs.Table.{number, rowFor, changeWhere}
 use Rattle.element.specs.declared.PathInfo.{PathInfo}
 use Rattle.element.specs.Element.{Element, rann, rreq, rrep, rerr}
@@ -15,7 +15,6 @@ use Rattle.rules.specs.Decision.{Check, Ruling, decide, refuse_when_}
 use Rattle.rules.specs.Lists.{has}
 use Rattle.rules.specs.Outcome.{Effect, underHead}
 use Rattle.rules.specs.declared.Arrival.{Arrival}
-use Rattle.rules.specs.Errors.{isThrough}
 use Rattle.rules.specs.Receive.{ofPath, isStaleFor, receiving}
 use Rattle.rules.specs.Break.{brokenOff, breaking}
 use Rattle.rules.specs.Calls.{receives, makes, asks, announces, requestsAsRoot, breaks, outcome}

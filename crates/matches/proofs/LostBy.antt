@@ -13,7 +13,8 @@ use Rattle.table.specs.Table.{findRow}
 use Rattle.table.proofs.Cases.{row-at, row-none}
 use Rattle.element.specs.declared.NumberedAddress.{NumberedAddress}
 use Rattle.element.specs.Entries.{each, numberedAt}
-use Rattle.rules.specs.Errors.{isThrough, isLostBy, matches}
+use Rattle.table.specs.Row.{isThrough}
+use Rattle.rules.specs.Errors.{isLostBy, matches}
 use Rattle.rules.specs.Lists.{any}
 use Rattle.rules.proofs.AnyOf.{any-found, any-more, any-ended}
 

@@ -1,7 +1,6 @@
 // The matches of a RERR: destinations that this point reaches through its transmitter.
 use element::NumberedAddress;
 use element::list;
-use point::break_neighbour;
 use rules::Arrival;
 use table::row;
 use table::row::Row;
@@ -9,21 +8,20 @@ use table::search;
 use table::search::Found;
 ghost use mathlib.Core.Path.{_≡_};
 ghost use mathlib.Core.Bool.{not};
-ghost use Prim.Native.Nat.{_≤_};
-ghost use lib.ListN.{length};
 ghost use Rattle.element.specs.Entries.{numberedIn};
 ghost use Rattle.rules.specs.Errors.{isLostBy, matches};
 ghost use Rattle.rules.specs.Lists.{any};
+ghost use Rattle.table.specs.Layout.{Sized};
 
 // Whether the row is active, of known number, with the transmitter as next hop.
 pub fn is_lost_by(a: Arrival, r: Row) -> bool
     ensures { λ b. ⌜ b ≡ isLostBy (a .clock) (a .transmitter) r ⌝ }
 {
-    break_neighbour::is_through(r, a.clock, a.transmitter) & (r.known == 1)
+    r.is_through(a.clock, a.transmitter) & (r.known == 1)
 }
 
 pub fn is_match(table: &[u8], a: Arrival, m: NumberedAddress) -> bool
-    requires { ⌜ 32 ≤ length (now table) ⌝ }
+    requires { ⌜ Sized (now table) ⌝ }
     ensures { λ b. ⌜ b ≡ matches (now (table .entry)) (a .clock) (a .transmitter) m ⌝ }
 {
     let Found::At(i) = search::find_row(table, m.address) else {
@@ -34,7 +32,7 @@ pub fn is_match(table: &[u8], a: Arrival, m: NumberedAddress) -> bool
 
 // Refusal 26.
 pub fn matches_nothing(table: &[u8], a: Arrival, part: &[u8]) -> bool
-    requires { ⌜ 32 ≤ length (now table) ⌝ }
+    requires { ⌜ Sized (now table) ⌝ }
     ensures { λ b. ⌜ b ≡ not (any (matches (now (table .entry)) (a .clock) (a .transmitter)) (numberedIn (now (part .entry)))) ⌝ }
 {
     let n = part.len() / 10;

@@ -18,6 +18,7 @@ ghost use Rattle.rules.specs.Lists.{any, those};
 ghost use Rattle.rules.specs.Onward.{toAll};
 ghost use Rattle.rules.specs.Outcome.{frameOctets};
 ghost use Rattle.matches.specs.Report.{matchOctets};
+ghost use Rattle.table.specs.Layout.{Sized};
 
 // Answers the place after it.
 fn write_if_match(
@@ -27,7 +28,7 @@ fn write_if_match(
     a: Arrival,
     m: NumberedAddress,
 ) -> usize
-    requires { ⌜ 32 ≤ length (now table) ⌝ }
+    requires { ⌜ Sized (now table) ⌝ }
     requires { ⌜ at + 10 ≤ length (now output) ⌝ }
     ensures { λ r. ⌜ r ≡ at + length (matchOctets (now (table .entry)) a m) ⌝ }
     ensures { λ _. ⌜ now (output .exit) ≡ over (now (output .entry)) at (matchOctets (now (table .entry)) a m) ⌝ }
@@ -40,7 +41,7 @@ fn write_if_match(
 
 // The matches of part, from place at on; answers the place after them.
 fn write_matches(output: &mut [u8], at: usize, table: &[u8], a: Arrival, part: &[u8]) -> usize
-    requires { ⌜ 32 ≤ length (now table) ⌝ }
+    requires { ⌜ Sized (now table) ⌝ }
     requires { ⌜ at + length (now part) ≤ length (now output) ⌝ }
     ensures { λ r. ⌜ r ≡ at + length (flatMap numberedOctets (those (matches (now (table .entry)) (a .clock) (a .transmitter)) (numberedIn (now (part .entry))))) ⌝ }
     ensures { λ _. ⌜ now (output .exit) ≡ over (now (output .entry)) at (flatMap numberedOctets (those (matches (now (table .entry)) (a .clock) (a .transmitter)) (numberedIn (now (part .entry))))) ⌝ }
@@ -58,7 +59,7 @@ fn write_matches(output: &mut [u8], at: usize, table: &[u8], a: Arrival, part: &
 // The RERR from the start of the output on, where something matches; answers the place after it. Its start has the count of
 // matches, and so is written when these are counted.
 pub fn write_error(output: &mut [u8], table: &[u8], a: Arrival, flags: u8, part: &[u8]) -> usize
-    requires { ⌜ 32 ≤ length (now table) ⌝ }
+    requires { ⌜ Sized (now table) ⌝ }
     requires { ⌜ length (now part) ≤ 250 ⌝ }
     requires { ⌜ 1560 ≤ length (now output) ⌝ }
     requires { ⌜ any (matches (now table) (a .clock) (a .transmitter)) (numberedIn (now part)) ≡ Bool.true ⌝ }

@@ -11,7 +11,7 @@ ghost use mathlib.Core.Path.{_≡_};
 ghost use mathlib.Core.Option.{some};
 ghost use Prim.Native.Nat.{_+_, _≤_};
 ghost use lib.ListN.{length};
-ghost use Rattle.table.specs.Layout.{place};
+ghost use Rattle.table.specs.Layout.{place, rowOctets, Sized};
 ghost use Rattle.table.specs.Table.{changeAt, changeBelow, changeWhere};
 ghost use Rattle.element.specs.Entries.{numberedIn};
 ghost use Rattle.rules.specs.Errors.{erred, erredWith, isMatch, numberBeside};
@@ -53,7 +53,7 @@ fn erred_with(number: SequenceNumber, r: Row) -> Row
 
 // Row i, if it is that of a match.
 fn lose_row(table: &mut [u8], i: usize, a: Arrival, part: &[u8])
-    requires { ⌜ place i + 32 ≤ length (now table) ⌝ }
+    requires { ⌜ place i + rowOctets ≤ length (now table) ⌝ }
     ensures { λ _. ⌜ now (table .exit) ≡ changeAt (isMatch (a .clock) (a .transmitter) (numberedIn (now (part .entry)))) (erred (numberedIn (now (part .entry)))) i (now (table .entry)) ⌝ }
 {
     let r = row::read_row(table, i);
@@ -80,7 +80,7 @@ fn lose_rows(table: &mut [u8], n: usize, a: Arrival, part: &[u8])
 
 // Invalidates the row of each match.
 pub fn lose_matches(table: &mut [u8], a: Arrival, part: &[u8])
-    requires { ⌜ 32 ≤ length (now table) ⌝ }
+    requires { ⌜ Sized (now table) ⌝ }
     ensures { λ _. ⌜ now (table .exit) ≡ changeWhere (isMatch (a .clock) (a .transmitter) (numberedIn (now (part .entry)))) (erred (numberedIn (now (part .entry)))) (now (table .entry)) ⌝ }
 {
     let n = search::rows_of(table);

@@ -32,10 +32,11 @@ use Rattle.rules.specs.NextHop.{alongRow}
 use Rattle.rules.specs.Onward.{onward, toAll, towards, rannOnward, rrepOnward}
 use Rattle.rules.specs.Outcome.{Frame, frameOctets}
 use Rattle.rules.proofs.FrameOctets.{no-frame, one-frame}
-use Rattle.point.specs.declared.Emitted.{Emitted}
-use Rattle.point.specs.declared.next_hop.Hop.{Hop}
-use Rattle.point.specs.declared.next_hop.Hop.the-variants.{Via, Refused}
-use Rattle.point.specs.Answers.{emitted, decisionOf}
+use Rattle.calls.specs.declared.Emitted.{Emitted}
+use Rattle.table_calls.specs.declared.next_hop.Hop.{Hop}
+use Rattle.table_calls.specs.declared.next_hop.Hop.the-variants.{Via, Refused}
+use Rattle.calls.specs.Answers.{emitted}
+use Rattle.table_calls.specs.Answers.{decisionOf}
 use Rattle.onward.specs.declared.receiver.Receiver.{Receiver}
 use Rattle.onward.specs.declared.receiver.Receiver.the-variants.{To, Nobody}
 use Rattle.onward.specs.Sent.{sentTo, activeHop, replyReceiver, rrepForward}

@@ -19,13 +19,13 @@ use Rattle.element.specs.Lists.{allOnes}
 use Rattle.element.specs.Octets.{frameStart}
 use Rattle.element.proofs.Written.{started-last}
 use Rattle.rules.specs.declared.Arrival.{Arrival}
-use Rattle.rules.specs.Flags.{unicast}
+use Rattle.element.specs.Flags.{unicast}
 use Rattle.rules.specs.Onward.{onward, toAll, towards, rreqOnward}
 use Rattle.rules.specs.Outcome.{Frame, frameOctets}
-use Rattle.point.specs.declared.Emitted.{Emitted}
-use Rattle.point.specs.Answers.{emitted}
-use Rattle.destinations.specs.Kept.{keptOf, keptAmong}
-use Rattle.destinations.proofs.KeptOnes.{kept-address, kept-few}
+use Rattle.calls.specs.declared.Emitted.{Emitted}
+use Rattle.calls.specs.Answers.{emitted}
+use Rattle.onward.specs.Kept.{keptOf, keptAmong}
+use Rattle.onward.proofs.KeptOnes.{kept-address, kept-few}
 use Rattle.onward.specs.declared.receiver.Receiver.{Receiver}
 use Rattle.onward.specs.declared.receiver.Receiver.the-variants.{To, Nobody}
 use Rattle.onward.specs.Sent.{sentTo, activeHop, requestReceiver, rreqForward, sentWith, keptSentTo, requestSent, unicastToSeveral}

@@ -19,10 +19,10 @@ use Rattle.element.specs.Element.{Element, rreq}
 use Rattle.element.specs.Entries.{targetAt}
 use Rattle.element.specs.Lists.{allOnes}
 use Rattle.rules.specs.declared.Arrival.{Arrival}
-use Rattle.rules.specs.Flags.{unicast}
+use Rattle.element.specs.Flags.{unicast}
 use Rattle.rules.specs.Onward.{onward}
 use Rattle.rules.specs.Outcome.{Frame}
-use Rattle.destinations.specs.Kept.{keptAmong}
+use Rattle.onward.specs.Kept.{keptAmong}
 use Rattle.onward.specs.declared.receiver.Receiver.{Receiver}
 use Rattle.onward.specs.declared.receiver.Receiver.the-variants.{To, Nobody}
 

@@ -1,8 +1,8 @@
 // A RANN goes on to all ones.
+use calls::Emitted;
 use element::PathInfo;
 use element::list;
 use element::write;
-use point::Emitted;
 use rules::Arrival;
 use table::address::Address;
 ghost use mathlib.Core.Path.{_≡_};
@@ -11,7 +11,7 @@ ghost use lib.ListN.{length};
 ghost use Rattle.octets.specs.LittleEndian.{over};
 ghost use Rattle.rules.specs.Onward.{rannOnward};
 ghost use Rattle.rules.specs.Outcome.{frameOctets};
-ghost use Rattle.point.specs.Answers.{emitted};
+ghost use Rattle.calls.specs.Answers.{emitted};
 
 // If TTL is at least 2.
 pub fn send_on(output: &mut [u8], a: Arrival, p: PathInfo) -> Emitted

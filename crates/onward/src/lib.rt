@@ -1,11 +1,12 @@
 // What goes on of a received RANN, RREQ or RREP, and to whom. The table is that after steps 1 and 2.
 pub mod announcement;
+mod kept;
 mod receiver;
 pub mod reply;
 pub mod request;
 
+use calls::here;
 use element::PathInfo;
-use learn::here;
 use rules::Arrival;
 ghost use mathlib.Core.Path.{_≡_};
 ghost use Prim.Native.Nat.{_+_, _<_, _≤_};

@@ -1,11 +1,10 @@
 // To whom an element goes on.
-use point::next_hop;
-use point::next_hop::Hop;
 use table::address::Address;
+use table_calls::next_hop;
+use table_calls::next_hop::Hop;
 ghost use mathlib.Core.Path.{_≡_};
-ghost use Prim.Native.Nat.{_≤_};
-ghost use lib.ListN.{length};
 ghost use Rattle.table.specs.Table.{rowFor};
+ghost use Rattle.table.specs.Layout.{Sized};
 ghost use Rattle.onward.specs.Sent.{activeHop};
 
 pub enum Receiver {
@@ -15,7 +14,7 @@ pub enum Receiver {
 
 // The active next hop of a destination.
 pub fn active_hop(table: &[u8], clock: u64, destination: Address) -> Receiver
-    requires { ⌜ 32 ≤ length (now table) ⌝ }
+    requires { ⌜ Sized (now table) ⌝ }
     ensures { λ r. ⌜ r ≡ activeHop clock (rowFor (now (table .entry)) destination) ⌝ }
 {
     match next_hop::along_row(table, clock, destination) {

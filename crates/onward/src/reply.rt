@@ -1,9 +1,9 @@
 // A RREP goes on towards its source, with its dependents unread.
 use crate::receiver;
 use crate::receiver::Receiver;
+use calls::Emitted;
 use element::RrepFields;
 use element::write;
-use point::Emitted;
 use rules::Arrival;
 use table::address::Address;
 use table::row;
@@ -15,12 +15,13 @@ ghost use Rattle.element.specs.Entries.{numberedIn};
 ghost use Rattle.element.specs.Element.{rrep};
 ghost use Rattle.rules.specs.Onward.{rrepOnward};
 ghost use Rattle.rules.specs.Outcome.{frameOctets};
-ghost use Rattle.point.specs.Answers.{emitted};
+ghost use Rattle.calls.specs.Answers.{emitted};
 ghost use Rattle.onward.specs.Sent.{replyReceiver, rrepForward, sentTo};
+ghost use Rattle.table.specs.Layout.{Sized};
 
 // To nobody if the source is this point.
 fn receiver_of(table: &[u8], clock: u64, source: Address) -> Receiver
-    requires { ⌜ 32 ≤ length (now table) ⌝ }
+    requires { ⌜ Sized (now table) ⌝ }
     ensures { λ r. ⌜ r ≡ replyReceiver (now (table .entry)) clock source ⌝ }
 {
     if source.0 == row::read_head(table).own.0 {
@@ -56,7 +57,7 @@ fn send_to(output: &mut [u8], receiver: Receiver, f: RrepFields, part: &[u8]) ->
 }
 
 pub fn send_on(output: &mut [u8], table: &[u8], a: Arrival, f: RrepFields, part: &[u8]) -> Emitted
-    requires { ⌜ 32 ≤ length (now table) ⌝ }
+    requires { ⌜ Sized (now table) ⌝ }
     requires { ⌜ f .path .metric .0 + a .link .0 ≤ 4294967294 ⌝ }
     requires { ⌜ f .path .hops .0 < 255 ⌝ }
     requires { ⌜ 1 ≤ f .path .ttl ⌝ }

@@ -1,13 +1,13 @@
 // A RREQ goes on with the destinations that are kept.
+use crate::kept;
 use crate::receiver;
 use crate::receiver::Receiver;
-use destinations::flags;
-use destinations::kept;
+use calls::Emitted;
 use element::PathInfo;
 use element::RreqFields;
+use element::flags;
 use element::list;
 use element::write;
-use point::Emitted;
 use rules::Arrival;
 use table::address::Address;
 ghost use mathlib.Core.Path.{_≡_};
@@ -17,13 +17,14 @@ ghost use lib.ListN.{length};
 ghost use Rattle.octets.specs.LittleEndian.{over};
 ghost use Rattle.rules.specs.Onward.{rreqOnward};
 ghost use Rattle.rules.specs.Outcome.{frameOctets};
-ghost use Rattle.point.specs.Answers.{emitted};
-ghost use Rattle.destinations.specs.Kept.{keptAmong};
+ghost use Rattle.calls.specs.Answers.{emitted};
+ghost use Rattle.onward.specs.Kept.{keptAmong};
 ghost use Rattle.onward.specs.Sent.{requestReceiver, requestSent, rreqForward, sentWith, unicastToSeveral};
+ghost use Rattle.table.specs.Layout.{Sized};
 
 // All ones, or if unicast the active next hop of its destination.
 fn receiver_of(table: &[u8], clock: u64, p: PathInfo, part: &[u8]) -> Receiver
-    requires { ⌜ 32 ≤ length (now table) ⌝ }
+    requires { ⌜ Sized (now table) ⌝ }
     requires { ⌜ 11 ≤ length (now part) ⌝ }
     ensures { λ r. ⌜ r ≡ requestReceiver (now (table .entry)) clock p (now (part .entry)) ⌝ }
 {
@@ -55,7 +56,7 @@ fn send_kept(
     clock: u64,
     part: &[u8],
 ) -> Emitted
-    requires { ⌜ 32 ≤ length (now table) ⌝ }
+    requires { ⌜ Sized (now table) ⌝ }
     requires { ⌜ length (now part) ≤ 220 ⌝ }
     requires { ⌜ at + 254 ≤ length (now output) ⌝ }
     ensures { λ r. ⌜ r ≡ emitted (sentWith to f (keptAmong (now (table .entry)) clock (now (part .entry)))) ⌝ }
@@ -79,7 +80,7 @@ fn send(
     clock: u64,
     part: &[u8],
 ) -> Emitted
-    requires { ⌜ 32 ≤ length (now table) ⌝ }
+    requires { ⌜ Sized (now table) ⌝ }
     requires { ⌜ at + 254 ≤ length (now output) ⌝ }
     requires { ⌜ 11 ≤ length (now part) ⌝ }
     requires { ⌜ length (now part) ≤ 220 ⌝ }
@@ -101,7 +102,7 @@ pub fn send_on(
     f: RreqFields,
     part: &[u8],
 ) -> Emitted
-    requires { ⌜ 32 ≤ length (now table) ⌝ }
+    requires { ⌜ Sized (now table) ⌝ }
     requires { ⌜ at + 254 ≤ length (now output) ⌝ }
     requires { ⌜ 11 ≤ length (now part) ⌝ }
     requires { ⌜ length (now part) ≤ 220 ⌝ }

@@ -20,13 +20,14 @@ use Rattle.rules.specs.Decision.{refused}
 use Rattle.rules.specs.Outcome.{Exit, atExit}
 use Rattle.rules.specs.Receive.{receiving, receive}
 use Rattle.rules.proofs.Rulings.{passed-check}
-use Rattle.point.specs.declared.Outcome.{Outcome}
-use Rattle.point.specs.declared.Answer.{Answer}
-use Rattle.point.specs.declared.Answer.the-variants.{Accepted, Refused}
-use Rattle.point.specs.Answers.{answerTo, exits}
-use Rattle.point.proofs.Checks.{answer-passed, part-refused, part-decided, refusal, table-long, table-short, output-long}
+use Rattle.calls.specs.declared.Outcome.{Outcome}
+use Rattle.calls.specs.declared.Answer.{Answer}
+use Rattle.calls.specs.declared.Answer.the-variants.{Accepted, Refused}
+use Rattle.calls.specs.Answers.{answerTo, exits}
+use Rattle.calls.proofs.Checks.{answer-passed, part-refused, part-decided, refusal, table-sized, output-long}
 use Rattle.receive.specs.Checks.{arrivalChecks}
 use Rattle.receive.specs.Judged.{judgedElement, readingOctets, judgedOctets}
+use Rattle.table.specs.Layout.{headOctets, Sized}
 
 -- ---- the first checks
 
@@ -43,13 +44,9 @@ module _ (t output : List ℕ) (a : Arrival) (r : Answer) (re : r ≡ answerTo (
     arrival-accepted s x xe =
         xe ∙ ap (atExit t output) (part-decided (readingOctets t a s .otherwise) (arrivalChecks t (length output) a) (readingOctets t a s .checks) (sym ok ∙ re))
 
-    pub arrival-table-long : 32 ≤ length t
+    pub arrival-table-sized : Sized t
     unfolding arrivalChecks
-    arrival-table-long = table-long t output _ r re ok
-
-    pub arrival-table-short : length t ≤ 4128
-    unfolding arrivalChecks
-    arrival-table-short = table-short t output _ r re ok
+    arrival-table-sized = table-sized t output _ r re ok
 
     pub arrival-output-long : 1560 ≤ length output
     unfolding arrivalChecks

@@ -14,7 +14,7 @@ use Rattle.element.specs.Element.{rreq}
 use Rattle.element.specs.Entries.{targetsIn}
 use Rattle.element.specs.Lists.{entriesIn, addressesIn, anyForbidden, allOnes, among, twice, onesBesideOthers}
 use Rattle.element.proofs.Scans.{addresses-many, target-addresses}
-use Rattle.rules.specs.Flags.{unicast}
+use Rattle.element.specs.Flags.{unicast}
 use Rattle.rules.specs.Receive.{hasBadAddress, hasBadList, severalOrAll}
 
 -- a unicast RREQ alone is looked through

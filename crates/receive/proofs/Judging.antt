@@ -20,16 +20,16 @@ use Rattle.element.proofs.Scans.{addresses-many, target-addresses, numbered-add
 use Rattle.rules.specs.declared.Arrival.{Arrival}
 use Rattle.rules.specs.Decision.{accepted}
 use Rattle.rules.specs.Errors.{matches}
-use Rattle.rules.specs.Flags.{unicast}
+use Rattle.element.specs.Flags.{unicast}
 use Rattle.rules.specs.Lists.{any, has}
 use Rattle.rules.specs.Outcome.{Exit, atExit}
 use Rattle.rules.specs.Receive.{pathOf, targetAddresses, hasBadAddress, hasBadList, severalOrAll, isLowTtlReply, matchesNothing, received, judging}
 use Rattle.rules.proofs.Rulings.{Passed, passed-check}
-use Rattle.point.specs.declared.Outcome.{Outcome}
-use Rattle.point.specs.declared.Answer.{Answer}
-use Rattle.point.specs.declared.Answer.the-variants.{Accepted, Refused}
-use Rattle.point.specs.Answers.{answerTo, exits}
-use Rattle.point.proofs.Checks.{answer-passed, refusal, acceptance}
+use Rattle.calls.specs.declared.Outcome.{Outcome}
+use Rattle.calls.specs.declared.Answer.{Answer}
+use Rattle.calls.specs.declared.Answer.the-variants.{Accepted, Refused}
+use Rattle.calls.specs.Answers.{answerTo, exits}
+use Rattle.calls.proofs.Checks.{answer-passed, refusal, acceptance}
 use Rattle.onward.specs.Sent.{unicastToSeveral}
 use Rattle.receive.specs.declared.faults.Faults.{Faults}
 use Rattle.receive.specs.Checks.{faultsOf, pathChecks, errorChecks}

@@ -31,15 +31,15 @@ use Rattle.rules.specs.Outcome.{Frame, frameOctets, underHead, atExit}
 use Rattle.rules.specs.Receive.{rannReceived, rrepReceived, rreqReceived, rerrReceived, received}
 use Rattle.rules.proofs.Emitting.{Emits, rreq-emitted}
 use Rattle.rules.proofs.FrameOctets.{no-frame, one-frame, frames-append}
-use Rattle.point.specs.declared.Outcome.{Outcome}
-use Rattle.point.specs.declared.Emitted.{Emitted}
-use Rattle.point.specs.Answers.{emitted, exits}
-use Rattle.point.proofs.Checks.{accepted-exit}
-use Rattle.point.proofs.Neighbours.{head-under, same-number}
+use Rattle.calls.specs.declared.Outcome.{Outcome}
+use Rattle.calls.specs.declared.Emitted.{Emitted}
+use Rattle.calls.specs.Answers.{emitted, exits}
+use Rattle.calls.proofs.Checks.{accepted-exit}
+use Rattle.calls.proofs.Neighbours.{head-under, same-number}
 use Rattle.destinations.specs.declared.replies.Replied.{Replied}
-use Rattle.destinations.specs.Kept.{keptAmong}
+use Rattle.onward.specs.Kept.{keptAmong}
 use Rattle.destinations.specs.Replies.{repliedFrom}
-use Rattle.destinations.proofs.KeptOnes.{answered-among, kept-few}
+use Rattle.onward.proofs.KeptOnes.{answered-among, kept-few}
 use Rattle.destinations.proofs.Replying.{replies-long}
 use Rattle.receive.specs.declared.request.Sent.{Sent}
 use Rattle.receive.specs.Sent.{together, framesAfter, sentFor}

@@ -17,7 +17,7 @@ use Rattle.rules.specs.Errors.{matches}
 use Rattle.rules.specs.Learn.{metricHere}
 use Rattle.rules.specs.Lists.{any}
 use Rattle.rules.specs.Receive.{hasBadAddress, hasBadList, isLowTtlReply, isStale, rowsNeeded}
-use Rattle.point.specs.Checks.{operandChecks, stateChecks}
+use Rattle.calls.specs.Checks.{operandChecks, stateChecks}
 use Rattle.receive.specs.declared.faults.Faults.{Faults}
 
 -- 1 to 5

@@ -7,8 +7,8 @@ use Rattle.rules.specs.declared.Arrival.{Arrival}
 use Rattle.rules.specs.Destinations.{Answered}
 use Rattle.rules.specs.Onward.{rreqOnward}
 use Rattle.rules.specs.Outcome.{Frame}
-use Rattle.point.specs.declared.Emitted.{Emitted}
-use Rattle.point.specs.Answers.{emitted}
+use Rattle.calls.specs.declared.Emitted.{Emitted}
+use Rattle.calls.specs.Answers.{emitted}
 use Rattle.destinations.specs.declared.replies.Replied.{Replied}
 use Rattle.receive.specs.declared.request.Sent.{Sent}
 

@@ -1,12 +1,12 @@
 // A received RANN.
 use crate::faults;
 use crate::path;
+use calls::Answer;
+use calls::Outcome;
+use calls::clocked;
 use element::PathInfo;
 use learn::steps;
 use onward::announcement;
-use point::Answer;
-use point::Outcome;
-use point::clocked;
 use rules::Arrival;
 use table::row;
 ghost use mathlib.Core.Path.{_≡_};
@@ -16,12 +16,12 @@ ghost use Rattle.element.specs.Element.{rann};
 ghost use Rattle.rules.specs.Decision.{accepted};
 ghost use Rattle.rules.specs.Outcome.{atExit};
 ghost use Rattle.rules.specs.Receive.{received};
-ghost use Rattle.point.specs.Answers.{answerTo, exits};
+ghost use Rattle.calls.specs.Answers.{answerTo, exits};
 ghost use Rattle.receive.specs.Judged.{elementChecks, judgedElement};
+ghost use Rattle.table.specs.Layout.{Sized};
 
 fn check(table: &[u8], a: Arrival, p: PathInfo) -> Answer
-    requires { ⌜ 32 ≤ length (now table) ⌝ }
-    requires { ⌜ length (now table) ≤ 4128 ⌝ }
+    requires { ⌜ Sized (now table) ⌝ }
     ensures { λ r. ⌜ r ≡ answerTo (elementChecks (now (table .entry)) a (rann p)) ⌝ }
 {
     path::check(table, a, p, faults::of_rann(p))
@@ -29,7 +29,7 @@ fn check(table: &[u8], a: Arrival, p: PathInfo) -> Answer
 
 // Steps 1 and 2, and it goes on.
 fn take(table: &mut [u8], output: &mut [u8], a: Arrival, p: PathInfo) -> Outcome
-    requires { ⌜ 32 ≤ length (now table) ⌝ }
+    requires { ⌜ Sized (now table) ⌝ }
     requires { ⌜ 1560 ≤ length (now output) ⌝ }
     requires { ⌜ a .clock ≤ 281474976710655 ⌝ }
     requires { ⌜ p .metric .0 + a .link .0 ≤ 4294967294 ⌝ }
@@ -44,8 +44,7 @@ fn take(table: &mut [u8], output: &mut [u8], a: Arrival, p: PathInfo) -> Outcome
 }
 
 pub fn receive(table: &mut [u8], output: &mut [u8], a: Arrival, p: PathInfo) -> Outcome
-    requires { ⌜ 32 ≤ length (now table) ⌝ }
-    requires { ⌜ length (now table) ≤ 4128 ⌝ }
+    requires { ⌜ Sized (now table) ⌝ }
     requires { ⌜ 1560 ≤ length (now output) ⌝ }
     requires { ⌜ a .clock ≤ 281474976710655 ⌝ }
     ensures { λ r. ⌜ exits r (now (table .exit)) (now (output .exit)) ≡ atExit (now (table .entry)) (now (output .entry)) (judgedElement (now (table .entry)) a (rann p)) ⌝ }

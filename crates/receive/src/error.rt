@@ -1,13 +1,13 @@
 // A received RERR.
+use calls::Answer;
+use calls::Emitted;
+use calls::Outcome;
+use calls::clocked;
 use element::list;
 use element::list::ListKind;
 use matches::matching;
 use matches::report;
 use matches::rows;
-use point::Answer;
-use point::Emitted;
-use point::Outcome;
-use point::clocked;
 use rules::Arrival;
 use table::row;
 ghost use mathlib.Core.Path.{_≡_};
@@ -22,10 +22,11 @@ ghost use Rattle.rules.specs.Errors.{matches};
 ghost use Rattle.rules.specs.Lists.{any};
 ghost use Rattle.rules.specs.Outcome.{atExit};
 ghost use Rattle.rules.specs.Receive.{received};
-ghost use Rattle.point.specs.Answers.{answerTo, exits};
-ghost use Rattle.point.specs.Checks.{stateChecks};
+ghost use Rattle.calls.specs.Answers.{answerTo, exits};
+ghost use Rattle.calls.specs.Checks.{stateChecks};
 ghost use Rattle.receive.specs.Checks.{listChecks, matchChecks};
 ghost use Rattle.receive.specs.Judged.{elementChecks, judgedElement};
+ghost use Rattle.table.specs.Layout.{Sized};
 
 // By its destinations alone: 9 and 10.
 fn check_list(part: &[u8]) -> Answer
@@ -42,7 +43,7 @@ fn check_list(part: &[u8]) -> Answer
 
 // By the state: 21, 22, 23 and 26.
 fn check_state(table: &[u8], a: Arrival, part: &[u8]) -> Answer
-    requires { ⌜ 32 ≤ length (now table) ⌝ }
+    requires { ⌜ Sized (now table) ⌝ }
     ensures { λ r. ⌜ r ≡ answerTo (stateChecks (now (table .entry)) (a .clock) (a .transmitter) ++ matchChecks (now (table .entry)) a (now (part .entry))) ⌝ }
 {
     if let Answer::Refused(n) = clocked::check_state(table, a.clock, a.transmitter) {
@@ -56,7 +57,7 @@ fn check_state(table: &[u8], a: Arrival, part: &[u8]) -> Answer
 
 // Flags play no part; the contract names the element.
 fn check(table: &[u8], a: Arrival, flags: u8, part: &[u8]) -> Answer
-    requires { ⌜ 32 ≤ length (now table) ⌝ }
+    requires { ⌜ Sized (now table) ⌝ }
     ensures { λ r. ⌜ r ≡ answerTo (elementChecks (now (table .entry)) a (rerr flags (numberedIn (now (part .entry))))) ⌝ }
 {
     if let Answer::Refused(n) = check_list(part) {
@@ -67,7 +68,7 @@ fn check(table: &[u8], a: Arrival, flags: u8, part: &[u8]) -> Answer
 
 // It goes on with its matches, and these are lost.
 fn take(table: &mut [u8], output: &mut [u8], a: Arrival, flags: u8, part: &[u8]) -> Outcome
-    requires { ⌜ 32 ≤ length (now table) ⌝ }
+    requires { ⌜ Sized (now table) ⌝ }
     requires { ⌜ 1560 ≤ length (now output) ⌝ }
     requires { ⌜ length (now part) ≤ 250 ⌝ }
     requires { ⌜ any (matches (now table) (a .clock) (a .transmitter)) (numberedIn (now part)) ≡ Bool.true ⌝ }
@@ -81,7 +82,7 @@ fn take(table: &mut [u8], output: &mut [u8], a: Arrival, flags: u8, part: &[u8])
 }
 
 pub fn receive(table: &mut [u8], output: &mut [u8], a: Arrival, flags: u8, part: &[u8]) -> Outcome
-    requires { ⌜ 32 ≤ length (now table) ⌝ }
+    requires { ⌜ Sized (now table) ⌝ }
     requires { ⌜ 1560 ≤ length (now output) ⌝ }
     requires { ⌜ length (now part) ≤ 250 ⌝ }
     ensures { λ r. ⌜ exits r (now (table .exit)) (now (output .exit)) ≡ atExit (now (table .entry)) (now (output .entry)) (judgedElement (now (table .entry)) a (rerr flags (numberedIn (now (part .entry))))) ⌝ }

@@ -1,8 +1,8 @@
 // The refusals of an element with a path whose test depends on its type: 9, 10 and 14.
-use destinations::flags;
 use element::PathInfo;
 use element::RrepFields;
 use element::RreqFields;
+use element::flags;
 use element::list;
 use element::list::ListKind;
 use table::address::Address;
@@ -13,7 +13,7 @@ ghost use Rattle.element.specs.Element.{rann, rrep, rreq};
 ghost use Rattle.element.specs.Entries.{targetsIn};
 ghost use Rattle.element.specs.Lists.{addressesIn};
 ghost use Rattle.element.specs.declared.list.ListKind.{ListKind};
-ghost use Rattle.rules.specs.Flags.{unicast};
+ghost use Rattle.element.specs.Flags.{unicast};
 ghost use Rattle.rules.specs.Receive.{hasBadAddress, hasBadList, severalOrAll};
 ghost use Rattle.receive.specs.Checks.{faultsOf};
 

@@ -6,20 +6,21 @@ mod path;
 mod reply;
 mod request;
 
+use calls::Answer;
+use calls::Outcome;
+use calls::clocked;
 use element::read;
 use element::read::Reading;
-use point::Answer;
-use point::Outcome;
-use point::clocked;
 use rules::Arrival;
 ghost use mathlib.Core.Path.{_≡_};
 ghost use Prim.Native.Nat.{_≤_};
 ghost use lib.ListN.{length};
 ghost use Rattle.rules.specs.Outcome.{atExit};
 ghost use Rattle.rules.specs.Receive.{receive};
-ghost use Rattle.point.specs.Answers.{answerTo, exits};
+ghost use Rattle.calls.specs.Answers.{answerTo, exits};
 ghost use Rattle.receive.specs.Checks.{arrivalChecks};
 ghost use Rattle.receive.specs.Judged.{judgedOctets};
+ghost use Rattle.table.specs.Layout.{Sized};
 
 // The refusals 1 to 5.
 fn check_arrival(table: &[u8], output: &[u8], a: Arrival) -> Answer
@@ -36,8 +37,7 @@ fn check_arrival(table: &[u8], output: &[u8], a: Arrival) -> Answer
 
 // By type, after the refusals 1 to 5.
 fn receive_element(table: &mut [u8], output: &mut [u8], a: Arrival, element: &[u8]) -> Outcome
-    requires { ⌜ 32 ≤ length (now table) ⌝ }
-    requires { ⌜ length (now table) ≤ 4128 ⌝ }
+    requires { ⌜ Sized (now table) ⌝ }
     requires { ⌜ 1560 ≤ length (now output) ⌝ }
     requires { ⌜ a .clock ≤ 281474976710655 ⌝ }
     ensures { λ r. ⌜ exits r (now (table .exit)) (now (output .exit)) ≡ atExit (now (table .entry)) (now (output .entry)) (judgedOctets (now (table .entry)) a (now (element .entry))) ⌝ }

@@ -1,21 +1,20 @@
 // The refusals of an element with a path: a RANN, a RREQ or a RREP.
 use crate::faults::Faults;
+use calls::Answer;
+use calls::clocked;
 use element::PathInfo;
 use learn::room;
 use learn::stale;
-use point::Answer;
-use point::clocked;
 use rules::Arrival;
 use table::row;
 ghost use mathlib.Core.Path.{_≡_};
 ghost use mathlib.Core.List.{_++_};
-ghost use Prim.Native.Nat.{_≤_};
 ghost use lib.Dec.{ltb};
-ghost use lib.ListN.{length};
 ghost use Rattle.rules.specs.Learn.{metricHere};
-ghost use Rattle.point.specs.Answers.{answerTo};
-ghost use Rattle.point.specs.Checks.{stateChecks};
+ghost use Rattle.calls.specs.Answers.{answerTo};
+ghost use Rattle.calls.specs.Checks.{stateChecks};
 ghost use Rattle.receive.specs.Checks.{fieldChecks, pathChecks, rowChecks};
+ghost use Rattle.table.specs.Layout.{Sized};
 
 // Received metric + link metric above 4,294,967,294.
 fn is_too_far(a: Arrival, p: PathInfo) -> bool
@@ -51,8 +50,7 @@ fn check_fields(a: Arrival, p: PathInfo, faults: Faults) -> Answer
 
 // By the rows: 24, 25 and 27.
 fn check_rows(table: &[u8], a: Arrival, p: PathInfo) -> Answer
-    requires { ⌜ 32 ≤ length (now table) ⌝ }
-    requires { ⌜ length (now table) ≤ 4128 ⌝ }
+    requires { ⌜ Sized (now table) ⌝ }
     ensures { λ r. ⌜ r ≡ answerTo (rowChecks (now (table .entry)) a p) ⌝ }
 {
     if p.subject.0 == row::read_head(table).own.0 {
@@ -69,8 +67,7 @@ fn check_rows(table: &[u8], a: Arrival, p: PathInfo) -> Answer
 
 // By the state: 21 to 25 and 27.
 fn check_state(table: &[u8], a: Arrival, p: PathInfo) -> Answer
-    requires { ⌜ 32 ≤ length (now table) ⌝ }
-    requires { ⌜ length (now table) ≤ 4128 ⌝ }
+    requires { ⌜ Sized (now table) ⌝ }
     ensures { λ r. ⌜ r ≡ answerTo (stateChecks (now (table .entry)) (a .clock) (a .transmitter) ++ rowChecks (now (table .entry)) a p) ⌝ }
 {
     if let Answer::Refused(n) = clocked::check_state(table, a.clock, a.transmitter) {
@@ -80,8 +77,7 @@ fn check_state(table: &[u8], a: Arrival, p: PathInfo) -> Answer
 }
 
 pub fn check(table: &[u8], a: Arrival, p: PathInfo, faults: Faults) -> Answer
-    requires { ⌜ 32 ≤ length (now table) ⌝ }
-    requires { ⌜ length (now table) ≤ 4128 ⌝ }
+    requires { ⌜ Sized (now table) ⌝ }
     ensures { λ r. ⌜ r ≡ answerTo (pathChecks faults (now (table .entry)) a p) ⌝ }
 {
     if let Answer::Refused(n) = check_fields(a, p, faults) {

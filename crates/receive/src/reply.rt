@@ -1,12 +1,12 @@
 // A received RREP.
 use crate::faults;
 use crate::path;
+use calls::Answer;
+use calls::Outcome;
+use calls::clocked;
 use element::RrepFields;
 use learn::steps;
 use onward::reply;
-use point::Answer;
-use point::Outcome;
-use point::clocked;
 use rules::Arrival;
 use table::row;
 ghost use mathlib.Core.Path.{_≡_};
@@ -17,13 +17,13 @@ ghost use Rattle.element.specs.Entries.{numberedIn};
 ghost use Rattle.rules.specs.Decision.{accepted};
 ghost use Rattle.rules.specs.Outcome.{atExit};
 ghost use Rattle.rules.specs.Receive.{received};
-ghost use Rattle.point.specs.Answers.{answerTo, exits};
+ghost use Rattle.calls.specs.Answers.{answerTo, exits};
 ghost use Rattle.receive.specs.Judged.{elementChecks, judgedElement};
+ghost use Rattle.table.specs.Layout.{Sized};
 
 // Dependents play no part; the contract names the element.
 fn check(table: &[u8], a: Arrival, f: RrepFields, part: &[u8]) -> Answer
-    requires { ⌜ 32 ≤ length (now table) ⌝ }
-    requires { ⌜ length (now table) ≤ 4128 ⌝ }
+    requires { ⌜ Sized (now table) ⌝ }
     ensures { λ r. ⌜ r ≡ answerTo (elementChecks (now (table .entry)) a (rrep f (numberedIn (now (part .entry))))) ⌝ }
 {
     path::check(table, a, f.path, faults::of_rrep(f))
@@ -31,7 +31,7 @@ fn check(table: &[u8], a: Arrival, f: RrepFields, part: &[u8]) -> Answer
 
 // Steps 1 and 2, and it goes on.
 fn take(table: &mut [u8], output: &mut [u8], a: Arrival, f: RrepFields, part: &[u8]) -> Outcome
-    requires { ⌜ 32 ≤ length (now table) ⌝ }
+    requires { ⌜ Sized (now table) ⌝ }
     requires { ⌜ 1560 ≤ length (now output) ⌝ }
     requires { ⌜ a .clock ≤ 281474976710655 ⌝ }
     requires { ⌜ f .path .metric .0 + a .link .0 ≤ 4294967294 ⌝ }
@@ -55,8 +55,7 @@ pub fn receive(
     f: RrepFields,
     part: &[u8],
 ) -> Outcome
-    requires { ⌜ 32 ≤ length (now table) ⌝ }
-    requires { ⌜ length (now table) ≤ 4128 ⌝ }
+    requires { ⌜ Sized (now table) ⌝ }
     requires { ⌜ 1560 ≤ length (now output) ⌝ }
     requires { ⌜ a .clock ≤ 281474976710655 ⌝ }
     requires { ⌜ length (now part) ≤ 220 ⌝ }

@@ -1,16 +1,16 @@
 // A received RREQ.
 use crate::faults;
 use crate::path;
+use calls::Answer;
+use calls::Emitted;
+use calls::Outcome;
+use calls::clocked;
 use counters::SequenceNumber;
 use destinations::replies;
 use destinations::replies::Replied;
 use element::RreqFields;
 use learn::steps;
 use onward::request;
-use point::Answer;
-use point::Emitted;
-use point::Outcome;
-use point::clocked;
 use rules::Arrival;
 use table::row;
 ghost use mathlib.Core.Bool.{false};
@@ -24,10 +24,11 @@ ghost use Rattle.rules.specs.Decision.{accepted};
 ghost use Rattle.rules.specs.Destinations.{allAnswered};
 ghost use Rattle.rules.specs.Outcome.{atExit, frameOctets};
 ghost use Rattle.rules.specs.Receive.{received};
-ghost use Rattle.point.specs.Answers.{answerTo, exits};
+ghost use Rattle.calls.specs.Answers.{answerTo, exits};
 ghost use Rattle.onward.specs.Sent.{unicastToSeveral};
 ghost use Rattle.receive.specs.Judged.{elementChecks, judgedElement};
 ghost use Rattle.receive.specs.Sent.{framesAfter, sentFor, together};
+ghost use Rattle.table.specs.Layout.{Sized};
 
 // What a RREQ was answered with: the own number after it, and what was written.
 pub struct Sent {
@@ -36,8 +37,7 @@ pub struct Sent {
 }
 
 fn check(table: &[u8], a: Arrival, f: RreqFields, part: &[u8]) -> Answer
-    requires { ⌜ 32 ≤ length (now table) ⌝ }
-    requires { ⌜ length (now table) ≤ 4128 ⌝ }
+    requires { ⌜ Sized (now table) ⌝ }
     ensures { λ r. ⌜ r ≡ answerTo (elementChecks (now (table .entry)) a (rreq f (targetsIn (now (part .entry))))) ⌝ }
 {
     path::check(table, a, f.path, faults::of_rreq(f, part))
@@ -67,7 +67,7 @@ fn answer(
     number: SequenceNumber,
     part: &[u8],
 ) -> Sent
-    requires { ⌜ 32 ≤ length (now table) ⌝ }
+    requires { ⌜ Sized (now table) ⌝ }
     requires { ⌜ 1560 ≤ length (now output) ⌝ }
     requires { ⌜ 11 ≤ length (now part) ⌝ }
     requires { ⌜ length (now part) ≤ 220 ⌝ }
@@ -84,7 +84,7 @@ fn answer(
 
 // Steps 1 and 2, the replies, and it goes on.
 fn take(table: &mut [u8], output: &mut [u8], a: Arrival, f: RreqFields, part: &[u8]) -> Outcome
-    requires { ⌜ 32 ≤ length (now table) ⌝ }
+    requires { ⌜ Sized (now table) ⌝ }
     requires { ⌜ 1560 ≤ length (now output) ⌝ }
     requires { ⌜ 11 ≤ length (now part) ⌝ }
     requires { ⌜ length (now part) ≤ 220 ⌝ }
@@ -110,8 +110,7 @@ pub fn receive(
     f: RreqFields,
     part: &[u8],
 ) -> Outcome
-    requires { ⌜ 32 ≤ length (now table) ⌝ }
-    requires { ⌜ length (now table) ≤ 4128 ⌝ }
+    requires { ⌜ Sized (now table) ⌝ }
     requires { ⌜ 1560 ≤ length (now output) ⌝ }
     requires { ⌜ a .clock ≤ 281474976710655 ⌝ }
     requires { ⌜ 11 ≤ length (now part) ⌝ }

@@ -6,7 +6,7 @@ use Rattle.counters.specs.Numbers.{stepped, wrapped, newer, older}
 use Rattle.counters.specs.Numbering.{advancedFor}
 use Rattle.table.specs.Address.{individual}
 use Rattle.table.specs.Layout.{sized, headAt, putHead, allZero, rowAt, putRow}
-use Rattle.table.specs.Row.{headWith, headOk, isFree, isUnnumbered, isOther, statusOk, boundsOk, isHeld, rowOk, active, renewed, numbered, invalidated, raised}
+use Rattle.table.specs.Row.{headWith, headOk, isFree, isUnnumbered, isOther, statusOk, boundsOk, isHeld, rowOk, active, renewed, numbered, invalidated, raised, isThrough}
 use Rattle.table.specs.Places.{first, count, every}
 use Rattle.table.specs.Table.{vacant, holds, findRow, rowFor, freeRows, firstFree, alone, isTable, fresh, placeFor, store, freed, changeBelow, changeWhere}
 use Rattle.element.specs.Layout.{known, kindWith, fits}
@@ -14,7 +14,7 @@ use Rattle.element.specs.Entries.{each, numberedAt, numberedOctets, targetAt, t
 use Rattle.element.specs.Octets.{wrongLength, otherId, misfit, readAs, readElement, fixedOctets, writeElement, writeFrame}
 use Rattle.element.specs.Lists.{entriesIn, addressesFrom, allowed, anyForbidden, among, twice, onesBesideOthers}
 use Rattle.rules.specs.Lists.{any, all, those}
-use Rattle.rules.specs.Flags.{bit, withDO}
+use Rattle.element.specs.Flags.{bit, withDO}
 use Rattle.rules.specs.Outcome.{frameOctets, atExit}
 use Rattle.rules.specs.Fresh.{makeFresh}
 use Rattle.rules.specs.Forget.{forget}
@@ -22,7 +22,7 @@ use Rattle.rules.specs.NextHop.{alongRow, nextHop}
 use Rattle.rules.specs.Learn.{expiryOf, subjectRow, transmitterRow, takesLink, subjectLearnt, transmitterLearnt, learnt}
 use Rattle.rules.specs.Destinations.{reply, answeredNumber, answersFor, forOneself, forAllOnes, forAnother, answered, allAnswered}
 use Rattle.rules.specs.Onward.{onward, towards, rannOnward, rreqOnward, rrepOnward}
-use Rattle.rules.specs.Errors.{isThrough, isLostBy, matches, numberBeside, isMatch, erredWith, erred, broken, brokenEntry, brokenEntries, errorAt, errorsFor}
+use Rattle.rules.specs.Errors.{isLostBy, matches, numberBeside, isMatch, erredWith, erred, broken, brokenEntry, brokenEntries, errorAt, errorsFor}
 use Rattle.rules.specs.Receive.{hasBadAddress, severalOrAll, hasBadList, isLowTtlReply, isStaleFor, isStale, matchesNothing, rowsNeeded, rannReceived, rrepReceived, rreqReceived, rerrReceived, received, receive}
 use Rattle.rules.specs.Originate.{numberedHead, ownPath, announced, requested, itemsFit, knownNumber, askedFor, asking, ask, announce, isRootFlags, rootRequest}
 use Rattle.rules.specs.Break.{brokenOff, breaking, breakNeighbour}

@@ -24,7 +24,7 @@ use Rattle.element.specs.Element.{Element, rann, rreq, rrep}
 use Rattle.element.specs.Entries.{All}
 use Rattle.element.specs.Lists.{allOnes}
 use Rattle.element.proofs.Scans.{each-length}
-use Rattle.rules.specs.Flags.{replyWanted, unicast, hasDO}
+use Rattle.element.specs.Flags.{replyWanted, unicast, hasDO}
 use Rattle.rules.specs.Outcome.{Frame}
 use Rattle.rules.specs.declared.Arrival.{Arrival}
 use Rattle.rules.specs.Destinations.{Answered, ownReply, rowReply, answeredNumber, answersFor, forOneself, forAllOnes, forAnother, answered, allAnswered}

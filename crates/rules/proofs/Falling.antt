@@ -13,7 +13,7 @@ use Rattle.counters.specs.Numbers.{stepped, nextNumber, newer}
 use Rattle.table.specs.declared.address.Address.{Address}
 use Rattle.table.specs.declared.row.Row.{Row}
 use Rattle.table.specs.Address.{same}
-use Rattle.table.specs.Row.{active, isHeld, invalidated, raised}
+use Rattle.table.specs.Row.{active, isHeld, invalidated, raised, isThrough}
 use Rattle.table.specs.Table.{own, changeWhere}
 use Rattle.table.proofs.Changes.{KeepsRows, change-length, change-head, change-octets, change-legal}
 use Rattle.table.proofs.HeadAndRows.{FitRow}
@@ -22,7 +22,7 @@ use Rattle.element.specs.declared.NumberedAddress.{NumberedAddress}
 use Rattle.element.specs.Entries.{All}
 use Rattle.element.proofs.ListParts.{FitsNumbered}
 use Rattle.rules.specs.Lists.{isThere}
-use Rattle.rules.specs.Errors.{isThrough, isLostBy, numberBeside, isMatch, erredWith, erred, broken}
+use Rattle.rules.specs.Errors.{isLostBy, numberBeside, isMatch, erredWith, erred, broken}
 use Rattle.rules.proofs.Branches.{cond-cases}
 use Rattle.rules.proofs.Tables.{Whole, Keeps}
 

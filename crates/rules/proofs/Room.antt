@@ -13,7 +13,7 @@ use Rattle.table.specs.declared.address.Address.{Address}
 use Rattle.table.specs.declared.row.Row.{Row}
 use Rattle.table.specs.Layout.{sized, rows, rowAt}
 use Rattle.table.specs.Table.{number}
-use Rattle.table.proofs.Cases.{sized-short}
+use Rattle.table.proofs.Cases.{of-size}
 use Rattle.element.specs.declared.NumberedAddress.{NumberedAddress}
 use Rattle.element.specs.declared.Kind.{Kind}
 use Rattle.element.specs.declared.Kind.the-variants.{Rann, Rreq, Rrep, Rerr}
@@ -31,7 +31,8 @@ use Rattle.rules.specs.declared.Arrival.{Arrival}
 use Rattle.rules.specs.Learn.{learnt}
 use Rattle.rules.specs.Destinations.{Answered, reply, allAnswered}
 use Rattle.rules.specs.Onward.{rreqOnward}
-use Rattle.rules.specs.Errors.{isThrough, brokenEntry, brokenEntries}
+use Rattle.table.specs.Row.{isThrough}
+use Rattle.rules.specs.Errors.{brokenEntry, brokenEntries}
 use Rattle.rules.specs.Receive.{rannReceived, rrepReceived, rreqReceived, rerrReceived, received, receiving, receive}
 use Rattle.rules.specs.Originate.{announced, requested, asking, ask, announcing, announce, requestingAsRoot, rootRequest}
 use Rattle.rules.specs.Break.{brokenOff, breaking, breakNeighbour}
@@ -89,7 +90,7 @@ pub entries-few : (c : ℕ) (neighbour : Address) (l : List Row) → length (fla
 entries-few c neighbour = flat-fewer (brokenEntry c neighbour) (entry-one c neighbour)
 
 rows-few : (t : List ℕ) → sized t ≡ true → rows t ≤ 128
-rows-few t e = omega (arith, sized-short t (sized t) refl e)
+rows-few t e = omega (arith, of-size t (sized t) refl e .not-longer)
 
 entries-128 : (t : List ℕ) → sized t ≡ true → (c : ℕ) (neighbour : Address) → length (brokenEntries t c neighbour) ≤ 128
 unfolding brokenEntries

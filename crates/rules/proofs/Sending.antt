@@ -17,7 +17,7 @@ use Rattle.counters.specs.Numbers.{nextNumber}
 use Rattle.table.specs.declared.address.Address.{Address}
 use Rattle.table.specs.declared.row.Row.{Row}
 use Rattle.table.specs.Address.{same}
-use Rattle.table.specs.Row.{invalidated, raised}
+use Rattle.table.specs.Row.{invalidated, raised, isThrough}
 use Rattle.table.specs.Layout.{rows, rowAt}
 use Rattle.table.specs.Table.{own, rowFor}
 use Rattle.table.proofs.HeadAndRows.{FitRow, row-fits}
@@ -32,13 +32,13 @@ use Rattle.element.specs.Lists.{allOnes}
 use Rattle.element.specs.Entries.{each, All}
 use Rattle.element.proofs.ListParts.{FitsTarget, FitsNumbered}
 use Rattle.element.proofs.ReadBack.{Fits, all-each}
-use Rattle.rules.specs.Flags.{replyWanted, hasRF, withDO}
+use Rattle.element.specs.Flags.{replyWanted, hasRF, withDO}
 use Rattle.rules.specs.Outcome.{Frame}
 use Rattle.rules.specs.declared.Arrival.{Arrival}
 use Rattle.rules.specs.Learn.{metricHere}
 use Rattle.rules.specs.Destinations.{Answered, rowReply, reply, answeredNumber, answersFor, forOneself, forAllOnes, forAnother, answered, allAnswered, keptAfterReply}
 use Rattle.rules.specs.Onward.{onward, rannOnward, rreqOnward, rrepOnward}
-use Rattle.rules.specs.Errors.{isThrough, broken, brokenEntry, brokenEntries, errorAt, errorsFor}
+use Rattle.rules.specs.Errors.{broken, brokenEntry, brokenEntries, errorAt, errorsFor}
 use Rattle.rules.proofs.Branches.{cond-cases}
 use Rattle.rules.proofs.Alls.{all-one, all-append, all-take, all-drop, all-flat-map}
 use Rattle.rules.proofs.Tables.{Whole, own-fits}

@@ -12,7 +12,7 @@ use Rattle.table.specs.Address.{individual}
 use Rattle.table.specs.Layout.{sized}
 use Rattle.table.specs.Table.{isTable, freed}
 use Rattle.table.proofs.WellFormed.{legal-of, legal-is}
-use Rattle.table.proofs.Cases.{sized-long}
+use Rattle.table.proofs.Cases.{of-size}
 use Rattle.table.proofs.Heads.{fresh-table, fresh-octets, fresh-length}
 use Rattle.table.proofs.Lookup.{freed-legal, freed-octets, freed-length}
 use Rattle.rules.specs.Decision.{accepted}
@@ -26,7 +26,7 @@ pub fresh-stays : (t u : List ℕ) (own : Address) (number : SequenceNumber) →
 unfolding makeFresh
 fresh-stays t u own number own-fits number-fits e =
     let p = passed (makingFresh t own number) u e in
-    let long = sized-long t (sized t) refl (not-false (sized t) (p .0 .0)) in
+    let long = of-size t (sized t) refl (not-false (sized t) (p .0 .0)) .with-head in
     rw (← p .1) (
       fresh-octets (length t) own number,
       fresh-table (length t) own number long own-fits number-fits (not-false (individual own) (p .0 .1 .0)),

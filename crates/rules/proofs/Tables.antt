@@ -14,9 +14,9 @@ use Rattle.counters.specs.declared.RequestId.{RequestId}
 use Rattle.table.specs.declared.row.Head.{Head}
 use Rattle.table.specs.Address.{individual}
 use Rattle.table.specs.Row.{headOk, headWith}
-use Rattle.table.specs.Layout.{sized, headAt, putHead}
+use Rattle.table.specs.Layout.{sized, headAt, putHead, headOctets}
 use Rattle.table.specs.Table.{own, number, requestId, clock, isTable}
-use Rattle.table.proofs.Cases.{sized-long}
+use Rattle.table.proofs.Cases.{of-size}
 use Rattle.table.proofs.HeadAndRows.{FitHead, head-fits, head-same, head-octets, length-head}
 use Rattle.table.proofs.Heads.{head-legal}
 use Rattle.table.proofs.WellFormed.{Legal, legal-of}
@@ -24,14 +24,14 @@ use Rattle.table.proofs.WellFormed.{Legal, legal-of}
 -- octets that are a table, as a call finds them once checks 1 and 21 are passed
 pub record Whole (t : List ℕ) : Type 0 where
   pub octets : Octets t
-  pub long : 32 ≤ length t
+  pub long : headOctets ≤ length t
   pub legal : Legal t
 
 pub whole : (t : List ℕ) → Octets t → not (sized t) ≡ false → not (isTable t) ≡ false → Whole t
 whole t o size table =
     record {
       octets = o;
-      long = sized-long t (sized t) refl (not-false (sized t) size);
+      long = of-size t (sized t) refl (not-false (sized t) size) .with-head;
       legal = legal-of t (not-false (isTable t) table);
     }
 
@@ -96,7 +96,7 @@ module _ (t u : List ℕ) (w : Whole t) (k : Keeps t u) (n : SequenceNumber) (i 
   pub head-leaves : Leaves t (putHead u new)
   unfolding headWith
   head-leaves =
-      let long : 32 ≤ length u = k .whole .long in
+      let long : headOctets ≤ length u = k .whole .long in
       record {
         whole = record {
           octets = head-octets u new (k .whole .octets);

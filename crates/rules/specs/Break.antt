@@ -8,7 +8,8 @@ use Rattle.table.specs.Layout.{sized}
 use Rattle.table.specs.Table.{own, number, clock, isTable, changeWhere}
 use Rattle.rules.specs.Decision.{Decision, Ruling, decide, refuse_when_, _above_, _below_, accept, _>>_}
 use Rattle.rules.specs.Outcome.{Effect, underHead}
-use Rattle.rules.specs.Errors.{isThrough, broken, brokenEntries, errorsFor}
+use Rattle.table.specs.Row.{isThrough}
+use Rattle.rules.specs.Errors.{broken, brokenEntries, errorsFor}
 
 -- every active row through that neighbour breaks, the clock is stored, and those rows are announced
 unfoldable pub brokenOff : List ℕ → ℕ → Address → Effect

@@ -18,7 +18,7 @@ use Rattle.element.specs.declared.Target.{Target}
 use Rattle.element.specs.declared.RrepFields.{RrepFields}
 use Rattle.element.specs.Element.{rrep}
 use Rattle.element.specs.Lists.{allOnes}
-use Rattle.rules.specs.Flags.{replyWanted, hasDO, hasRF, withDO}
+use Rattle.element.specs.Flags.{replyWanted, hasDO, hasRF, withDO}
 use Rattle.rules.specs.Outcome.{Frame}
 use Rattle.rules.specs.declared.Arrival.{Arrival}
 

@@ -10,7 +10,7 @@ use Rattle.counters.specs.Numbers.{nextNumber, newer}
 use Rattle.table.specs.declared.address.Address.{Address}
 use Rattle.table.specs.declared.row.Row.{Row}
 use Rattle.table.specs.Address.{same}
-use Rattle.table.specs.Row.{active, invalidated, raised}
+use Rattle.table.specs.Row.{isThrough, invalidated, raised}
 use Rattle.table.specs.Layout.{rows, rowAt}
 use Rattle.table.specs.Table.{rowFor}
 use Rattle.element.specs.declared.NumberedAddress.{NumberedAddress}
@@ -19,10 +19,6 @@ use Rattle.element.specs.Entries.{each}
 use Rattle.element.specs.Lists.{allOnes}
 use Rattle.rules.specs.Lists.{has, isThere}
 use Rattle.rules.specs.Outcome.{Frame}
-
--- an active row with this next hop
-unfoldable pub isThrough : ℕ → Address → Row → Bool
-isThrough c hop r = active c r && same (r .next) hop
 
 -- ---- a received RERR
 

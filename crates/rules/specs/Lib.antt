@@ -1,6 +1,5 @@
 pub mod Decision
 pub mod Lists
-pub mod Flags
 pub mod Outcome
 pub mod Fresh
 pub mod Forget

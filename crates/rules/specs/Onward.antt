@@ -15,7 +15,7 @@ use Rattle.element.specs.declared.RreqFields.{RreqFields}
 use Rattle.element.specs.declared.RrepFields.{RrepFields}
 use Rattle.element.specs.Element.{Element, rann, rreq, rrep}
 use Rattle.element.specs.Lists.{allOnes}
-use Rattle.rules.specs.Flags.{unicast}
+use Rattle.element.specs.Flags.{unicast}
 use Rattle.rules.specs.Outcome.{Frame}
 use Rattle.rules.specs.declared.Arrival.{Arrival}
 use Rattle.rules.specs.Learn.{metricHere, hopsHere}

@@ -22,7 +22,7 @@ use Rattle.element.specs.Octets.{wrongLength, otherId, misfit, readElement}
 use Rattle.element.specs.Lists.{allOnes, anyForbidden, among, twice, onesBesideOthers}
 use Rattle.rules.specs.Decision.{Decision, Ruling, decide, refuse_when_, _above_, _below_, accept, _>>_}
 use Rattle.rules.specs.Lists.{any, those, has}
-use Rattle.rules.specs.Flags.{unicast}
+use Rattle.element.specs.Flags.{unicast}
 use Rattle.rules.specs.Outcome.{Effect, underHead}
 use Rattle.rules.specs.declared.Arrival.{Arrival}
 use Rattle.rules.specs.Learn.{metricHere, learnt}

@@ -1,15 +1,15 @@
 // A table of four rows: filled, two rows apart made free again, these taken by one announcement that needs two, and a further
 // one refused with 27. The bench cannot show this: its 16 points are too few for their 16 rows, and it has no command to forget.
+use calls::Outcome;
 use counters::Metric;
 use counters::SequenceNumber;
 use libc::STDOUT_FILENO;
-use point::Outcome;
-use point::forget;
-use point::fresh;
 use rules::Arrival;
 use table::address;
 use table::address::Address;
 use table::row;
+use table_calls::forget;
+use table_calls::fresh;
 ghost use mathlib.Core.Path.{_≡_};
 ghost use Prim.Native.Nat.{_<_};
 ghost use lib.ListN.{length};
@@ -71,7 +71,7 @@ fn hear(table: &mut [u8], originator: u8, transmitter: u8) {
 fn forget_point(table: &mut [u8], i: u8) {
     print_answer(
         b"forget ",
-        point::number_of(forget::forget(table, point(i))),
+        calls::number_of(forget::forget(table, point(i))),
     );
 }
 
@@ -103,7 +103,7 @@ fn fill(table: &mut [u8])
 {
     print_answer(
         b"fresh ",
-        point::number_of(fresh::make_fresh(table, point(1), SequenceNumber(0))),
+        calls::number_of(fresh::make_fresh(table, point(1), SequenceNumber(0))),
     );
     hear(table, 2, 2);
     hear(table, 3, 3);

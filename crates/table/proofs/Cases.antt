@@ -1,11 +1,11 @@
 -- The definitions of `specs/` by cases, each as a `return` asks it: from what the calls before it gave, by `search`.
 -- Assumes nothing.
-use Prim.Native.Nat.{ℕ, _+_, _%_, _≤_}
+use Prim.Native.Nat.{ℕ, _+_, _-_, _%_, _<_, _≤_}
 use lib.Dec.{eqb, leb}
 use lib.ListN.{length}
 use mathlib.Core.Path.{_≡_, refl, sym, ap, _∙_}
 use native.Mathlib.Omega.{arith}
-use borrow.Author.Tests.{leb-true, eqb-true, eq-eqb, ne-eqb}
+use borrow.Author.Tests.{leb-true, le-leb, lt-leb, eqb-true, eq-eqb, ne-eqb}
 use mathlib.Core.Bool.{Bool, true, false, _&&_, _||_, not, and-eq-true-iff}
 use mathlib.Core.List.{List}
 use mathlib.Core.Option.{none, some}
@@ -13,9 +13,9 @@ use Rattle.table.specs.declared.address.Address.{Address}
 use Rattle.table.specs.declared.row.Head.{Head}
 use Rattle.table.specs.declared.row.Row.{Row}
 use Rattle.table.specs.declared.search.Found.{Found}
-use Rattle.table.specs.Address.{individual}
-use Rattle.table.specs.Row.{headOk, isFree, isUnnumbered, isOther, statusOk, boundsOk, isHeld, rowOk}
-use Rattle.table.specs.Layout.{sized, rows, allZero, place, rowAt, headAt, putRow}
+use Rattle.table.specs.Address.{individual, same}
+use Rattle.table.specs.Row.{headOk, isFree, isUnnumbered, isOther, statusOk, boundsOk, isHeld, rowOk, isThrough, active}
+use Rattle.table.specs.Layout.{headOctets, rowOctets, mostRows, place, sized, Sized, rows, allZero, rowAt, headAt, putRow}
 use Rattle.table.specs.declared.search.Found.the-variants.{At, Nothing}
 use Rattle.table.proofs.Places.{first-below}
 use Rattle.table.specs.Places.{first, every, isNothing, orElse}
@@ -25,26 +25,33 @@ pub both : (a b : Bool) → (a && b) ≡ true → (a ≡ true) × (b ≡ true)
 both a b = and-eq-true-iff a b .0
 
 module _ (t : List ℕ) where
-  -- a table of a right size has at most 128 rows
-  pub sized-short : (b : Bool) → b ≡ sized t → b ≡ true → length t ≤ 4128
+  -- what check 1 tells of the length
+  pub of-size : (b : Bool) → b ≡ sized t → b ≡ true → Sized t
   unfolding sized
-  sized-short b e yes-b =
+  of-size b e yes-b =
       let n = length t in
-      leb-true n 4128 (both (eqb (n % 32) 0 && leb 64 n) (leb n 4128) (sym e ∙ yes-b) .1)
+      let rest = leb n (place mostRows) && eqb ((n - headOctets) % rowOctets) 0 in
+      let all = both (leb (place 1) n) rest (sym e ∙ yes-b) in
+      let least = leb-true (place 1) n (all .0) in
+      record {
+        with-head = omega arith;
+        not-longer = leb-true n (place mostRows) (both (leb n (place mostRows)) (eqb ((n - headOctets) % rowOctets) 0) (all .1) .0);
+      }
 
-  -- and a head
-  pub sized-long : (b : Bool) → b ≡ sized t → b ≡ true → 32 ≤ length t
+  -- that check by its cases
+  pub too-short : length t < place 1 → false ≡ sized t
   unfolding sized
-  sized-long b e yes-b =
-      let n = length t in
-      let large = leb-true 64 n (both (eqb (n % 32) 0) (leb 64 n) (both (eqb (n % 32) 0 && leb 64 n) (leb n 4128) (sym e ∙ yes-b) .0) .1) in
-      omega arith
+  too-short l = rw (lt-leb (place 1) (length t) l)
+
+  pub long-enough : place 1 ≤ length t → (leb (length t) (place mostRows) && eqb ((length t - headOctets) % rowOctets) 0) ≡ sized t
+  unfolding sized
+  long-enough l = rw (le-leb (place 1) (length t) l)
 
   -- a row that is found lies in the table
-  within : (p : ℕ → Bool) (i : ℕ) → first p (rows t) ≡ At i → 32 ≤ length t → place i + 32 ≤ length t
+  within : (p : ℕ → Bool) (i : ℕ) → first p (rows t) ≡ At i → Sized t → place i + rowOctets ≤ length t
   within p i e h = let l = first-below p (rows t) i e in omega arith
 
-  pub found-within : (d : Address) (f : Found) (i : ℕ) → f ≡ findRow t d → f ≡ At i → 32 ≤ length t → place i + 32 ≤ length t
+  pub found-within : (d : Address) (f : Found) (i : ℕ) → f ≡ findRow t d → f ≡ At i → Sized t → place i + rowOctets ≤ length t
   unfolding findRow
   found-within d f i e at-i h = within (holds t d) i (sym e ∙ at-i) h
 
@@ -62,11 +69,11 @@ module _ (t : List ℕ) where
     unfolding placeFor
     place-is = ge ∙ ap (λ (k : Found). orElse k (firstFree t)) fe
 
-    pub place-within : (i : ℕ) → g ≡ At i → 32 ≤ length t → place i + 32 ≤ length t
+    pub place-within : (i : ℕ) → g ≡ At i → Sized t → place i + rowOctets ≤ length t
     unfolding firstFree
     place-within i at-i h = by f fe (sym ge ∙ at-i)
       where
-        by : (k : Found) → k ≡ findRow t d → orElse k (firstFree t) ≡ At i → place i + 32 ≤ length t
+        by : (k : Found) → k ≡ findRow t d → orElse k (firstFree t) ≡ At i → place i + rowOctets ≤ length t
         by (At j) ke e = found-within d (At j) i ke e h
         by Nothing ke e = within (vacant t) i e h
 
@@ -173,3 +180,9 @@ module _ (own : Address) (r : Row) (a : Bool) (ae : a ≡ statusOk r) where
           pub held-unnumbered : (f : Bool) → (r .known ≡ 1 → ⊥) → f ≡ isUnnumbered r → f ≡ isHeld own r
           unfolding isHeld
           held-unnumbered f k fe = cc (ne-eqb (r .known) 1 k)
+
+-- ---- a row through a neighbour
+
+pub through-is : (c : ℕ) (hop : Address) (r : Row) (b : Bool) → b ≡ active c r → (b && same (r .next) hop) ≡ isThrough c hop r
+unfolding isThrough
+through-is c hop r b e = ap (λ (a : Bool). a && same (r .next) hop) e

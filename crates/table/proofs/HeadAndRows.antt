@@ -14,7 +14,7 @@ use Rattle.octets.proofs.Laws.{FitFields, split, length-fields, fields-same, fi
 use Rattle.table.specs.declared.row.Head.{Head}
 use Rattle.table.specs.declared.row.Row.{Row}
 use Rattle.table.specs.Row.{freeRow, isFree}
-use Rattle.table.specs.Layout.{allZero, place, rowWidths, headWidths, rowOf, headOf, rowNumbers, headNumbers, rowAt, headAt, putRow, putHead}
+use Rattle.table.specs.Layout.{allZero, place, rowWidths, headWidths, rowOf, headOf, rowNumbers, headNumbers, rowAt, headAt, putRow, putHead, rowOctets, headOctets}
 
 -- ---- values that these octets can hold
 
@@ -56,7 +56,7 @@ unfolding putRow
 length-row t i r = length-fields rowWidths t (place i) 0 (rowNumbers r)
 
 -- it is read back
-pub row-same : (t : List ℕ) (i : ℕ) (r : Row) → place i + 32 ≤ length t → FitRow r → rowAt (putRow t i r) i ≡ r
+pub row-same : (t : List ℕ) (i : ℕ) (r : Row) → place i + rowOctets ≤ length t → FitRow r → rowAt (putRow t i r) i ≡ r
 unfolding rowAt putRow total FitRow
 row-same t i r h f = ap rowOf (fields-same rowWidths t (place i) 0 (rowNumbers r) (omega arith) f)
 
@@ -83,7 +83,7 @@ pub length-head : (t : List ℕ) (h : Head) → length (putHead t h) ≡ length 
 unfolding putHead
 length-head t h = length-fields headWidths t 0 0 (headNumbers h)
 
-pub head-same : (t : List ℕ) (h : Head) → 32 ≤ length t → FitHead h → headAt (putHead t h) ≡ h
+pub head-same : (t : List ℕ) (h : Head) → headOctets ≤ length t → FitHead h → headAt (putHead t h) ≡ h
 unfolding headAt putHead total FitHead
 head-same t h l f = ap headOf (fields-same headWidths t 0 0 (headNumbers h) (omega arith) f)
 

@@ -20,7 +20,7 @@ use Rattle.table.specs.declared.search.Found.{Found}
 use Rattle.table.specs.declared.search.Found.the-variants.{At, Nothing}
 use Rattle.table.specs.Address.{individual, same}
 use Rattle.table.specs.Row.{freshHead, freeRow, headOk, isFree, rowOk}
-use Rattle.table.specs.Layout.{rows, allZero, headWidths, headNumbers, headAt, putHead, rowAt}
+use Rattle.table.specs.Layout.{rows, allZero, headWidths, headNumbers, headAt, putHead, rowAt, headOctets}
 use Rattle.table.specs.Table.{own, vacant, holds, findRow, rowIn, rowFor, freeRows, isTable, fresh}
 use Rattle.table.proofs.HeadAndRows.{FitHead, length-head, head-same, row-stays, head-octets, row-zero}
 use Rattle.table.proofs.Places.{first-cong, first-nowhere, count-cong, count-all}
@@ -56,7 +56,7 @@ module _ (t : List ℕ) (h : Head) where
   head-free = rw length-head (count-cong (vacant (putHead t h)) (vacant t) (rows t) (λ k l. same-vacant k))
 
   -- a table stays a table under a head of the same point
-  pub head-legal : 32 ≤ length t → FitHead h → headOk h ≡ true → h .own ≡ own t → Legal t → Legal (putHead t h)
+  pub head-legal : headOctets ≤ length t → FitHead h → headOk h ≡ true → h .own ≡ own t → Legal t → Legal (putHead t h)
   head-legal long fit ok same-own legal =
       let is-h = head-same t h long fit in
       record {
@@ -71,7 +71,7 @@ module _ (t : List ℕ) (h : Head) where
 -- ---- a fresh table
 
 -- a head that is put over any octets, with zeros after it, is that head on zeros
-module _ (t u y : List ℕ) (h : Head) (long : 32 ≤ length t) (ue : u ≡ putHead t h) (ye : y ≡ zeros (length (midOf 32 (length u - 32) u))) where
+module _ (t u y : List ℕ) (h : Head) (long : headOctets ≤ length t) (ue : u ≡ putHead t h) (ye : y ≡ zeros (length (midOf 32 (length u - 32) u))) where
   same-length : length u ≡ length t
   same-length = ap length ue ∙ length-head t h
 
@@ -121,7 +121,7 @@ module _ (t u y : List ℕ) (h : Head) (long : 32 ≤ length t) (ue : u ≡ putH
       by k l true e = in-head k (ltb-true k 32 e)
       by k l false e = in-rows k (ltb-false k 32 e) (omega (arith, same-len-mid 32 (length u - 32) u y rows-part))
 
-pub fresh-written : (t u y : List ℕ) (h : Head) (a : Address) (s : SequenceNumber) → 32 ≤ length t → h ≡ freshHead a s → u ≡ putHead t h
+pub fresh-written : (t u y : List ℕ) (h : Head) (a : Address) (s : SequenceNumber) → headOctets ≤ length t → h ≡ freshHead a s → u ≡ putHead t h
     → y ≡ zeros (length (midOf 32 (length u - 32) u)) → putMid 32 (length u - 32) u y ≡ fresh (length t) a s
 unfolding fresh
 fresh-written t u y h a s long he ue ye = over-zeros t u y h long ue ye ∙ ap (putHead (zeros (length t))) he

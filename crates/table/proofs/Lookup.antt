@@ -18,7 +18,7 @@ use Rattle.octets.specs.LittleEndian.{Octets}
 use Rattle.table.specs.Address.{same}
 use Rattle.table.specs.Row.{freeRow, isFree, statusOk, isHeld, rowOk}
 use Rattle.octets.proofs.Laws.{FitFields}
-use Rattle.table.specs.Layout.{rows, allZero, place, headAt, rowAt, putRow}
+use Rattle.table.specs.Layout.{rows, allZero, place, headAt, rowAt, putRow, rowOctets}
 use Rattle.table.specs.Table.{own, vacant, holds, findRow, firstFree, rowIn, rowFor, newRows, freeRows, placeFor, putAt, store, freed}
 use Rattle.table.proofs.HeadAndRows.{FitRow, length-row, row-same, row-other, head-stays, row-octets, row-fits}
 use Rattle.table.proofs.Places.{first-below, first-true, first-not, first-only, first-nowhere, first-cong, count-cong, count-drop, count-nowhere}
@@ -74,7 +74,7 @@ module _ (t : List ℕ) (d : Address) (r : Row) (e : rowFor t d ≡ some r) wher
 
 -- ---- a row that is put
 
-module _ (t : List ℕ) (i : ℕ) (r : Row) (within : place i + 32 ≤ length t) (fit : FitRow r) where
+module _ (t : List ℕ) (i : ℕ) (r : Row) (within : place i + rowOctets ≤ length t) (fit : FitRow r) where
   -- what row i now says
   here : (d : Address) → holds (putRow t i r) d i ≡ (same (r .destination) d && not (eqb (r .status) 0))
   unfolding holds vacant
@@ -266,7 +266,7 @@ module _ (t : List ℕ) (r : Row) (legal : Legal t) (held : isHeld (own t) r ≡
   place-of : Spot t (r .destination)
   place-of = spot t (r .destination) legal room
 
-  inside : place (place-of .at) + 32 ≤ length t
+  inside : place (place-of .at) + rowOctets ≤ length t
   inside = let l = place-of .below in omega arith
 
   stored : store t r ≡ putRow t (place-of .at) r
@@ -391,7 +391,7 @@ unfolding rowOk isFree allZero
 free-ok a = refl
 
 -- a free row is held for nobody
-free-holds : (t : List ℕ) (i : ℕ) → place i + 32 ≤ length t → (d : Address) → holds (putRow t i freeRow) d i ≡ false
+free-holds : (t : List ℕ) (i : ℕ) → place i + rowOctets ≤ length t → (d : Address) → holds (putRow t i freeRow) d i ≡ false
 free-holds t i within d = here t i freeRow within free-fits d ∙ and-false (same (freeRow .destination) d)
 
 module _ (t : List ℕ) (d : Address) (legal : Legal t) where

@@ -1,5 +1,5 @@
 -- Where the head and the rows stand in the octets of a table. Assumes nothing.
-use Prim.Native.Nat.{ℕ, _+_, _-_, _*_, _/_, _%_}
+use Prim.Native.Nat.{ℕ, _+_, _-_, _*_, _/_, _%_, _≤_}
 use mathlib.Core.Bool.{Bool, true, _&&_}
 use mathlib.Core.List.{List, [], _∷_}
 use lib.ListN.{length, getD}
@@ -8,12 +8,34 @@ use Rattle.octets.specs.LittleEndian.{fieldsAt, withFields}
 use Rattle.table.specs.declared.row.Head.{Head}
 use Rattle.table.specs.declared.row.Row.{Row}
 
--- a table is a head of 32 octets and R rows of 32, R from 1 to 128: 64 to 4128 octets
-unfoldable pub sized : List ℕ → Bool
-sized t = eqb (length t % 32) 0 && leb 64 (length t) && leb (length t) 4128
+-- ---- sizes
 
+-- octets of the head and of a row, and how many rows there may be
+abbrev pub headOctets : ℕ
+headOctets = 32
+
+abbrev pub rowOctets : ℕ
+rowOctets = 32
+
+abbrev pub mostRows : ℕ
+mostRows = 128
+
+-- where row i begins, after the head and the rows before it
+abbrev pub place : ℕ → ℕ
+place i = headOctets + rowOctets * i
+
+-- a table is a head and R rows, R from 1 to 128
+unfoldable pub sized : List ℕ → Bool
+sized t = leb (place 1) (length t) && (leb (length t) (place mostRows) && eqb ((length t - headOctets) % rowOctets) 0)
+
+-- the bounds on the length of a table, which functions that are lent one know
+pub record Sized (t : List ℕ) : Type 0 where
+  pub with-head : headOctets ≤ length t
+  pub not-longer : length t ≤ place mostRows
+
+-- R
 abbrev pub rows : List ℕ → ℕ
-rows t = (length t - 32) / 32
+rows t = (length t - headOctets) / rowOctets
 
 -- ---- the head: own address, zero, own number, request ID, latest clock, zero
 
@@ -67,10 +89,6 @@ rowNumbers r =
 unfoldable pub allZero : List ℕ → Bool
 allZero [] = true
 allZero (x ∷ xs) = eqb x 0 && allZero xs
-
--- where row i begins
-abbrev pub place : ℕ → ℕ
-place i = 32 + 32 * i
 
 -- row i of the table t, and t with r there
 unfoldable pub rowAt : List ℕ → ℕ → Row

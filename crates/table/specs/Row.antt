@@ -13,6 +13,18 @@ use Rattle.table.specs.declared.row.Row.{Row}
 use Rattle.table.specs.Address.{individual, same}
 use Rattle.table.specs.Layout.{allZero, rowNumbers}
 
+-- ---- limits
+
+-- the largest clock, the largest expiry of a row, and the metric of a row that cannot be used
+abbrev pub maxClock : ℕ
+maxClock = 2 ^ 48 - 1
+
+abbrev pub maxExpiry : ℕ
+maxExpiry = 2 ^ 48 + 2 ^ 32
+
+abbrev pub unreachable : Metric
+unreachable = record { 0 = 2 ^ 32 - 1 }
+
 -- ---- the head
 
 -- of a fresh table: the given address and number, the rest zero
@@ -25,7 +37,7 @@ headWith number request clock h =
     record { own = h .own; zero2 = h .zero2; number = number; request = request; clock = clock; zero8 = h .zero8 }
 
 unfoldable pub headOk : Head → Bool
-headOk h = individual (h .own) && (eqb (h .zero2) 0 && leb (h .clock) (2 ^ 48 - 1) && eqb (h .zero8) 0)
+headOk h = individual (h .own) && (eqb (h .zero2) 0 && leb (h .clock) maxClock && eqb (h .zero8) 0)
 
 -- ---- rows
 
@@ -61,7 +73,7 @@ statusOk r = leb 1 (r .status) && leb (r .status) 2 && leb (r .known) 1 && eqb (
 
 -- metric at least 1, and expiry at most 2^48 + 2^32
 unfoldable pub boundsOk : Row → Bool
-boundsOk r = leb 1 (r .metric .0) && leb (r .expiry) (2 ^ 48 + 2 ^ 32)
+boundsOk r = leb 1 (r .metric .0) && leb (r .expiry) maxExpiry
 
 -- a held row of the point with address own
 unfoldable pub isHeld : Address → Row → Bool
@@ -75,6 +87,10 @@ rowOk own r = isFree r || isHeld own r
 -- a row is active at clock c if its status is 1 and c is below its expiry
 unfoldable pub active : ℕ → Row → Bool
 active c r = eqb (r .status) 1 && ltb c (r .expiry)
+
+-- an active row with this next hop
+unfoldable pub isThrough : ℕ → Address → Row → Bool
+isThrough c hop r = active c r && same (r .next) hop
 
 -- ---- steps that take a row and give it back
 
@@ -134,6 +150,6 @@ raised number r =
       destination = r .destination;
       next = r .next;
       number = number;
-      metric = record { 0 = 2 ^ 32 - 1 };
+      metric = unreachable;
       expiry = r .expiry;
     }

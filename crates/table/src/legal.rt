@@ -1,7 +1,10 @@
 // Whether octets are a table.
 use crate::address::Address;
 use crate::row;
+use crate::row::HEAD_OCTETS;
 use crate::row::Head;
+use crate::row::MOST_ROWS;
+use crate::row::ROW_OCTETS;
 use crate::row::Row;
 use crate::search;
 ghost use mathlib.Core.Path.{_≡_};
@@ -11,7 +14,7 @@ ghost use lib.Bits.{bitAnd};
 ghost use lib.ListN.{length};
 ghost use lib.Dec.{eqb};
 ghost use Rattle.table.specs.Row.{headOk, boundsOk, isFree, isHeld, statusOk, isOther, isUnnumbered, rowOk};
-ghost use Rattle.table.specs.Layout.{place, rowAt, sized};
+ghost use Rattle.table.specs.Layout.{place, rowAt, rowOctets, sized, Sized};
 ghost use Rattle.table.specs.Places.{every};
 ghost use Rattle.table.specs.Table.{alone, isTable, passes};
 
@@ -21,10 +24,19 @@ pub const MAX_CLOCK: u64 = 281474976710655;
 // 2^48 + 2^32.
 const MAX_EXPIRY: u64 = 281479271677952;
 
+// Octets of the shortest table and of the longest.
+const SHORTEST: usize = HEAD_OCTETS + ROW_OCTETS;
+
+const LONGEST: usize = HEAD_OCTETS + ROW_OCTETS * MOST_ROWS;
+
 pub fn is_sized(table: &[u8]) -> bool
     ensures { λ r. ⌜ r ≡ sized (now (table .entry)) ⌝ }
 {
-    (table.len() % 32 == 0) & (64 <= table.len()) & (table.len() <= 4128)
+    let octets = table.len();
+    if octets < SHORTEST {
+        return false;
+    }
+    (octets <= LONGEST) & ((octets - HEAD_OCTETS) % ROW_OCTETS == 0)
 }
 
 impl Address {
@@ -92,10 +104,10 @@ impl Row {
 
 // Whether row i is all zero, eight octets at a time.
 fn is_blank(table: &[u8], i: usize) -> bool
-    requires { ⌜ place i + 32 ≤ length (now table) ⌝ }
+    requires { ⌜ place i + rowOctets ≤ length (now table) ⌝ }
     ensures { λ r. ⌜ r ≡ isFree (rowAt (now (table .entry)) i) ⌝ }
 {
-    let at = 32 + 32 * i;
+    let at = HEAD_OCTETS + ROW_OCTETS * i;
     (octets::read_u64(table, at) == 0)
         & (octets::read_u64(table, at + 8) == 0)
         & (octets::read_u64(table, at + 16) == 0)
@@ -103,7 +115,7 @@ fn is_blank(table: &[u8], i: usize) -> bool
 }
 
 fn is_row(table: &[u8], own: Address, i: usize) -> bool
-    requires { ⌜ place i + 32 ≤ length (now table) ⌝ }
+    requires { ⌜ place i + rowOctets ≤ length (now table) ⌝ }
     ensures { λ r. ⌜ r ≡ rowOk own (rowAt (now (table .entry)) i) ⌝ }
 {
     if search::is_vacant(table, i) {
@@ -114,7 +126,7 @@ fn is_row(table: &[u8], own: Address, i: usize) -> bool
 
 // Whether row i is free, or no row before it is held for its destination.
 fn is_alone(table: &[u8], i: usize) -> bool
-    requires { ⌜ place i + 32 ≤ length (now table) ⌝ }
+    requires { ⌜ place i + rowOctets ≤ length (now table) ⌝ }
     ensures { λ r. ⌜ r ≡ alone (now (table .entry)) i ⌝ }
 {
     if search::is_vacant(table, i) {
@@ -126,7 +138,7 @@ fn is_alone(table: &[u8], i: usize) -> bool
 
 // Whether row i passes, where mark 0 says that no row before i has its destination.
 fn passes_by(table: &[u8], own: Address, i: usize, mark: u8) -> bool
-    requires { ⌜ place i + 32 ≤ length (now table) ⌝ }
+    requires { ⌜ place i + rowOctets ≤ length (now table) ⌝ }
     ensures { λ r. ⌜ r ≡ (rowOk own (rowAt (now (table .entry)) i) && (eqb mark 0 || alone (now (table .entry)) i)) ⌝ }
 {
     if !is_row(table, own, i) {
@@ -141,7 +153,7 @@ fn passes_by(table: &[u8], own: Address, i: usize, mark: u8) -> bool
 // The mark of row i's destination, of last + 1 marks, a power of two. Its last octets count most, since boxes of one maker
 // share the first ones.
 fn mark_of(table: &[u8], i: usize, last: usize) -> usize
-    requires { ⌜ place i + 32 ≤ length (now table) ⌝ }
+    requires { ⌜ place i + rowOctets ≤ length (now table) ⌝ }
     ensures { λ r. ⌜ r ≡ bitAnd (rowAt (now (table .entry)) i .destination .0 % 2 ^ 48 * 40503 / 2 ^ 40) last ⌝ }
 {
     let d = row::destination_at(table, i).0 % 281474976710656;
@@ -184,7 +196,7 @@ fn rows_pass(table: &[u8], own: Address, n: usize) -> bool
 }
 
 pub fn is_table(table: &[u8]) -> bool
-    requires { ⌜ 32 ≤ length (now table) ⌝ }
+    requires { ⌜ Sized (now table) ⌝ }
     ensures { λ r. ⌜ r ≡ isTable (now (table .entry)) ⌝ }
 {
     let head = row::read_head(table);

@@ -8,9 +8,19 @@ ghost use mathlib.Core.Path.{_≡_};
 ghost use mathlib.Core.List.{[], _∷_};
 ghost use Prim.Native.Nat.{_+_, _≤_};
 ghost use lib.ListN.{length};
-ghost use Rattle.table.specs.Row.{active, freeRow, freshHead, headWith, invalidated, numbered, raised, renewed};
-ghost use Rattle.table.specs.Layout.{headAt, headNumbers, place, putHead, putRow, rowAt};
+ghost use Rattle.table.specs.Row.{active, freeRow, freshHead, headWith, invalidated, isThrough, numbered, raised, renewed};
+ghost use Rattle.table.specs.Layout.{headAt, headNumbers, place, putHead, putRow, rowAt, rowOctets, Sized};
 ghost use Rattle.octets.specs.LittleEndian.{withFields};
+
+// Octets of the head and of a row, and how many rows there may be.
+pub const HEAD_OCTETS: usize = 32;
+
+pub const ROW_OCTETS: usize = 32;
+
+pub const MOST_ROWS: usize = 128;
+
+// The metric of a row that cannot be used.
+const UNREACHABLE: u32 = 4294967295;
 
 // The fields of the head and of a row, in the order of the octets. A table has 0 in those called zero (refusal 21).
 pub struct Head {
@@ -83,6 +93,13 @@ impl Row {
         (self.status == 1) & (clock < self.expiry)
     }
 
+    // Whether the row is active, with this next hop.
+    pub fn is_through(self, clock: u64, hop: Address) -> bool
+        ensures { λ r. ⌜ r ≡ isThrough clock hop self ⌝ }
+    {
+        self.is_active(clock) & (self.next.0 == hop.0)
+    }
+
     // Valid, along this path; the number stays.
     pub fn renewed(mut self, next: Address, metric: Metric, hops: HopCount, expiry: u64) -> Self
         ensures { λ r. ⌜ r ≡ renewed next metric hops expiry self ⌝ }
@@ -117,13 +134,13 @@ impl Row {
         ensures { λ r. ⌜ r ≡ raised number self ⌝ }
     {
         self.number = number;
-        self.metric.0 = 4294967295;
+        self.metric.0 = UNREACHABLE;
         self
     }
 }
 
 pub fn read_head(table: &[u8]) -> Head
-    requires { ⌜ 32 ≤ length (now table) ⌝ }
+    requires { ⌜ Sized (now table) ⌝ }
     ensures { λ r. ⌜ r ≡ headAt (now (table .entry)) ⌝ }
 {
     Head {
@@ -151,7 +168,7 @@ fn head_numbers(h: Head) -> [u64; 6]
 }
 
 pub fn write_head(table: &mut [u8], h: Head)
-    requires { ⌜ 32 ≤ length (now table) ⌝ }
+    requires { ⌜ Sized (now table) ⌝ }
     ensures { λ _. ⌜ now (table .exit) ≡ putHead (now (table .entry)) h ⌝ }
 {
     let widths = [6u8, 2, 4, 4, 8, 8];
@@ -160,24 +177,24 @@ pub fn write_head(table: &mut [u8], h: Head)
 }
 
 pub fn status_at(table: &[u8], i: usize) -> u8
-    requires { ⌜ place i + 32 ≤ length (now table) ⌝ }
+    requires { ⌜ place i + rowOctets ≤ length (now table) ⌝ }
     ensures { λ r. ⌜ r ≡ rowAt (now (table .entry)) i .status ⌝ }
 {
-    octets::read_u8(table, 32 + 32 * i)
+    octets::read_u8(table, HEAD_OCTETS + ROW_OCTETS * i)
 }
 
 pub fn destination_at(table: &[u8], i: usize) -> Address
-    requires { ⌜ place i + 32 ≤ length (now table) ⌝ }
+    requires { ⌜ place i + rowOctets ≤ length (now table) ⌝ }
     ensures { λ r. ⌜ r ≡ rowAt (now (table .entry)) i .destination ⌝ }
 {
-    Address(octets::read_u48(table, 32 + 32 * i + 4))
+    Address(octets::read_u48(table, HEAD_OCTETS + ROW_OCTETS * i + 4))
 }
 
 pub fn read_row(table: &[u8], i: usize) -> Row
-    requires { ⌜ place i + 32 ≤ length (now table) ⌝ }
+    requires { ⌜ place i + rowOctets ≤ length (now table) ⌝ }
     ensures { λ r. ⌜ r ≡ rowAt (now (table .entry)) i ⌝ }
 {
-    let at = 32 + 32 * i;
+    let at = HEAD_OCTETS + ROW_OCTETS * i;
     Row {
         status: octets::read_u8(table, at),
         known: octets::read_u8(table, at + 1),
@@ -204,10 +221,10 @@ fn write_status(table: &mut [u8], at: usize, row: Row)
 
 // Field by field, and not by a list of widths: the compiler then stores each field whole.
 pub fn write_row(table: &mut [u8], i: usize, row: Row)
-    requires { ⌜ place i + 32 ≤ length (now table) ⌝ }
+    requires { ⌜ place i + rowOctets ≤ length (now table) ⌝ }
     ensures { λ _. ⌜ now (table .exit) ≡ putRow (now (table .entry)) i row ⌝ }
 {
-    let at = 32 + 32 * i;
+    let at = HEAD_OCTETS + ROW_OCTETS * i;
     write_status(table, at, row);
     octets::write_u48(table, at + 4, row.destination.0);
     octets::write_u48(table, at + 10, row.next.0);

@@ -1,11 +1,13 @@
 // Rows by destination, and free rows.
 use crate::address::Address;
 use crate::row;
+use crate::row::HEAD_OCTETS;
+use crate::row::ROW_OCTETS;
 ghost use mathlib.Core.Path.{_≡_};
 ghost use mathlib.Core.Bool.{cond};
 ghost use Prim.Native.Nat.{_+_, _≤_, _<_};
 ghost use lib.ListN.{length};
-ghost use Rattle.table.specs.Layout.{place, rows};
+ghost use Rattle.table.specs.Layout.{mostRows, place, rowOctets, rows, Sized};
 ghost use Rattle.table.specs.Places.{count, first, isNothing, orElse};
 ghost use Rattle.table.specs.Table.{findRow, firstFree, freeRows, holds, vacant};
 
@@ -26,14 +28,14 @@ pub fn is_nothing(f: Found) -> bool
 
 // How many rows the table has.
 pub fn rows_of(table: &[u8]) -> usize
-    requires { ⌜ 32 ≤ length (now table) ⌝ }
+    requires { ⌜ Sized (now table) ⌝ }
     ensures { λ r. ⌜ r ≡ rows (now (table .entry)) ⌝ }
 {
-    (table.len() - 32) / 32
+    (table.len() - HEAD_OCTETS) / ROW_OCTETS
 }
 
 pub fn is_vacant(table: &[u8], i: usize) -> bool
-    requires { ⌜ place i + 32 ≤ length (now table) ⌝ }
+    requires { ⌜ place i + rowOctets ≤ length (now table) ⌝ }
     ensures { λ r. ⌜ r ≡ vacant (now (table .entry)) i ⌝ }
 {
     row::status_at(table, i) == 0
@@ -41,7 +43,7 @@ pub fn is_vacant(table: &[u8], i: usize) -> bool
 
 // Whether row i is held for d.
 fn is_held_for(table: &[u8], i: usize, d: Address) -> bool
-    requires { ⌜ place i + 32 ≤ length (now table) ⌝ }
+    requires { ⌜ place i + rowOctets ≤ length (now table) ⌝ }
     ensures { λ r. ⌜ r ≡ holds (now (table .entry)) d i ⌝ }
 {
     if row::destination_at(table, i).0 != d.0 {
@@ -66,7 +68,7 @@ pub fn find_below(table: &[u8], n: usize, d: Address) -> Found
 }
 
 pub fn find_row(table: &[u8], d: Address) -> Found
-    requires { ⌜ 32 ≤ length (now table) ⌝ }
+    requires { ⌜ Sized (now table) ⌝ }
     ensures { λ r. ⌜ r ≡ findRow (now (table .entry)) d ⌝ }
 {
     find_below(table, rows_of(table), d)
@@ -88,7 +90,7 @@ fn vacant_below(table: &[u8], n: usize) -> Found
 }
 
 fn first_free(table: &[u8]) -> Found
-    requires { ⌜ 32 ≤ length (now table) ⌝ }
+    requires { ⌜ Sized (now table) ⌝ }
     ensures { λ r. ⌜ r ≡ firstFree (now (table .entry)) ⌝ }
 {
     vacant_below(table, rows_of(table))
@@ -96,7 +98,7 @@ fn first_free(table: &[u8]) -> Found
 
 // Where a row goes whose destination was looked for.
 pub fn place_for(table: &[u8], found: Found) -> Found
-    requires { ⌜ 32 ≤ length (now table) ⌝ }
+    requires { ⌜ Sized (now table) ⌝ }
     ensures { λ r. ⌜ r ≡ orElse found (firstFree (now (table .entry))) ⌝ }
 {
     match found {
@@ -107,7 +109,7 @@ pub fn place_for(table: &[u8], found: Found) -> Found
 
 // Free rows count wherever they lie, so a held row between them leaves the count as it is.
 fn counted(found: usize, free: bool) -> usize
-    requires { ⌜ found < 128 ⌝ }
+    requires { ⌜ found < mostRows ⌝ }
     ensures { λ r. ⌜ r ≡ found + cond free 1 0 ⌝ }
 {
     if free { found + 1 } else { found }
@@ -115,7 +117,7 @@ fn counted(found: usize, free: bool) -> usize
 
 // How many of the n first rows are free.
 fn count_vacant(table: &[u8], n: usize) -> usize
-    requires { ⌜ (place n ≤ length (now table)) × (n ≤ 128) ⌝ }
+    requires { ⌜ (place n ≤ length (now table)) × (n ≤ mostRows) ⌝ }
     ensures { λ r. ⌜ r ≡ count (vacant (now (table .entry))) n ⌝ }
 {
     let mut found = 0;
@@ -128,7 +130,7 @@ fn count_vacant(table: &[u8], n: usize) -> usize
 }
 
 pub fn free_rows(table: &[u8]) -> usize
-    requires { ⌜ (32 ≤ length (now table)) × (length (now table) ≤ 4128) ⌝ }
+    requires { ⌜ Sized (now table) ⌝ }
     ensures { λ r. ⌜ r ≡ freeRows (now (table .entry)) ⌝ }
 {
     count_vacant(table, rows_of(table))

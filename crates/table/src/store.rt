@@ -1,28 +1,29 @@
 // What calls do to a table.
 use crate::address::Address;
 use crate::row;
+use crate::row::HEAD_OCTETS;
 use crate::row::Head;
 use crate::row::Row;
 use crate::search;
 use crate::search::Found;
 use counters::SequenceNumber;
 ghost use mathlib.Core.Path.{_≡_};
-ghost use Prim.Native.Nat.{_≤_};
 ghost use lib.ListN.{length};
 ghost use Rattle.table.specs.Table.{findRow, fresh, store};
+ghost use Rattle.table.specs.Layout.{Sized};
 
 // Makes a fresh table of whatever stood there.
 pub fn make_fresh(table: &mut [u8], own: Address, number: SequenceNumber)
-    requires { ⌜ 32 ≤ length (now table) ⌝ }
+    requires { ⌜ Sized (now table) ⌝ }
     ensures { λ _. ⌜ now (table .exit) ≡ fresh (length (now (table .entry))) own number ⌝ }
 {
     row::write_head(table, Head::fresh(own, number));
-    octets::clear(&mut table[32..]);
+    octets::clear(&mut table[HEAD_OCTETS..]);
 }
 
 // Puts a row where its destination was found, else in the free row of lowest place; where there is none, nothing changes.
 pub fn put_row(table: &mut [u8], found: Found, r: Row)
-    requires { ⌜ 32 ≤ length (now table) ⌝ }
+    requires { ⌜ Sized (now table) ⌝ }
     requires { ⌜ found ≡ findRow (now table) (r .destination) ⌝ }
     ensures { λ _. ⌜ now (table .exit) ≡ store (now (table .entry)) r ⌝ }
 {

@@ -13,9 +13,9 @@ use Rattle.octets.specs.LittleEndian.{numberAt}
 use Rattle.table.specs.declared.address.Address.{Address}
 use Rattle.table.specs.Address.{addressOf}
 use Rattle.table.specs.declared.row.Head.{Head}
-use Rattle.table.specs.Layout.{sized, headAt}
+use Rattle.table.specs.Layout.{sized, headAt, headOctets, Sized}
 use Rattle.table.specs.Table.{clock, isTable}
-use Rattle.table.proofs.Cases.{both, sized-long}
+use Rattle.table.proofs.Cases.{both, of-size}
 use Rattle.element.specs.Entries.{each}
 use Rattle.element.specs.Lists.{among, twice}
 use Rattle.element.proofs.Scans.{map-each}
@@ -41,11 +41,13 @@ module _ (s : List ℕ) (long count : ℕ) (p : Pieces s long count) (i : ℕ) (
   pub piece-within : long * i + long ≤ length s
   piece-within = omega (arith, mul-le-mul-left long l, mul-suc long i, mul-comm long count, p .whole)
 
-  pub piece-head : (t : List ℕ) → t ≡ tableAt s long i → 32 ≤ length t
-  piece-head t e = let n = ap length e ∙ piece-long s long i piece-within in omega (arith, p .with-head, n)
+  pub piece-sized : (t : List ℕ) → t ≡ tableAt s long i → Sized t
+  piece-sized t e =
+      let n = ap length e ∙ piece-long s long i piece-within in
+      record { with-head = omega (arith, p .with-head, n); not-longer = omega (arith, p .not-longer, n) }
 
   pub piece-address : (t : List ℕ) → t ≡ tableAt s long i → 6 ≤ length t
-  piece-address t e = omega (arith, piece-head t e)
+  piece-address t e = omega (arith, piece-sized t e .with-head)
 
 -- ---- 1 to 16 of one length
 
@@ -82,11 +84,13 @@ pieces-there s count b be yes-b =
     let counted = both (many && few) whole (all .0) in
     let ranged = both many few (counted .0) in
     let long = piece-long s (lengthOfEach s count) 0 (first-within s count) in
+    let size = of-size first (sized first) refl (all .1) in
     record {
       some-piece = leb-true 1 count (ranged .0);
       few = leb-true count 16 (ranged .1);
       whole = omega (arith, mod-add-div (length s) count, eqb-true (length s % count) 0 (counted .1));
-      with-head = omega (arith, sized-long first (sized first) refl (all .1), long);
+      with-head = omega (arith, size .with-head, long);
+      not-longer = omega (arith, size .not-longer, long);
     }
 
 pub divisible : (s : List ℕ) (count : ℕ) (b : Bool) → b ≡ sideBySide s count → not b ≡ false → 0 < count

@@ -19,13 +19,12 @@ use Rattle.element.proofs.Scans.{each-next, each-end}
 use Rattle.rules.specs.Decision.{refused, accepted, decide}
 use Rattle.rules.specs.NextHop.{alongRow}
 use Rattle.rules.specs.Walk.{Walked, arrived, stopped, tooLong, tableAt, tablesIn, sideBySide, points, rowOfPoint, leadsTo, goOn, follow, walking, walk}
-use Rattle.point.specs.declared.Answer.{Answer}
-use Rattle.point.specs.declared.Answer.the-variants.{Accepted, Refused as NotWalked}
-use Rattle.point.specs.declared.next_hop.Hop.{Hop}
-use Rattle.point.specs.declared.next_hop.Hop.the-variants.{Via, Refused}
-use Rattle.point.specs.Answers.{answerTo}
-use Rattle.point.specs.Answers.{decisionOf as hopDecision}
-use Rattle.point.proofs.Checks.{as-decision, decided-as, answer-passed}
+use Rattle.calls.specs.declared.Answer.{Answer}
+use Rattle.calls.specs.declared.Answer.the-variants.{Accepted, Refused as NotWalked}
+use Rattle.table_calls.specs.declared.next_hop.Hop.{Hop}
+use Rattle.table_calls.specs.declared.next_hop.Hop.the-variants.{Via, Refused}
+use Rattle.calls.specs.Answers.{answerTo, decisionOf as hopDecision}
+use Rattle.calls.proofs.Checks.{as-decision, decided-as, answer-passed}
 use Rattle.walk.specs.declared.Ending.{Ending}
 use Rattle.walk.specs.declared.way.Leads.{Leads}
 use Rattle.walk.specs.declared.way.Leads.the-variants.{To, Nowhere}

@@ -7,18 +7,20 @@ use mathlib.Core.List.{List, [], _∷_}
 use lib.ListN.{length}
 use Rattle.table.specs.declared.address.Address.{Address}
 use Rattle.table.specs.Address.{addressOf}
+use Rattle.table.specs.Layout.{headOctets, mostRows, place}
 use Rattle.table.specs.Table.{isTable}
 use Rattle.element.specs.Entries.{each}
 use Rattle.rules.specs.Decision.{Check, refuse_when_}
 use Rattle.rules.specs.Lists.{any}
 use Rattle.rules.specs.Walk.{hasLaterClock, tableAt}
 
--- 1 to 16 pieces of this length, which has room for a head
+-- 1 to 16 pieces of this length, which a table may have
 pub record Pieces (s : List ℕ) (long count : ℕ) : Type 0 where
   pub some-piece : 1 ≤ count
   pub few : count ≤ 16
   pub whole : count * long ≡ length s
-  pub with-head : 32 ≤ long
+  pub with-head : headOctets ≤ long
+  pub not-longer : long ≤ place mostRows
 
 abbrev pub pieces : List ℕ → ℕ → ℕ → List (List ℕ)
 pieces s long count = each (tableAt s long) 0 count

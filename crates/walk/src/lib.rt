@@ -2,14 +2,14 @@
 pub mod pieces;
 mod way;
 
+use calls::Answer;
 use counters::HopCount;
 use pieces::table_at;
-use point::Answer;
 use table::address::Address;
 use table::legal;
 ghost use mathlib.Core.Path.{_≡_};
 ghost use Rattle.rules.specs.Walk.{sideBySide, walk, walkedAtExit, walking};
-ghost use Rattle.point.specs.Answers.{answerTo};
+ghost use Rattle.calls.specs.Answers.{answerTo};
 ghost use Rattle.walk.specs.Answers.{decisionOf, numbersOf};
 ghost use Rattle.walk.specs.Pieces.{Pieces, piecesChecks};
 

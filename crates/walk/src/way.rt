@@ -3,14 +3,13 @@ use crate::Ending;
 use crate::pieces;
 use crate::pieces::table_at;
 use counters::HopCount;
-use point::next_hop;
-use point::next_hop::Hop;
 use table::address::Address;
+use table_calls::next_hop;
+use table_calls::next_hop::Hop;
 ghost use mathlib.Core.Path.{_≡_};
 ghost use mathlib.Core.Bool.{Bool};
-ghost use Prim.Native.Nat.{_≤_};
-ghost use lib.ListN.{length};
 ghost use Rattle.table.specs.Table.{rowFor};
+ghost use Rattle.table.specs.Layout.{Sized};
 ghost use Rattle.element.specs.Lists.{among};
 ghost use Rattle.rules.specs.Decision.{accepted};
 ghost use Rattle.rules.specs.Walk.{follow, points, rowOfPoint};
@@ -26,7 +25,7 @@ pub enum Leads {
 
 // By the row that a table has for the destination.
 fn next_in(table: &[u8], clock: u64, destination: Address) -> Leads
-    requires { ⌜ 32 ≤ length (now table) ⌝ }
+    requires { ⌜ Sized (now table) ⌝ }
     ensures { λ r. ⌜ nextIn r ≡ activeNext clock (rowFor (now (table .entry)) destination) ⌝ }
 {
     let Hop::Via(next) = next_hop::along_row(table, clock, destination) else {

@@ -1,8 +1,8 @@
 -- `receive::check_arrival` meets its contract: the checks of the operands, then of the link. Assumes nothing.
 use borrow.Author.Needs.{needs}
 use Rattle.receive.specs.Checks.{arrivalChecks}
-use Rattle.point.proofs.Checks.{checking}
-use Rattle.point.proofs.Neighbours.{operands-refused, operands-passed}
+use Rattle.calls.proofs.Checks.{checking}
+use Rattle.calls.proofs.Neighbours.{operands-refused, operands-passed}
 use Rattle.receive.proofs.check_arrival.Statement.{statement}
 use Rattle.receive.proofs.check_arrival.Tie as tie
 

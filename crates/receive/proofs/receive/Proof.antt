@@ -1,6 +1,6 @@
 -- `receive::receive` meets its contract: by its first checks, and by what is read. Assumes nothing.
 use borrow.Author.Needs.{needs}
-use Rattle.receive.proofs.Calling.{arrival-refused, arrival-accepted, arrival-table-long, arrival-table-short, arrival-output-long, arrival-clock}
+use Rattle.receive.proofs.Calling.{arrival-refused, arrival-accepted, arrival-table-sized, arrival-output-long, arrival-clock}
 use Rattle.receive.proofs.receive.Statement.{statement}
 use Rattle.receive.proofs.receive.Tie as tie
 
@@ -10,7 +10,7 @@ receive-spec =
     (tie.spec
     (λ c κs. search needs)
     (λ c. search needs)
-    (λ c κs. (search arrival-table-long, (search arrival-table-short, (search arrival-output-long, search arrival-clock))))
+    (λ c κs. (search arrival-table-sized, (search arrival-output-long, search arrival-clock)))
     (λ c. search needs)
     (λ c. search needs)
     (λ c. search needs)

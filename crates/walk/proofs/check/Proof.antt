@@ -1,6 +1,6 @@
 -- `walk::check` meets its contract: the first refusal of the walk's list. Assumes nothing.
 use borrow.Author.Needs.{needs}
-use Rattle.point.proofs.Checks.{checking}
+use Rattle.calls.proofs.Checks.{checking}
 use Rattle.walk.proofs.Tables.{pieces-there, divisible, ten-tested}
 use Rattle.walk.proofs.check.Statement.{statement}
 use Rattle.walk.proofs.check.Tie as tie

@@ -1,6 +1,6 @@
 -- `walk::check_state` meets its contract: the first of the two that applies. Assumes nothing.
 use borrow.Author.Needs.{needs}
-use Rattle.point.proofs.Checks.{checking}
+use Rattle.calls.proofs.Checks.{checking}
 use Rattle.walk.proofs.check_state.Statement.{statement}
 use Rattle.walk.proofs.check_state.Tie as tie
 

@@ -1,7 +1,7 @@
 -- `receive::error::check` meets its contract: the checks of its list, then of the state. Assumes nothing.
 use borrow.Author.Needs.{needs}
 use Rattle.receive.specs.Checks.{errorChecks}
-use Rattle.point.proofs.Checks.{refused-first, passed-first}
+use Rattle.calls.proofs.Checks.{refused-first, passed-first}
 use Rattle.receive.proofs.Judging.{rerr-checked}
 use Rattle.receive.proofs.error.check.Statement.{statement}
 use Rattle.receive.proofs.error.check.Tie as tie

@@ -1,6 +1,6 @@
 -- `receive::error::check_list` meets its contract: one check of the list after another. Assumes nothing.
 use borrow.Author.Needs.{needs}
-use Rattle.point.proofs.Checks.{checking}
+use Rattle.calls.proofs.Checks.{checking}
 use Rattle.receive.proofs.error.check_list.Statement.{statement}
 use Rattle.receive.proofs.error.check_list.Tie as tie
 

@@ -1,6 +1,6 @@
 -- `receive::error::check_state` meets its contract: the checks that calls with a clock have in common, then that of the matches. Assumes nothing.
 use borrow.Author.Needs.{needs}
-use Rattle.point.proofs.Checks.{refused-first, passed-first, checking}
+use Rattle.calls.proofs.Checks.{refused-first, passed-first, checking}
 use Rattle.receive.proofs.error.check_state.Statement.{statement}
 use Rattle.receive.proofs.error.check_state.Tie as tie
 

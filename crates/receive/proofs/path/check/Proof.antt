@@ -1,7 +1,7 @@
 -- `receive::path::check` meets its contract: the checks of the fields, then of the state. Assumes nothing.
 use borrow.Author.Needs.{needs}
 use Rattle.receive.specs.Checks.{pathChecks}
-use Rattle.point.proofs.Checks.{refused-first, passed-first}
+use Rattle.calls.proofs.Checks.{refused-first, passed-first}
 use Rattle.receive.proofs.path.check.Statement.{statement}
 use Rattle.receive.proofs.path.check.Tie as tie
 

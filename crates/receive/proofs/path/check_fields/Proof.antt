@@ -1,6 +1,6 @@
 -- `receive::path::check_fields` meets its contract: one check of the list after another. Assumes nothing.
 use borrow.Author.Needs.{needs}
-use Rattle.point.proofs.Checks.{checking}
+use Rattle.calls.proofs.Checks.{checking}
 use Rattle.receive.proofs.path.check_fields.Statement.{statement}
 use Rattle.receive.proofs.path.check_fields.Tie as tie
 

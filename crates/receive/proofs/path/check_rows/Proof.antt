@@ -1,7 +1,7 @@
 -- `receive::path::check_rows` meets its contract: one check of the list after another. Assumes nothing.
 use borrow.Author.Needs.{needs}
 use Rattle.table.proofs.ByHead.{by-head}
-use Rattle.point.proofs.Checks.{checking}
+use Rattle.calls.proofs.Checks.{checking}
 use Rattle.receive.proofs.path.check_rows.Statement.{statement}
 use Rattle.receive.proofs.path.check_rows.Tie as tie
 

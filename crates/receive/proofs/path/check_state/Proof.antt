@@ -1,6 +1,6 @@
 -- `receive::path::check_state` meets its contract: the checks that calls with a clock have in common, then those of the rows. Assumes nothing.
 use borrow.Author.Needs.{needs}
-use Rattle.point.proofs.Checks.{refused-first, passed-first}
+use Rattle.calls.proofs.Checks.{refused-first, passed-first}
 use Rattle.receive.proofs.path.check_state.Statement.{statement}
 use Rattle.receive.proofs.path.check_state.Tie as tie
 

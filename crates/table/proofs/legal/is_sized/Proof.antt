@@ -1,11 +1,13 @@
--- `table::legal::is_sized` meets its contract: by what its definition unfolds to. Assumes nothing.
-use Rattle.table.specs.Layout.{sized}
+-- `table::legal::is_sized` meets its contract: by the cases of check 1. Assumes nothing.
+use borrow.Author.Needs.{needs}
+use Rattle.table.proofs.Cases.{too-short, long-enough}
 use Rattle.table.proofs.legal.is_sized.Statement.{statement}
 use Rattle.table.proofs.legal.is_sized.Tie as tie
 
 pub is-sized-spec : {M : Type 1} → statement M
-unfolding sized
 is-sized-spec =
     tie.close
     (tie.spec
-    (λ c. cc))
+    (λ c. search too-short)
+    (λ c. search needs)
+    (λ c. search long-enough))

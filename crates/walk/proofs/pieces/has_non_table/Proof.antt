@@ -8,7 +8,7 @@ use Rattle.element.specs.Entries.{each}
 use Rattle.rules.specs.Lists.{any}
 use Rattle.rules.specs.Walk.{tableAt}
 use Rattle.rules.proofs.AnyOf.{any-start, any-ended}
-use Rattle.walk.proofs.Tables.{piece-within, piece-head, other-found, other-more}
+use Rattle.walk.proofs.Tables.{piece-within, piece-sized, other-found, other-more}
 use Rattle.walk.proofs.pieces.has_non_table.Statement.{statement}
 use Rattle.walk.proofs.pieces.has_non_table.Tie as tie
 
@@ -27,7 +27,7 @@ has-non-table-spec =
     μ-loop
     (λ c. search (needs, any-start))
     (λ c κs. search piece-within)
-    (λ c κs. search piece-head)
+    (λ c κs. search piece-sized)
     (λ c. search other-found)
     (λ c. search needs)
     (λ c. search needs)

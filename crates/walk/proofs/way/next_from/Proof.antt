@@ -5,7 +5,7 @@ use borrow.Author.Needs.{needs}
 use Rattle.element.specs.Entries.{each}
 use Rattle.rules.specs.Walk.{rowOfPoint, tableAt}
 use Rattle.walk.specs.Pieces.{pieces}
-use Rattle.walk.proofs.Tables.{piece-within, piece-head}
+use Rattle.walk.proofs.Tables.{piece-within, piece-sized}
 use Rattle.walk.proofs.Ways.{row-start, row-found, row-more, row-ended}
 use Rattle.walk.proofs.way.next_from.Statement.{statement}
 use Rattle.walk.proofs.way.next_from.Tie as tie
@@ -26,7 +26,7 @@ next-from-spec =
     (λ c. search (needs, row-start))
     (λ c κs. search needs)
     (λ c κs. search piece-within)
-    (λ c κs. search piece-head)
+    (λ c κs. search piece-sized)
     (λ c. search row-found)
     (λ c. search needs)
     (λ c. search needs)

@@ -1,0 +1,3 @@
+-- The laws of a break.
+pub mod Reported
+pub mod Broken

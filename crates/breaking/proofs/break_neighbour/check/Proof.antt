@@ -1,0 +1,18 @@
+-- `breaking::break_neighbour::check` meets its contract: the checks of the operands, then of the state. Assumes nothing.
+use borrow.Author.Needs.{needs}
+use Rattle.rules.specs.Break.{breaking}
+use Rattle.calls.proofs.Neighbours.{operands-refused, operands-passed, operands-table-sized}
+use Rattle.breaking.proofs.break_neighbour.check.Statement.{statement}
+use Rattle.breaking.proofs.break_neighbour.check.Tie as tie
+
+pub check-spec : {M : Type 1} → statement M
+unfolding breaking
+check-spec =
+    tie.close
+    (tie.spec
+    (λ c κs. search needs)
+    (λ c. search needs)
+    (λ c. search operands-refused)
+    (λ c. search needs)
+    (λ c κs. search operands-table-sized)
+    (λ c. search operands-passed))

@@ -1,0 +1,14 @@
+-- `breaking::errors::add` meets its contract: the start, if one is begun, and the entry. Assumes nothing.
+use borrow.Author.Needs.{needs}
+use Rattle.breaking.proofs.Reported.{next-fits, entry-added}
+use Rattle.breaking.proofs.errors.add.Statement.{statement}
+use Rattle.breaking.proofs.errors.add.Tie as tie
+
+pub add-spec : {M : Type 1} → statement M
+add-spec =
+    tie.close
+    (tie.spec
+    (λ c κs. search needs)
+    (λ c κs. search next-fits)
+    (λ c. search needs)
+    (λ c. search entry-added))

@@ -1,0 +1,145 @@
+-- A list of checks gone through one by one, as the `return` of a check asks it; and what its answer says of the call.
+-- Assumes nothing.
+use Prim.Native.Nat.{ℕ, _≤_}
+use mathlib.Core.Path.{_≡_, refl, sym, ap, ap₂, _∙_}
+use mathlib.Core.Bool.{Bool, true, false, not, _||_, cond}
+use mathlib.Core.List.{List, [], _∷_, _++_}
+use lib.Dec.{ltb}
+use lib.ListN.{length}
+use native.Mathlib.Omega.{arith}
+use borrow.Author.Tests.{eq-eqb, ne-eqb, lt-ltb, le-ltb, ltb-false, not-false}
+use Rattle.octets.specs.LittleEndian.{over}
+use Rattle.table.specs.Layout.{sized, headOctets, Sized}
+use Rattle.table.proofs.Cases.{of-size}
+use Rattle.rules.specs.Decision.{Decision, refused, accepted, Check, Ruling, judged, decide}
+use Rattle.rules.specs.Outcome.{Effect, frameOctets, Exit, atExit}
+use Rattle.rules.proofs.Rulings.{Passed, passed}
+use Rattle.calls.specs.declared.Outcome.{Outcome}
+use Rattle.calls.specs.declared.Answer.{Answer}
+use Rattle.calls.specs.declared.Answer.the-variants.{Accepted, Refused}
+use Rattle.calls.specs.declared.Emitted.{Emitted}
+use Rattle.calls.specs.Answers.{answerTo, emitted, exits}
+
+-- ---- one check after another
+
+module _ (n : ℕ) (b : Bool) (checks : List Check) where
+  pub applies : b ≡ true → Refused n ≡ answerTo (record { number = n; applies = b } ∷ checks)
+  unfolding answerTo
+  applies e = rw e
+
+  pub passes : b ≡ false → (r : Answer) → r ≡ answerTo checks → r ≡ answerTo (record { number = n; applies = b } ∷ checks)
+  unfolding answerTo
+  passes e r h = rw e h
+
+pub all-passed : Accepted ≡ answerTo []
+unfolding answerTo
+all-passed = refl
+
+-- a part of the list by itself
+pub part-refused : (part checks : List Check) (n : ℕ) → Refused n ≡ answerTo part → Refused n ≡ answerTo (part ++ checks)
+unfolding answerTo
+part-refused [] checks n e = let z : _≡_ {A = ℕ} 0 1 = cc in absurd (omega arith)
+part-refused (k ∷ part) checks n e = by (k .applies) e (part-refused part checks n)
+  where
+    by : (b : Bool) → Refused n ≡ cond b (Refused (k .number)) (answerTo part) → (Refused n ≡ answerTo part → Refused n ≡ answerTo (part ++ checks))
+        → Refused n ≡ cond b (Refused (k .number)) (answerTo (part ++ checks))
+    by true e rest = e
+    by false e rest = rest e
+
+part-passed : (part checks : List Check) → Accepted ≡ answerTo part → answerTo checks ≡ answerTo (part ++ checks)
+unfolding answerTo
+part-passed [] checks e = refl
+part-passed (k ∷ part) checks e = by (k .applies) e (part-passed part checks)
+  where
+    by : (b : Bool) → Accepted ≡ cond b (Refused (k .number)) (answerTo part) → (Accepted ≡ answerTo part → answerTo checks ≡ answerTo (part ++ checks))
+        → answerTo checks ≡ cond b (Refused (k .number)) (answerTo (part ++ checks))
+    by true e rest = let z : _≡_ {A = ℕ} 0 1 = cc in absurd (omega arith)
+    by false e rest = rest e
+
+pub part-decided : {A : Type 0} (x : A) (part checks : List Check) → Accepted ≡ answerTo part → judged checks x ≡ judged (part ++ checks) x
+unfolding answerTo
+part-decided x [] checks e = refl
+part-decided x (k ∷ part) checks e = by (k .applies) e (part-decided x part checks)
+  where
+    by : (b : Bool) → Accepted ≡ cond b (Refused (k .number)) (answerTo part) → (Accepted ≡ answerTo part → judged checks x ≡ judged (part ++ checks) x)
+        → judged checks x ≡ cond b (refused (k .number)) (judged (part ++ checks) x)
+    by true e rest = let z : _≡_ {A = ℕ} 0 1 = cc in absurd (omega arith)
+    by false e rest = rest e
+
+-- as a check that begins with that of another function asks it
+module _ (part : List Check) (a : Answer) (ae : a ≡ answerTo part) (checks : List Check) where
+  pub refused-first : (n : ℕ) → a ≡ Refused n → Refused n ≡ answerTo (part ++ checks)
+  refused-first n e = part-refused part checks n (sym e ∙ ae)
+
+  pub passed-first : a ≡ Accepted → (r : Answer) → r ≡ answerTo checks → r ≡ answerTo (part ++ checks)
+  passed-first e r h = h ∙ part-passed part checks (sym e ∙ ae)
+
+-- the test of a check, by that of the code
+module _ (a b : Bool) (e : a ≡ b) (v : Bool) where
+  pub as-tested : a ≡ v → b ≡ v
+  as-tested h = sym e ∙ h
+
+  pub as-denied : not a ≡ v → not b ≡ v
+  as-denied h = ap not (sym e) ∙ h
+
+pub either-tested : (a b c d : Bool) → a ≡ b → c ≡ d → (v : Bool) → (a || c) ≡ v → (b || d) ≡ v
+either-tested a b c d e f v h = ap₂ _||_ (sym e) (sym f) ∙ h
+
+-- what the `return` of a check is proved by
+pub ruleset checking = (applies, passes, all-passed, as-tested, as-denied, either-tested, lt-ltb, le-ltb, eq-eqb, ne-eqb)
+
+-- ---- what the answer says
+
+module _ {A : Type 0} (x : A) where
+  -- the answer as the decision of a call that comes to x where it is accepted
+  abbrev pub as-decision : Answer → Decision A
+  as-decision Accepted = accepted x
+  as-decision (Refused n) = refused n
+
+  answer-decides : (checks : List Check) (a : Answer) → a ≡ answerTo checks → judged checks x ≡ as-decision a
+  unfolding answerTo
+  answer-decides [] a e = rw e
+  answer-decides (k ∷ checks) a e = by (k .applies) e (answer-decides checks a)
+    where
+      by : (b : Bool) → a ≡ cond b (Refused (k .number)) (answerTo checks) → (a ≡ answerTo checks → judged checks x ≡ as-decision a)
+          → cond b (refused (k .number)) (judged checks x) ≡ as-decision a
+      by true e rest = rw e
+      by false e rest = rest e
+
+pub answer-passed : (checks : List Check) → Accepted ≡ answerTo checks → Passed checks
+answer-passed checks e = passed {A = ℕ} (record { checks = checks; otherwise = 0 }) 0 (answer-decides 0 checks Accepted e) .0
+
+pub decided-as : {A : Type 0} (r : Ruling A) (a : Answer) → a ≡ answerTo (r .checks) → decide r ≡ as-decision (r .otherwise) a
+decided-as r a ae = answer-decides (r .otherwise) (r .checks) a ae
+
+module _ (t output : List ℕ) (r : Ruling Effect) (a : Answer) (ae : a ≡ answerTo (r .checks)) where
+  pub refusal : (n : ℕ) → a ≡ Refused n → exits (Outcome.Refused n) t output ≡ atExit t output (decide r)
+  unfolding atExit
+  refusal n e = sym (ap (atExit t output) (decided-as r a ae ∙ ap (as-decision (r .otherwise)) e))
+
+  pub acceptance : a ≡ Accepted → (x : Exit) → x ≡ atExit t output (accepted (r .otherwise)) → x ≡ atExit t output (decide r)
+  acceptance e x h = h ∙ sym (ap (atExit t output) (decided-as r a ae ∙ ap (as-decision (r .otherwise)) e))
+
+-- an accepted call by the table, the output and the frames that it leaves
+pub accepted-exit : (t output : List ℕ) (x : Effect) (u v : List ℕ) (e : Emitted) → u ≡ x .table → v ≡ over output 0 (frameOctets (x .frames))
+    → e ≡ emitted (x .frames) → exits (Outcome.Accepted e) u v ≡ atExit t output (accepted x)
+unfolding atExit
+accepted-exit t output x u v e ue ve ee = rw (ue, ve, ee)
+
+-- check 1 tells the size of a table
+pub passes-1 : (t : List ℕ) (a : Bool) → a ≡ sized t → not a ≡ false → Sized t
+passes-1 t a ae yes-a = of-size t a ae (not-false a yes-a)
+
+-- the first two checks of every call that has an output: both buffers are long enough for what follows
+abbrev Buffers : List ℕ → List ℕ → List Check → List Check
+Buffers t output checks = record { number = 1; applies = not (sized t) } ∷ record { number = 2; applies = ltb (length output) 1560 } ∷ checks
+
+module _ (t output : List ℕ) (checks : List Check) (a : Answer) (ae : a ≡ answerTo (Buffers t output checks)) (ok : a ≡ Accepted) where
+  first-two : Passed (Buffers t output checks)
+  first-two = answer-passed (Buffers t output checks) (sym ok ∙ ae)
+
+  pub table-sized : Sized t
+  table-sized = of-size t (sized t) refl (not-false (sized t) (first-two .0))
+
+  pub output-long : 1560 ≤ length output
+  output-long = ltb-false (length output) 1560 (first-two .1 .0)

@@ -1,0 +1,46 @@
+-- What receive and break have in common: their checks of operands and of the state, as the code asks it. Assumes nothing.
+use Prim.Native.Nat.{ℕ, _≤_}
+use mathlib.Core.Path.{_≡_, ap, ap₂, _∙_}
+use mathlib.Core.List.{List, _++_}
+use lib.ListN.{length}
+use Rattle.table.specs.declared.address.Address.{Address}
+use Rattle.table.specs.declared.row.Head.{Head}
+use Rattle.table.specs.Row.{headWith}
+use Rattle.table.specs.Layout.{headAt, putHead, headOctets, Sized}
+use Rattle.table.specs.Table.{number}
+use Rattle.counters.specs.declared.SequenceNumber.{SequenceNumber}
+use Rattle.rules.specs.Decision.{Check}
+use Rattle.rules.specs.Outcome.{underHead}
+use Rattle.calls.specs.declared.Answer.{Answer}
+use Rattle.calls.specs.declared.Answer.the-variants.{Accepted, Refused}
+use Rattle.calls.specs.Answers.{answerTo}
+use Rattle.calls.specs.Checks.{operandChecks}
+use Rattle.calls.proofs.Checks.{refused-first, passed-first, table-sized}
+
+-- ---- the operands, before other checks
+
+module _ (t output : List ℕ) (c : ℕ) (neighbour : Address) (a : Answer) (ae : a ≡ answerTo (operandChecks t (length output) c neighbour)) (checks : List Check) where
+  pub operands-refused : (n : ℕ) → a ≡ Refused n → Refused n ≡ answerTo (operandChecks t (length output) c neighbour ++ checks)
+  operands-refused = refused-first (operandChecks t (length output) c neighbour) a ae checks
+
+  pub operands-passed : a ≡ Accepted → (r : Answer) → r ≡ answerTo checks → r ≡ answerTo (operandChecks t (length output) c neighbour ++ checks)
+  operands-passed = passed-first (operandChecks t (length output) c neighbour) a ae checks
+
+pub operands-table-sized : (t output : List ℕ) (c : ℕ) (neighbour : Address) (a : Answer) → a ≡ answerTo (operandChecks t (length output) c neighbour) → a ≡ Accepted
+    → Sized t
+operands-table-sized t output c neighbour a = table-sized t output _ a
+
+-- ---- the head is stored
+
+-- the head that the table had, over these rows
+pub head-under : (t u : List ℕ) (n : SequenceNumber) (c : ℕ) (h : Head) → h ≡ headAt t → (w : List ℕ) → w ≡ putHead u (headWith n (h .request) c h) → w ≡ underHead t n c u
+head-under t u n c h he w we = we ∙ ap (λ (k : Head). putHead u (headWith n (k .request) c k)) he
+
+-- with the own number that it had
+pub same-number : (t : List ℕ) (c : ℕ) (h : Head) → h ≡ headAt t → (u v w : List ℕ) → u ≡ v → w ≡ putHead u (headWith (h .number) (h .request) c h)
+    → w ≡ underHead t (number t) c v
+same-number t c h he u v w e we =
+    head-under t u (h .number) c h he w we ∙ ap₂ (λ (k : Head) (x : List ℕ). underHead t (k .number) c x) he e
+
+pub head-stored : (t u : List ℕ) (n : SequenceNumber) (c : ℕ) (h k : Head) → k ≡ headWith n (h .request) c h → u ≡ putHead t k → u ≡ putHead t (headWith n (h .request) c h)
+head-stored t u n c h k ke ue = ue ∙ ap (putHead t) ke

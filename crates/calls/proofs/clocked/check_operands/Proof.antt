@@ -1,0 +1,17 @@
+-- `calls::clocked::check_operands` meets its contract: one check of the list after another. Assumes nothing.
+use borrow.Author.Needs.{needs}
+use Rattle.calls.proofs.Checks.{checking}
+use Rattle.calls.proofs.clocked.check_operands.Statement.{statement}
+use Rattle.calls.proofs.clocked.check_operands.Tie as tie
+
+pub check-operands-spec : {M : Type 1} → statement M
+check-operands-spec =
+    tie.close
+    (tie.spec
+    (λ c κs. search needs)
+    (λ c. search checking depth 40)
+    (λ c. search checking depth 40)
+    (λ c. search checking depth 40)
+    (λ c κs. search needs)
+    (λ c. search checking depth 40)
+    (λ c. search checking depth 40))

@@ -1,0 +1,17 @@
+-- `calls::clocked::check_state` meets its contract: one check of the list after another. Assumes nothing.
+use borrow.Author.Needs.{needs}
+use Rattle.table.proofs.ByHead.{by-head}
+use Rattle.calls.proofs.Checks.{checking}
+use Rattle.calls.proofs.clocked.check_state.Statement.{statement}
+use Rattle.calls.proofs.clocked.check_state.Tie as tie
+
+pub check-state-spec : {M : Type 1} → statement M
+check-state-spec =
+    tie.close
+    (tie.spec
+    (λ c κs. search needs)
+    (λ c. search checking depth 40)
+    (λ c κs. search needs)
+    (λ c. search (checking, by-head) depth 40)
+    (λ c. search (checking, by-head) depth 40)
+    (λ c. search (checking, by-head) depth 40))

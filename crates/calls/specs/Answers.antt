@@ -1,0 +1,34 @@
+-- Document 01's numbers and values for the answers. Assumes nothing.
+use Prim.Native.Nat.{ℕ}
+use mathlib.Core.Bool.{cond}
+use mathlib.Core.List.{List, [], _∷_}
+use lib.ListN.{length}
+use Rattle.rules.specs.Decision.{Check, Left}
+use Rattle.rules.specs.Outcome.{Frame, frameOctets, Exit}
+use Rattle.calls.specs.declared.Answer.{Answer}
+use Rattle.calls.specs.declared.Answer.the-variants.{Accepted, Refused}
+use Rattle.calls.specs.declared.Emitted.{Emitted}
+use Rattle.calls.specs.declared.Outcome.{Outcome}
+
+-- an acceptance answers 0, a refusal its number
+abbrev pub answerOf : Answer → ℕ
+answerOf Accepted = 0
+answerOf (Refused n) = n
+
+-- this answer with the table that the call leaves
+abbrev pub leaves : Answer → List ℕ → Left
+leaves a t = record { answer = answerOf a; table = t }
+
+-- what the checks of a call come to: the number of the first that applies, or an acceptance
+unfoldable pub answerTo : List Check → Answer
+answerTo [] = Accepted
+answerTo (k ∷ checks) = cond (k .applies) (Refused (k .number)) (answerTo checks)
+
+-- what is written with these frames
+abbrev pub emitted : List Frame → Emitted
+emitted frames = record { frames = length frames; octets = length (frameOctets frames) }
+
+-- this outcome with the table and the output that the call leaves
+abbrev pub exits : Outcome → List ℕ → List ℕ → Exit
+exits (Outcome.Accepted e) t output = record { answer = 0; frames = e .frames; octets = e .octets; table = t; output = output }
+exits (Outcome.Refused n) t output = record { answer = n; frames = 0; octets = 0; table = t; output = output }

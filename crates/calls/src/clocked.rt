@@ -1,0 +1,59 @@
+// What receive and break have in common: an output, a neighbour, and a clock that is stored when the call is accepted.
+use crate::Answer;
+use counters::SequenceNumber;
+use table::address::Address;
+use table::legal;
+use table::row;
+use table::row::Head;
+ghost use mathlib.Core.Path.{_≡_};
+ghost use lib.ListN.{length};
+ghost use Rattle.table.specs.Row.{headWith};
+ghost use Rattle.table.specs.Layout.{putHead, Sized};
+ghost use Rattle.calls.specs.Answers.{answerTo};
+ghost use Rattle.calls.specs.Checks.{operandChecks, stateChecks};
+
+// The refusals by these operands alone.
+pub fn check_operands(table: &[u8], output: &[u8], clock: u64, neighbour: Address) -> Answer
+    ensures { λ r. ⌜ r ≡ answerTo (operandChecks (now (table .entry)) (length (now (output .entry))) clock neighbour) ⌝ }
+{
+    if !legal::is_sized(table) {
+        return Answer::Refused(1);
+    }
+    if output.len() < crate::LEAST_OUTPUT {
+        return Answer::Refused(2);
+    }
+    if legal::MAX_CLOCK < clock {
+        return Answer::Refused(3);
+    }
+    if !neighbour.is_individual() {
+        return Answer::Refused(4);
+    }
+    Answer::Accepted
+}
+
+// The refusals of the clock and of the neighbour by the state.
+pub fn check_state(table: &[u8], clock: u64, neighbour: Address) -> Answer
+    requires { ⌜ Sized (now table) ⌝ }
+    ensures { λ r. ⌜ r ≡ answerTo (stateChecks (now (table .entry)) clock neighbour) ⌝ }
+{
+    if !legal::is_table(table) {
+        return Answer::Refused(21);
+    }
+    let head = row::read_head(table);
+    if clock < head.clock {
+        return Answer::Refused(22);
+    }
+    if neighbour.0 == head.own.0 {
+        return Answer::Refused(23);
+    }
+    Answer::Accepted
+}
+
+// Writes the head that the table had, with this own number and latest clock.
+pub fn store_head(table: &mut [u8], head: Head, number: SequenceNumber, clock: u64)
+    requires { ⌜ Sized (now table) ⌝ }
+    ensures { λ _. ⌜ now (table .exit) ≡ putHead (now (table .entry)) (headWith number (head .request) clock head) ⌝ }
+{
+    let request = head.request;
+    row::write_head(table, head.with(number, request, clock));
+}

@@ -1,0 +1,43 @@
+// The bits of a RREQ's flags and of a destination's. Reserved bits are ignored and passed on.
+use crate::PathInfo;
+use crate::Target;
+ghost use mathlib.Core.Path.{_≡_};
+ghost use Rattle.element.specs.Flags.{hasDO, hasRF, replyWanted, unicast, withDO};
+
+pub fn is_unicast(p: PathInfo) -> bool
+    ensures { λ r. ⌜ r ≡ unicast p ⌝ }
+{
+    p.flags / 2 % 2 == 1
+}
+
+pub fn is_reply_wanted(p: PathInfo) -> bool
+    ensures { λ r. ⌜ r ≡ replyWanted p ⌝ }
+{
+    p.flags / 4 % 2 == 1
+}
+
+// Whether only the destination itself is to reply.
+pub fn has_do(q: Target) -> bool
+    ensures { λ r. ⌜ r ≡ hasDO q ⌝ }
+{
+    q.flags % 2 == 1
+}
+
+// Whether a destination that was answered for is kept all the same.
+pub fn has_rf(q: Target) -> bool
+    ensures { λ r. ⌜ r ≡ hasRF q ⌝ }
+{
+    q.flags / 2 % 2 == 1
+}
+
+pub fn with_do(q: Target) -> Target
+    ensures { λ r. ⌜ r ≡ withDO q ⌝ }
+{
+    let address = q.address;
+    let number = q.number;
+    Target {
+        flags: 2 * (q.flags / 2) + 1,
+        address,
+        number,
+    }
+}

@@ -1,0 +1,32 @@
+-- `onward::kept::write_kept` meets its contract: what is left makes the whole. Assumes nothing.
+use Prim.Native.Nat.{_-_}
+use mathlib.Core.Path.{_≡_}
+use lib.ListN.{length}
+use native.Mathlib.Omega.{arith}
+use borrow.Author.Needs.{needs}
+use Rattle.element.proofs.Listing.{listing-start}
+use Rattle.onward.proofs.KeptOnes.{Keeping, keeping-room, keeping-more, all-counted, all-written}
+use Rattle.onward.proofs.kept.write_kept.Statement.{statement}
+use Rattle.onward.proofs.kept.write_kept.Tie as tie
+
+abbrev Inv-loop : tie.InvT-loop
+Inv-loop output₀ at table clock part n place₀ i₀ output place i =
+    (length output ≡ length output₀) × Keeping table clock part output₀ at n i place output
+
+abbrev μ-loop : tie.MeasureT-loop
+μ-loop output₀ at table clock part n place₀ i₀ output place i = n - i
+
+pub write-kept-spec : {M : Type 1} → statement M
+write-kept-spec =
+    tie.close
+    (tie.spec
+    Inv-loop
+    μ-loop
+    (λ c. search (needs, listing-start))
+    (λ c κs. omega arith)
+    (λ c κs. search (needs, keeping-room))
+    (λ c. search needs)
+    (λ c. search needs)
+    (λ c. search (needs, keeping-more))
+    (λ c. search needs)
+    (λ c. (search all-counted, search all-written)))

@@ -1,0 +1,36 @@
+-- What is kept of a destination. For the code's own functions: `kept-is` says that it is that part of `answered`, whatever the
+-- own number is. Assumes nothing.
+use Prim.Native.Nat.{ℕ}
+use mathlib.Core.Bool.{cond}
+use mathlib.Core.List.{List, [], _∷_, flatMap}
+use mathlib.Core.Option.{Option, none, some}
+use Rattle.table.specs.declared.row.Row.{Row}
+use Rattle.table.specs.Address.{same}
+use Rattle.table.specs.Table.{own}
+use Rattle.element.specs.declared.Target.{Target}
+use Rattle.element.specs.Entries.{targetOctets, targetsIn}
+use Rattle.element.specs.Lists.{allOnes}
+use Rattle.rules.specs.Destinations.{keptAfterReply}
+use Rattle.onward.specs.declared.kept.Kept.{Kept}
+use Rattle.onward.specs.declared.kept.Kept.the-variants.{As, Struck}
+use Rattle.destinations.specs.Answering.{answeringRow}
+
+abbrev pub keptIn : Kept → List Target
+keptIn (As q) = q ∷ []
+keptIn Struck = []
+
+-- of one that may be answered for, by the row that answers
+abbrev pub keptBy : Target → Option Row → List Target
+keptBy q none = q ∷ []
+keptBy q (some r) = keptAfterReply q
+
+unfoldable pub keptOf : List ℕ → ℕ → Target → List Target
+keptOf t c q = cond (same (q .address) (own t)) [] (cond (same (q .address) allOnes) (q ∷ []) (keptBy q (answeringRow t c q)))
+
+-- as octets
+unfoldable pub keptOctets : List ℕ → ℕ → Target → List ℕ
+keptOctets t c q = flatMap targetOctets (keptOf t c q)
+
+-- the destinations of part that are kept
+unfoldable pub keptAmong : List ℕ → ℕ → List ℕ → List Target
+keptAmong t c part = flatMap (keptOf t c) (targetsIn part)

@@ -1,0 +1,20 @@
+-- `originate::ask::ask` meets its contract: by its check, and by what an accepted one sends. Assumes nothing.
+use borrow.Author.Needs.{needs}
+use Rattle.originate.proofs.Asked.{ask-table-sized, ask-output-long, items-some, items-few, ask-refused, ask-accepted}
+use Rattle.originate.proofs.ask.ask.Statement.{statement}
+use Rattle.originate.proofs.ask.ask.Tie as tie
+
+pub ask-spec : {M : Type 1} → statement M
+ask-spec =
+    tie.close
+    (tie.spec
+    (λ c κs. search needs)
+    (λ c. search needs)
+    (λ c κs. (search ask-table-sized, (search ask-output-long, (search items-some, search items-few))))
+    (λ c. search needs)
+    (λ c. search needs)
+    (λ c. search needs)
+    (λ c. search ask-accepted)
+    (λ c. search needs)
+    (λ c. search needs)
+    (λ c. search ask-refused))

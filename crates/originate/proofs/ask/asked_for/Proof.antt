@@ -1,0 +1,13 @@
+-- `originate::ask::asked_for` meets its contract: by what its definition unfolds to. Assumes nothing.
+use borrow.Author.Needs.{needs}
+use Rattle.rules.specs.Originate.{askedFor}
+use Rattle.originate.proofs.ask.asked_for.Statement.{statement}
+use Rattle.originate.proofs.ask.asked_for.Tie as tie
+
+pub asked-for-spec : {M : Type 1} → statement M
+unfolding askedFor
+asked-for-spec =
+    tie.close
+    (tie.spec
+    (λ c κs. search needs)
+    (λ c. cc))

@@ -1,0 +1,18 @@
+-- `originate::ask::check_items` meets its contract: one check of the list after another. Assumes nothing.
+use borrow.Author.Needs.{needs}
+use Rattle.calls.proofs.Checks.{checking}
+use Rattle.originate.proofs.ask.check_items.Statement.{statement}
+use Rattle.originate.proofs.ask.check_items.Tie as tie
+
+pub check-items-spec : {M : Type 1} → statement M
+check-items-spec =
+    tie.close
+    (tie.spec
+    (λ c κs. search needs)
+    (λ c. search checking depth 40)
+    (λ c κs. search needs)
+    (λ c. search checking depth 40)
+    (λ c κs. search needs)
+    (λ c κs. search needs)
+    (λ c. search checking depth 40)
+    (λ c. search checking depth 40))

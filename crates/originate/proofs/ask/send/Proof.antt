@@ -1,0 +1,18 @@
+-- `originate::ask::send` meets its contract: the head after the step, and one frame with the destinations. Assumes nothing.
+use borrow.Author.Needs.{needs}
+use Rattle.originate.proofs.Asked.{asked-exit}
+use Rattle.originate.proofs.ask.send.Statement.{statement}
+use Rattle.originate.proofs.ask.send.Tie as tie
+
+pub send-spec : {M : Type 1} → statement M
+send-spec =
+    tie.close
+    (tie.spec
+    (λ c κs. search needs)
+    (λ c κs. search needs)
+    (λ c κs. search needs)
+    (λ c κs. search needs)
+    (λ c κs. search needs)
+    (λ c. search needs)
+    (λ c. search needs)
+    (λ c. search asked-exit))

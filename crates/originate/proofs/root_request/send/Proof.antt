@@ -1,0 +1,20 @@
+-- `originate::root_request::send` meets its contract: the head after the step, and one frame with one destination. Assumes
+-- nothing.
+use borrow.Author.Needs.{needs}
+use Rattle.originate.proofs.Originated.{root-exit}
+use Rattle.originate.proofs.root_request.send.Statement.{statement}
+use Rattle.originate.proofs.root_request.send.Tie as tie
+
+pub send-spec : {M : Type 1} → statement M
+send-spec =
+    tie.close
+    (tie.spec
+    (λ c κs. search needs)
+    (λ c κs. search needs)
+    (λ c κs. search needs)
+    (λ c κs. search needs)
+    (λ c κs. search needs)
+    (λ c κs. search needs)
+    (λ c. search needs)
+    (λ c. search needs)
+    (λ c. search root-exit))

@@ -1,0 +1,39 @@
+// Announce: a RANN of one's own.
+use crate::common;
+use calls::Answer;
+use calls::Emitted;
+use calls::Outcome;
+use element::list;
+use element::write;
+use table::address::Address;
+use table::row;
+ghost use mathlib.Core.Path.{_≡_};
+ghost use Prim.Native.Nat.{_≤_};
+ghost use lib.ListN.{length};
+ghost use Rattle.rules.specs.Decision.{accepted};
+ghost use Rattle.rules.specs.Outcome.{atExit};
+ghost use Rattle.rules.specs.Originate.{announce, announced};
+ghost use Rattle.calls.specs.Answers.{exits};
+ghost use Rattle.table.specs.Layout.{Sized};
+
+// The table and the frame of an announcement that is not refused.
+fn send(table: &mut [u8], output: &mut [u8], flags: u8, lifetime: u32) -> Outcome
+    requires { ⌜ Sized (now table) ⌝ }
+    requires { ⌜ 1560 ≤ length (now output) ⌝ }
+    ensures { λ r. ⌜ exits r (now (table .exit)) (now (output .exit)) ≡ atExit (now (table .entry)) (now (output .entry)) (accepted (announced (now (table .entry)) flags lifetime)) ⌝ }
+{
+    let head = common::number_head(row::read_head(table), false);
+    row::write_head(table, head);
+    let path = common::own_path(head, flags, lifetime);
+    let octets = write::write_rann(output, 0, Address(list::ALL_ONES), path);
+    Outcome::Accepted(Emitted::one_frame(octets))
+}
+
+pub fn announce(table: &mut [u8], output: &mut [u8], flags: u8, lifetime: u32) -> Outcome
+    ensures { λ r. ⌜ exits r (now (table .exit)) (now (output .exit)) ≡ atExit (now (table .entry)) (now (output .entry)) (announce (now (table .entry)) (length (now (output .entry))) flags lifetime) ⌝ }
+{
+    match common::check(table, output, 1 < flags, lifetime) {
+        Answer::Accepted => send(table, output, flags, lifetime),
+        Answer::Refused(n) => Outcome::Refused(n),
+    }
+}

@@ -1,0 +1,176 @@
+// Ask: a RREQ of one's own for 1 to 20 destinations.
+use crate::common;
+use calls::Answer;
+use calls::Emitted;
+use calls::Outcome;
+use counters::SequenceNumber;
+use element::Item;
+use element::Target;
+use element::list;
+use element::list::ListKind;
+use element::write;
+use table::address::Address;
+use table::legal;
+use table::row;
+use table::row::Head;
+use table::search;
+use table::search::Found;
+ghost use mathlib.Core.Path.{_≡_};
+ghost use mathlib.Core.List.{flatMap, map};
+ghost use Prim.Native.Nat.{_+_, _*_, _/_, _≤_};
+ghost use lib.ListN.{length};
+ghost use Rattle.octets.specs.LittleEndian.{over};
+ghost use Rattle.table.specs.Table.{rowFor};
+ghost use Rattle.table.specs.Layout.{Sized};
+ghost use Rattle.element.specs.Element.{rreq};
+ghost use Rattle.element.specs.Entries.{itemsIn, targetOctets};
+ghost use Rattle.element.specs.Lists.{allOnes};
+ghost use Rattle.element.specs.Octets.{writeFrame};
+ghost use Rattle.rules.specs.Decision.{accepted};
+ghost use Rattle.rules.specs.Lists.{any};
+ghost use Rattle.rules.specs.Outcome.{atExit};
+ghost use Rattle.rules.specs.Originate.{ask, askedFor, asking, hasHighFlags, itemsFit, knownNumber, ownRequest, requested};
+ghost use Rattle.calls.specs.Answers.{answerTo, exits};
+ghost use Rattle.originate.specs.Checks.{itemChecks};
+
+// 7 octets an item, 1 to 20 items.
+fn is_item_list(items: &[u8]) -> bool
+    ensures { λ r. ⌜ r ≡ itemsFit (now (items .entry)) ⌝ }
+{
+    (items.len() % 7 == 0) & (7 <= items.len()) & (items.len() <= 140)
+}
+
+fn has_high_flags(items: &[u8]) -> bool
+    ensures { λ r. ⌜ r ≡ any hasHighFlags (itemsIn (now (items .entry))) ⌝ }
+{
+    let n = items.len() / 7;
+    let mut i = 0;
+    while i < n {
+        if 3 < list::item_at(items, i).flags {
+            return true;
+        }
+        i += 1;
+    }
+    false
+}
+
+// The refusals of an ask for its items alone.
+fn check_items(items: &[u8]) -> Answer
+    ensures { λ r. ⌜ r ≡ answerTo (itemChecks (now (items .entry))) ⌝ }
+{
+    if !is_item_list(items) {
+        return Answer::Refused(8);
+    }
+    if list::has_forbidden(items, ListKind::Items) {
+        return Answer::Refused(9);
+    }
+    if list::has_twice(items, ListKind::Items) | has_high_flags(items) {
+        return Answer::Refused(10);
+    }
+    Answer::Accepted
+}
+
+fn check(table: &[u8], output: &[u8], lifetime: u32, items: &[u8]) -> Answer
+    ensures { λ r. ⌜ r ≡ answerTo (asking (now (table .entry)) (length (now (output .entry))) lifetime (now (items .entry)) .checks) ⌝ }
+{
+    if !legal::is_sized(table) {
+        return Answer::Refused(1);
+    }
+    if output.len() < calls::LEAST_OUTPUT {
+        return Answer::Refused(2);
+    }
+    if let Answer::Refused(n) = check_items(items) {
+        return Answer::Refused(n);
+    }
+    if lifetime == 0 {
+        return Answer::Refused(11);
+    }
+    if !legal::is_table(table) {
+        return Answer::Refused(21);
+    }
+    if list::is_among(items, ListKind::Items, row::read_head(table).own) {
+        return Answer::Refused(24);
+    }
+    Answer::Accepted
+}
+
+// The number of the destination's row, whether or not that is active, if it is known; else 0.
+fn known_number(table: &[u8], destination: Address) -> SequenceNumber
+    requires { ⌜ Sized (now table) ⌝ }
+    ensures { λ r. ⌜ r ≡ knownNumber (rowFor (now (table .entry)) destination) ⌝ }
+{
+    let Found::At(i) = search::find_row(table, destination) else {
+        return SequenceNumber(0);
+    };
+    let r = row::read_row(table, i);
+    if r.known != 1 {
+        return SequenceNumber(0);
+    }
+    r.number
+}
+
+fn asked_for(table: &[u8], item: Item) -> Target
+    requires { ⌜ Sized (now table) ⌝ }
+    ensures { λ r. ⌜ r ≡ askedFor (now (table .entry)) item ⌝ }
+{
+    let address = item.address;
+    let number = known_number(table, address);
+    Target {
+        flags: item.flags,
+        address,
+        number,
+    }
+}
+
+// The destinations of the items from place at on; answers the place after them.
+fn write_targets(output: &mut [u8], at: usize, table: &[u8], items: &[u8]) -> usize
+    requires { ⌜ Sized (now table) ⌝ }
+    requires { ⌜ at + 11 * (length (now items) / 7) ≤ length (now output) ⌝ }
+    ensures { λ r. ⌜ r ≡ at + 11 * (length (now (items .entry)) / 7) ⌝ }
+    ensures { λ _. ⌜ now (output .exit) ≡ over (now (output .entry)) at (flatMap targetOctets (map (askedFor (now (table .entry))) (itemsIn (now (items .entry))))) ⌝ }
+{
+    let n = items.len() / 7;
+    let mut place = at;
+    let mut i = 0;
+    while i < n {
+        place = write::write_target(output, place, asked_for(table, list::item_at(items, i)));
+        i += 1;
+    }
+    place
+}
+
+// The frame of an ask, as the point with this head sends it; answers the place after it.
+fn write_request(output: &mut [u8], head: Head, lifetime: u32, table: &[u8], items: &[u8]) -> usize
+    requires { ⌜ Sized (now table) ⌝ }
+    requires { ⌜ 1560 ≤ length (now output) ⌝ }
+    requires { ⌜ 7 ≤ length (now items) ⌝ }
+    requires { ⌜ length (now items) ≤ 140 ⌝ }
+    ensures { λ r. ⌜ r ≡ 34 + 11 * (length (now (items .entry)) / 7) ⌝ }
+    ensures { λ _. ⌜ now (output .exit) ≡ over (now (output .entry)) 0 (writeFrame allOnes (rreq (ownRequest head 0 lifetime) (map (askedFor (now (table .entry))) (itemsIn (now (items .entry)))))) ⌝ }
+{
+    let list = common::start_request(output, head, 0, lifetime, items.len() / 7);
+    write_targets(output, list, table, items)
+}
+
+// The table and the frame of an ask that is not refused.
+fn send(table: &mut [u8], output: &mut [u8], lifetime: u32, items: &[u8]) -> Outcome
+    requires { ⌜ Sized (now table) ⌝ }
+    requires { ⌜ 1560 ≤ length (now output) ⌝ }
+    requires { ⌜ 7 ≤ length (now items) ⌝ }
+    requires { ⌜ length (now items) ≤ 140 ⌝ }
+    ensures { λ r. ⌜ exits r (now (table .exit)) (now (output .exit)) ≡ atExit (now (table .entry)) (now (output .entry)) (accepted (requested (now (table .entry)) 0 lifetime (map (askedFor (now (table .entry))) (itemsIn (now (items .entry)))))) ⌝ }
+{
+    let head = common::number_head(row::read_head(table), true);
+    let octets = write_request(output, head, lifetime, table, items);
+    row::write_head(table, head);
+    Outcome::Accepted(Emitted::one_frame(octets))
+}
+
+pub fn ask(table: &mut [u8], output: &mut [u8], lifetime: u32, items: &[u8]) -> Outcome
+    ensures { λ r. ⌜ exits r (now (table .exit)) (now (output .exit)) ≡ atExit (now (table .entry)) (now (output .entry)) (ask (now (table .entry)) (length (now (output .entry))) lifetime (now (items .entry))) ⌝ }
+{
+    match check(table, output, lifetime, items) {
+        Answer::Accepted => send(table, output, lifetime, items),
+        Answer::Refused(n) => Outcome::Refused(n),
+    }
+}

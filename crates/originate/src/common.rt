@@ -1,0 +1,87 @@
+// What ask, announce and root request have in common: refusals, the numbering of a new element, and what a point says of
+// itself.
+use calls::Answer;
+use counters::HopCount;
+use counters::Metric;
+use counters::own;
+use counters::own::OwnCounters;
+use element::PathInfo;
+use element::RreqFields;
+use element::list;
+use element::write;
+use table::address::Address;
+use table::legal;
+use table::row::Head;
+ghost use mathlib.Core.Path.{_≡_};
+ghost use Prim.Native.Nat.{_≤_};
+ghost use lib.ListN.{length};
+ghost use Rattle.octets.specs.LittleEndian.{over};
+ghost use Rattle.element.specs.declared.Kind.{Kind};
+ghost use Rattle.element.specs.Element.{rreqNumbers};
+ghost use Rattle.element.specs.Lists.{allOnes};
+ghost use Rattle.element.specs.Octets.{frameStart};
+ghost use Rattle.rules.specs.Originate.{originating, ownPath, ownRequest, numberedHead};
+ghost use Rattle.calls.specs.Answers.{answerTo};
+
+// The refusals of announce and root request. They differ in the flags that are barred.
+pub fn check(table: &[u8], output: &[u8], barred: bool, lifetime: u32) -> Answer
+    ensures { λ r. ⌜ r ≡ answerTo (originating {A = Unit {0}} (now (table .entry)) (length (now (output .entry))) barred lifetime tt .checks) ⌝ }
+{
+    if !legal::is_sized(table) {
+        return Answer::Refused(1);
+    }
+    if output.len() < calls::LEAST_OUTPUT {
+        return Answer::Refused(2);
+    }
+    if barred {
+        return Answer::Refused(10);
+    }
+    if lifetime == 0 {
+        return Answer::Refused(11);
+    }
+    if !legal::is_table(table) {
+        return Answer::Refused(21);
+    }
+    Answer::Accepted
+}
+
+// Numbers a new element, a RREQ or not: its numbers are those of the head that is answered.
+pub fn number_head(head: Head, rreq: bool) -> Head
+    ensures { λ r. ⌜ r ≡ numberedHead rreq head ⌝ }
+{
+    let number = head.number;
+    let request = head.request;
+    let advanced = own::numbered(OwnCounters { number, request }, rreq);
+    head.with(advanced.number, advanced.request, head.clock)
+}
+
+// What the point with this head says of itself.
+pub fn own_path(head: Head, flags: u8, lifetime: u32) -> PathInfo
+    ensures { λ r. ⌜ r ≡ ownPath head flags lifetime ⌝ }
+{
+    let subject = head.own;
+    let number = head.number;
+    PathInfo {
+        flags,
+        hops: HopCount(0),
+        ttl: 31,
+        subject,
+        number,
+        lifetime,
+        metric: Metric(0),
+    }
+}
+
+// A RREQ of the point with this head, up to its list of n destinations; answers the place of that list.
+pub fn start_request(output: &mut [u8], head: Head, flags: u8, lifetime: u32, n: usize) -> usize
+    requires { ⌜ 1 ≤ n ⌝ }
+    requires { ⌜ n ≤ 20 ⌝ }
+    requires { ⌜ 34 ≤ length (now output) ⌝ }
+    ensures { λ r. ⌜ r ≡ 34 ⌝ }
+    ensures { λ _. ⌜ now (output .exit) ≡ over (now (output .entry)) 0 (frameStart allOnes Kind.Rreq n (rreqNumbers (ownRequest head flags lifetime))) ⌝ }
+{
+    let request = head.request;
+    let path = own_path(head, flags, lifetime);
+    let fields = RreqFields { request, path };
+    write::start_rreq(output, 0, Address(list::ALL_ONES), fields, n)
+}

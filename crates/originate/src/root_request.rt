@@ -1,0 +1,54 @@
+// Root request: a RREQ of one's own for all ones.
+use crate::common;
+use calls::Answer;
+use calls::Emitted;
+use calls::Outcome;
+use counters::SequenceNumber;
+use element::Target;
+use element::list;
+use element::write;
+use table::address::Address;
+use table::row;
+ghost use mathlib.Core.Path.{_≡_};
+ghost use mathlib.Core.List.{[], _∷_};
+ghost use Prim.Native.Nat.{_≤_};
+ghost use lib.ListN.{length};
+ghost use Rattle.rules.specs.Decision.{accepted};
+ghost use Rattle.rules.specs.Outcome.{atExit};
+ghost use Rattle.rules.specs.Originate.{allWithDOAndRF, isRootFlags, requested, rootRequest};
+ghost use Rattle.calls.specs.Answers.{exits};
+ghost use Rattle.table.specs.Layout.{Sized};
+
+// Portal and reply wanted may be set, unicast and the reserved bits may not.
+fn is_root_flags(flags: u8) -> bool
+    ensures { λ r. ⌜ r ≡ isRootFlags flags ⌝ }
+{
+    (flags == 0) | (flags == 1) | (flags == 4) | (flags == 5)
+}
+
+// The table and the frame of a root request that is not refused.
+fn send(table: &mut [u8], output: &mut [u8], flags: u8, lifetime: u32) -> Outcome
+    requires { ⌜ Sized (now table) ⌝ }
+    requires { ⌜ 1560 ≤ length (now output) ⌝ }
+    ensures { λ r. ⌜ exits r (now (table .exit)) (now (output .exit)) ≡ atExit (now (table .entry)) (now (output .entry)) (accepted (requested (now (table .entry)) flags lifetime (allWithDOAndRF ∷ []))) ⌝ }
+{
+    let head = common::number_head(row::read_head(table), true);
+    row::write_head(table, head);
+    let place = common::start_request(output, head, flags, lifetime, 1);
+    let target = Target {
+        flags: 3,
+        address: Address(list::ALL_ONES),
+        number: SequenceNumber(0),
+    };
+    let octets = write::write_target(output, place, target);
+    Outcome::Accepted(Emitted::one_frame(octets))
+}
+
+pub fn root_request(table: &mut [u8], output: &mut [u8], flags: u8, lifetime: u32) -> Outcome
+    ensures { λ r. ⌜ exits r (now (table .exit)) (now (output .exit)) ≡ atExit (now (table .entry)) (now (output .entry)) (rootRequest (now (table .entry)) (length (now (output .entry))) flags lifetime) ⌝ }
+{
+    match common::check(table, output, !is_root_flags(flags), lifetime) {
+        Answer::Accepted => send(table, output, flags, lifetime),
+        Answer::Refused(n) => Outcome::Refused(n),
+    }
+}

@@ -1,8 +1,0 @@
--- `point::originate::own_path` meets its contract: by what its definition unfolds to. Assumes nothing.
-use Rattle.rules.specs.Originate.{ownPath}
-use Rattle.point.proofs.originate.own_path.Statement.{statement}
-use Rattle.point.proofs.originate.own_path.Tie as tie
-
-pub own-path-spec : {M : Type 1} → statement M
-unfolding ownPath
-own-path-spec = tie.close (tie.spec (λ c. cc))

@@ -1,8 +1,0 @@
--- `point::root_request::is_root_flags` meets its contract: by what its definition unfolds to. Assumes nothing.
-use Rattle.rules.specs.Originate.{isRootFlags}
-use Rattle.point.proofs.root_request.is_root_flags.Statement.{statement}
-use Rattle.point.proofs.root_request.is_root_flags.Tie as tie
-
-pub is-root-flags-spec : {M : Type 1} → statement M
-unfolding isRootFlags
-is-root-flags-spec = tie.close (tie.spec (λ c. cc))

@@ -1,0 +1,129 @@
+-- The definitions of the calls by cases, each as a `return` asks it. Each section adds the test that was passed.
+-- Assumes nothing.
+use Prim.Native.Nat.{ℕ, _+_, _≤_, _<_}
+use mathlib.Core.Path.{_≡_, refl}
+use mathlib.Core.Bool.{Bool, true, false, not}
+use mathlib.Core.List.{List}
+use lib.ListN.{length}
+use borrow.Author.Tests.{not-true, not-false, lt-ltb, le-ltb}
+use Rattle.counters.specs.declared.SequenceNumber.{SequenceNumber}
+use Rattle.table.specs.declared.address.Address.{Address}
+use Rattle.table.specs.declared.row.Head.{Head}
+use Rattle.table.specs.declared.row.Row.{Row as TableRow}
+use Rattle.table.specs.declared.search.Found.{Found}
+use Rattle.table.specs.declared.search.Found.the-variants.{At, Nothing}
+use Rattle.table.specs.Address.{individual}
+use Rattle.table.specs.Row.{freeRow, active}
+use Rattle.table.specs.Layout.{sized, place, headAt, rowAt, putRow, rowOctets, headOctets, Sized}
+use Rattle.table.specs.Table.{isTable, findRow, rowFor, fresh, freed}
+use Rattle.table.proofs.Cases.{of-size, found-within, row-at, row-none}
+use Rattle.rules.specs.Decision.{decide, left}
+use Rattle.rules.specs.Fresh.{makeFresh}
+use Rattle.rules.specs.Forget.{forget}
+use Rattle.rules.specs.NextHop.{alongRow, nextHop}
+use Rattle.calls.specs.declared.Answer.the-variants.{Accepted, Refused}
+use Rattle.calls.proofs.Checks.{passes-1}
+use Rattle.table_calls.specs.declared.forget.Check.{Check}
+use Rattle.table_calls.specs.declared.forget.Check.the-variants.{Row, Refused as Refusal}
+use Rattle.table_calls.specs.declared.next_hop.Hop.{Hop}
+use Rattle.table_calls.specs.declared.next_hop.Hop.the-variants.{Via, Refused as NoHop}
+use Rattle.calls.specs.Answers.{leaves}
+use Rattle.table_calls.specs.Answers.{decisionOf}
+use Rattle.table_calls.specs.Checks.{ToFree}
+
+-- ---- make a fresh table
+
+module _ (t : List ℕ) (d : Address) (s : SequenceNumber) (a : Bool) (ae : a ≡ sized t) where
+  pub fresh-1 : not a ≡ true → leaves (Refused 1) t ≡ left t (makeFresh t d s)
+  unfolding makeFresh
+  fresh-1 no-a = cc
+
+  module _ (yes-a : not a ≡ false) (b : Bool) (be : b ≡ individual d) where
+    pub fresh-9 : not b ≡ true → leaves (Refused 9) t ≡ left t (makeFresh t d s)
+    unfolding makeFresh
+    fresh-9 no-b = cc
+
+    pub fresh-made : not b ≡ false → (u : List ℕ) → u ≡ fresh (length t) d s → leaves Accepted u ≡ left t (makeFresh t d s)
+    unfolding makeFresh
+    fresh-made yes-b u ue = cc
+
+-- ---- forget a destination
+
+module _ (t : List ℕ) (d : Address) (a : Bool) (ae : a ≡ sized t) where
+  pub forget-1 : not a ≡ true → ToFree t d (Refusal 1)
+  unfolding forget
+  forget-1 no-a = cc
+
+  module _ (yes-a : not a ≡ false) (b : Bool) (be : b ≡ individual d) where
+    pub forget-9 : not b ≡ true → ToFree t d (Refusal 9)
+    unfolding forget
+    forget-9 no-b = cc
+
+    module _ (yes-b : not b ≡ false) (c : Bool) (ce : c ≡ isTable t) where
+      pub forget-21 : not c ≡ true → ToFree t d (Refusal 21)
+      unfolding forget
+      forget-21 no-c = cc
+
+      module _ (yes-c : not c ≡ false) (f : Found) (fe : f ≡ findRow t d) where
+        pub forget-29 : f ≡ Nothing → ToFree t d (Refusal 29)
+        unfolding forget
+        forget-29 no-row = cc (row-none t d f fe no-row)
+
+        pub forget-row : (i : ℕ) → f ≡ At i → ToFree t d (Row i)
+        unfolding forget freed
+        forget-row i at-i = (found-within t d f i fe at-i (passes-1 t a ae yes-a), cc (row-at t d f fe i at-i (rowAt t i) refl))
+
+module _ (t : List ℕ) (d : Address) (k : Check) (ke : ToFree t d k) where
+  pub row-within : (i : ℕ) → k ≡ Row i → place i + rowOctets ≤ length t
+  row-within i at-i = (rw at-i at ke) .0
+
+  pub forgotten : (i : ℕ) → k ≡ Row i → (r : TableRow) → r ≡ freeRow → (u : List ℕ) → u ≡ putRow t i r → leaves Accepted u ≡ left t (forget t d)
+  forgotten i at-i r re u ue = let e = (rw at-i at ke) .1 in cc
+
+  pub not-forgotten : (n : ℕ) → k ≡ Refusal n → leaves (Refused n) t ≡ left t (forget t d)
+  not-forgotten n refusal = let e = rw refusal at ke in cc
+
+-- ---- find a next hop
+
+module _ (t : List ℕ) (c : ℕ) (d : Address) (f : Found) (fe : f ≡ findRow t d) where
+  pub along-none : f ≡ Nothing → decisionOf (NoHop 28) ≡ decide (alongRow c (rowFor t d))
+  unfolding alongRow
+  along-none no-row = rw (row-none t d f fe no-row)
+
+  module _ (i : ℕ) (at-i : f ≡ At i) (r : TableRow) (re : r ≡ rowAt t i) (a : Bool) (ae : a ≡ active c r) where
+    pub along-inactive : not a ≡ true → decisionOf (NoHop 28) ≡ decide (alongRow c (rowFor t d))
+    unfolding alongRow
+    along-inactive no-a = rw (row-at t d f fe i at-i r re, ← ae, not-true a no-a)
+
+    pub along-row : not a ≡ false → decisionOf (Via (r .next)) ≡ decide (alongRow c (rowFor t d))
+    unfolding alongRow
+    along-row yes-a = rw (row-at t d f fe i at-i r re, ← ae, not-false a yes-a)
+
+module _ (t : List ℕ) (c : ℕ) (d : Address) (a : Bool) (ae : a ≡ sized t) where
+  pub hop-1 : not a ≡ true → decisionOf (NoHop 1) ≡ nextHop t c d
+  unfolding nextHop
+  hop-1 no-a = cc
+
+  module _ (yes-a : not a ≡ false) where
+    pub hop-3 : 281474976710655 < c → decisionOf (NoHop 3) ≡ nextHop t c d
+    unfolding nextHop
+    hop-3 l = cc (lt-ltb 281474976710655 c l)
+
+    module _ (in-time : c ≤ 281474976710655) (b : Bool) (be : b ≡ individual d) where
+      pub hop-9 : not b ≡ true → decisionOf (NoHop 9) ≡ nextHop t c d
+      unfolding nextHop
+      hop-9 no-b = cc (le-ltb 281474976710655 c in-time)
+
+      module _ (yes-b : not b ≡ false) (e : Bool) (ee : e ≡ isTable t) where
+        pub hop-21 : not e ≡ true → decisionOf (NoHop 21) ≡ nextHop t c d
+        unfolding nextHop
+        hop-21 no-e = cc (le-ltb 281474976710655 c in-time)
+
+        module _ (yes-e : not e ≡ false) (h : Head) (he : h ≡ headAt t) where
+          pub hop-22 : c < h .clock → decisionOf (NoHop 22) ≡ nextHop t c d
+          unfolding nextHop
+          hop-22 l = cc (le-ltb 281474976710655 c in-time, lt-ltb c (h .clock) l)
+
+          pub hop-row : h .clock ≤ c → (o : Hop) → decisionOf o ≡ decide (alongRow c (rowFor t d)) → decisionOf o ≡ nextHop t c d
+          unfolding nextHop
+          hop-row l o oe = cc (le-ltb 281474976710655 c in-time, le-ltb c (h .clock) l)

@@ -1,0 +1,2 @@
+-- The laws of fresh, next hop and forget.
+pub mod Cases

@@ -1,0 +1,49 @@
+// Forget a destination.
+use calls::Answer;
+use table::address::Address;
+use table::legal;
+use table::row;
+use table::row::Row;
+use table::search;
+use table::search::Found;
+ghost use mathlib.Core.Path.{_≡_};
+ghost use Rattle.rules.specs.Decision.{left};
+ghost use Rattle.rules.specs.Forget.{forget};
+ghost use Rattle.calls.specs.Answers.{leaves};
+ghost use Rattle.table_calls.specs.Checks.{ToFree};
+
+// The place of the row to free, or the refusal of lowest number.
+pub enum Check {
+    Row(usize),
+    Refused(u32),
+}
+
+fn row_to_free(table: &[u8], destination: Address) -> Check
+    ensures { λ r. ⌜ ToFree (now (table .entry)) destination r ⌝ }
+{
+    if !legal::is_sized(table) {
+        return Check::Refused(1);
+    }
+    if !destination.is_individual() {
+        return Check::Refused(9);
+    }
+    if !legal::is_table(table) {
+        return Check::Refused(21);
+    }
+    match search::find_row(table, destination) {
+        Found::At(i) => Check::Row(i),
+        Found::Nothing => Check::Refused(29),
+    }
+}
+
+pub fn forget(table: &mut [u8], destination: Address) -> Answer
+    ensures { λ r. ⌜ leaves r (now (table .exit)) ≡ left (now (table .entry)) (forget (now (table .entry)) destination) ⌝ }
+{
+    match row_to_free(table, destination) {
+        Check::Row(i) => {
+            row::write_row(table, i, Row::free());
+            Answer::Accepted
+        }
+        Check::Refused(n) => Answer::Refused(n),
+    }
+}

@@ -1,0 +1,23 @@
+// Make a fresh table.
+use calls::Answer;
+use counters::SequenceNumber;
+use table::address::Address;
+use table::legal;
+use table::store;
+ghost use mathlib.Core.Path.{_≡_};
+ghost use Rattle.rules.specs.Decision.{left};
+ghost use Rattle.rules.specs.Fresh.{makeFresh};
+ghost use Rattle.calls.specs.Answers.{leaves};
+
+pub fn make_fresh(table: &mut [u8], own: Address, number: SequenceNumber) -> Answer
+    ensures { λ r. ⌜ leaves r (now (table .exit)) ≡ left (now (table .entry)) (makeFresh (now (table .entry)) own number) ⌝ }
+{
+    if !legal::is_sized(table) {
+        return Answer::Refused(1);
+    }
+    if !own.is_individual() {
+        return Answer::Refused(9);
+    }
+    store::make_fresh(table, own, number);
+    Answer::Accepted
+}
