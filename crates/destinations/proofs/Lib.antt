@@ -1,2 +1,2 @@
-mod AnsweringRows
+pub mod AnsweringRows
 pub mod Replying

@@ -23,7 +23,8 @@ use Rattle.calls.specs.declared.Answer.{Answer}
 use Rattle.calls.specs.declared.Answer.the-variants.{Accepted, Refused as NotWalked}
 use Rattle.table_calls.specs.declared.next_hop.Hop.{Hop}
 use Rattle.table_calls.specs.declared.next_hop.Hop.the-variants.{Via, Refused}
-use Rattle.calls.specs.Answers.{answerTo, decisionOf as hopDecision}
+use Rattle.calls.specs.Answers.{answerTo}
+use Rattle.table_calls.specs.Answers.{decisionOf as hopDecision}
 use Rattle.calls.proofs.Checks.{as-decision, decided-as, answer-passed}
 use Rattle.walk.specs.declared.Ending.{Ending}
 use Rattle.walk.specs.declared.way.Leads.{Leads}
