@@ -16,9 +16,9 @@ use Rattle.rules.specs.Decision.{Decision, refused}
 use Rattle.rules.specs.Outcome.{Effect, Exit, atExit}
 use Rattle.rules.specs.Calls.{Call, asks, announces, requestsAsRoot, breaks, outcome}
 use Rattle.rules.specs.Walk.{Walked, walkedAtExit, walk}
-use Rattle.loops.specs.Mesh.{Rules, Point, Mesh, start, tableOf, Action, delivers, makes, Event, callOf, happen, run, throughout, met}
-use Rattle.loops.specs.Premise.{held, allWithin}
-use Rattle.loops.specs.WrongRules.{comparesPlainly, takesEqualReplies, takesEqualIfInactive, dropsBroken, keepsNumber}
+use Rattle.theorems.specs.Mesh.{Rules, Point, Mesh, start, tableOf, Action, delivers, makes, Event, callOf, happen, run, throughout, met}
+use Rattle.theorems.specs.Premise.{held, allWithin}
+use Rattle.theorems.specs.WrongRules.{comparesPlainly, takesEqualReplies, takesEqualIfInactive, dropsBroken, keepsNumber}
 
 -- ---- points and events
 

@@ -40,10 +40,10 @@ use Rattle.rules.proofs.Falling.{break-keeps-rows, error-keeps-rows}
 use Rattle.rules.proofs.Emitting.{to-all-emitted, rann-emitted, rreq-emitted, rrep-emitted, errors-emitted}
 use Rattle.rules.proofs.Accepted.{Accepted, accepted-element}
 use Rattle.rules.proofs.CallsKeep.{Kept, call-kept}
-use Rattle.loops.specs.Mesh.{Sent}
-use Rattle.loops.proofs.Invariant.{Near, Backed, pathIn, Sound, Fine, stay, backed-path, backed-none}
-use Rattle.loops.proofs.Moves.{changed-move, learnt-move, learnt-absent, learnt-stands}
-use Rattle.loops.proofs.Frames.{AllBacked, replies-backed}
+use Rattle.theorems.specs.Mesh.{Sent}
+use Rattle.theorems.proofs.Invariant.{Near, Backed, pathIn, Sound, Fine, stay, backed-path, backed-none}
+use Rattle.theorems.proofs.Moves.{changed-move, learnt-move, learnt-absent, learnt-stands}
+use Rattle.theorems.proofs.Frames.{AllBacked, replies-backed}
 
 -- an element that is received is one of the log, from its sender
 abbrev pub FromLog : List Sent → Call → Type 0

@@ -5,10 +5,10 @@ use mathlib.Core.List.{_++_}
 use Rattle.rules.specs.Lists.{all}
 use Rattle.rules.specs.Calls.{outcome}
 use Rattle.rules.proofs.Computing.{computing}
-use Rattle.loops.specs.Mesh.{start, tableOf, withTable, callOf, sentBy, leaves, happen, run, throughout, nextAt, met}
-use Rattle.loops.specs.Premise.{beside, held, carried, numbersFor, isWithin, allWithin}
-use Rattle.loops.specs.WrongRules.{ruledBy}
-use Rattle.loops.specs.Runs.{isWithinWindow, after, endOf, way, walked, heldIn, linesFrom, lines, agree, worked, wentRound, loops, counterexamples, outsideLoops}
+use Rattle.theorems.specs.Mesh.{start, tableOf, withTable, callOf, sentBy, leaves, happen, run, throughout, nextAt, met}
+use Rattle.theorems.specs.Premise.{beside, held, carried, numbersFor, isWithin, allWithin}
+use Rattle.theorems.specs.WrongRules.{ruledBy}
+use Rattle.theorems.specs.Runs.{isWithinWindow, after, endOf, way, walked, heldIn, linesFrom, lines, agree, worked, wentRound, loops, counterexamples, outsideLoops}
 
 -- what unfolds for a run to compute
 running : Unit {0}

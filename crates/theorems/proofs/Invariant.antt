@@ -25,8 +25,8 @@ use Rattle.rules.specs.Outcome.{Frame, Effect}
 use Rattle.rules.specs.Receive.{pathOf}
 use Rattle.rules.proofs.AsGood.{InWindow}
 use Rattle.rules.proofs.Sending.{FramesFit}
-use Rattle.loops.specs.Mesh.{Sent, Mesh, tableOf, withTable, sentBy, leaves}
-use Rattle.loops.proofs.Tables.{table-own, table-same, table-other}
+use Rattle.theorems.specs.Mesh.{Sent, Mesh, tableOf, withTable, sentBy, leaves}
+use Rattle.theorems.proofs.Tables.{table-own, table-same, table-other}
 
 -- ---- one row, held or not
 

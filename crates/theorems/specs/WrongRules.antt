@@ -19,7 +19,7 @@ use Rattle.rules.specs.Errors.{isThrough}
 use Rattle.rules.specs.Receive.{ofPath, isStaleFor, receiving}
 use Rattle.rules.specs.Break.{brokenOff, breaking}
 use Rattle.rules.specs.Calls.{receives, makes, asks, announces, requestsAsRoot, breaks, outcome}
-use Rattle.loops.specs.Mesh.{Rules}
+use Rattle.theorems.specs.Mesh.{Rules}
 
 -- ---- the rules with one thing changed
 

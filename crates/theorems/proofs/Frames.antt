@@ -24,7 +24,7 @@ use Rattle.rules.specs.declared.Arrival.{Arrival}
 use Rattle.rules.specs.Destinations.{reply, allAnswered}
 use Rattle.rules.specs.Receive.{pathOf}
 use Rattle.rules.proofs.Emitting.{Each, replies-emitted}
-use Rattle.loops.proofs.Invariant.{Stands, Backed, backed-path}
+use Rattle.theorems.proofs.Invariant.{Stands, Backed, backed-path}
 
 -- every path in the frames is backed, at the point with this address and this row for d
 abbrev pub AllBacked : Address → ℕ → Address → Option Row → List Frame → Type 0

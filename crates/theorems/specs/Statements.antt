@@ -27,11 +27,11 @@ use Rattle.rules.specs.Errors.{broken}
 use Rattle.rules.specs.Receive.{isStaleFor}
 use Rattle.rules.specs.Calls.{Call, outcome, OwnOperandsFit, OperandsFit}
 use Rattle.rules.specs.Walk.{Walked, walk}
-use Rattle.edges.specs.Edges.{edges, shutOut}
-use Rattle.loops.specs.Mesh.{Point, start, Action, delivers, makes, readsOnly, Event, run, throughout, met}
-use Rattle.loops.specs.Premise.{allWithin}
-use Rattle.loops.specs.WrongRules.{ruledBy, receivingBy, breakingBy}
-use Rattle.loops.specs.Runs.{worked, wentRound, loops, counterexamples, outside, outsideLoops}
+use Rattle.theorems.specs.Edges.{edges, shutOut}
+use Rattle.theorems.specs.Mesh.{Point, start, Action, delivers, makes, readsOnly, Event, run, throughout, met}
+use Rattle.theorems.specs.Premise.{allWithin}
+use Rattle.theorems.specs.WrongRules.{ruledBy, receivingBy, breakingBy}
+use Rattle.theorems.specs.Runs.{worked, wentRound, loops, counterexamples, outside, outsideLoops}
 
 -- ---- P1 to P8 (`p1-to-p8`): every test in the list passes
 

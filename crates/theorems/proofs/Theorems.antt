@@ -18,13 +18,13 @@ use Rattle.rules.proofs.CallsKeep.{Kept, call-kept}
 use Rattle.rules.proofs.Room.{call-room}
 use Rattle.rules.proofs.Hops.{walk-hops}
 use Rattle.rules.proofs.StaysTable.{fresh-stays, forget-stays}
-use Rattle.edges.proofs.AllEdges.{all-edges, all-shut-out}
-use Rattle.loops.specs.Statements.{EdgesHold, ErrorsShutOut, StaysTable, FreshIsTable, ForgetStaysTable, HasRoom, ReadsAs, ReadsBack, HopsAtMost, ActionFits, LoopFree, NotVacuous, Sharp, ElseTheRules, NeedsPremise}
-use Rattle.loops.specs.Mesh.{Event}
-use Rattle.loops.specs.WrongRules.{ruledBy}
-use Rattle.loops.specs.Runs.{D, endOf, way, outside, outsideLoops}
-use Rattle.loops.proofs.Computed.{runs-as-worked, wrong-rules-loop, outside-loops}
-use Rattle.loops.proofs.LoopFree
+use Rattle.theorems.specs.Statements.{EdgesHold, ErrorsShutOut, StaysTable, FreshIsTable, ForgetStaysTable, HasRoom, ReadsAs, ReadsBack, HopsAtMost, ActionFits, LoopFree, NotVacuous, Sharp, ElseTheRules, NeedsPremise}
+use Rattle.theorems.specs.Mesh.{Event}
+use Rattle.theorems.specs.WrongRules.{ruledBy}
+use Rattle.theorems.specs.Runs.{D, endOf, way, outside, outsideLoops}
+use Rattle.theorems.proofs.AllEdges.{all-edges, all-shut-out}
+use Rattle.theorems.proofs.Computed.{runs-as-worked, wrong-rules-loop, outside-loops}
+use Rattle.theorems.proofs.LoopFree
 
 pub p1-to-p8 : EdgesHold
 p1-to-p8 = all-edges

@@ -17,7 +17,7 @@ use Rattle.element.specs.declared.Target.{Target}
 use Rattle.element.specs.Element.{Element, rann, rreq, rrep, rerr}
 use Rattle.element.specs.Octets.{readElement}
 use Rattle.rules.specs.Lists.{all}
-use Rattle.loops.specs.Mesh.{Sent, Mesh}
+use Rattle.theorems.specs.Mesh.{Sent, Mesh}
 
 -- a number, if it stands beside the address d
 unfoldable pub beside : Address → Address → SequenceNumber → List SequenceNumber

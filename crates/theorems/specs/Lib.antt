@@ -1,3 +1,4 @@
+pub mod Edges
 pub mod Mesh
 pub mod Premise
 pub mod WrongRules

@@ -1,4 +1,5 @@
--- Demand 3 and what it rests on.
+-- P1 to P8, demand 3 and what it rests on, and last all theorems.
+pub mod AllEdges
 pub mod Tables
 pub mod Invariant
 pub mod Walks

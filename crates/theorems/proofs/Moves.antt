@@ -22,8 +22,8 @@ use Rattle.rules.specs.declared.Arrival.{Arrival}
 use Rattle.rules.specs.Learn.{metricHere, rowOrNew, subjectRow, transmitterRow, learnt}
 use Rattle.rules.proofs.AsGood.{InWindow, path-no-worse, link-no-worse, Falls, stays, falls}
 use Rattle.rules.proofs.Learning.{Heard, renewal, left, Learning, subject, other, learning}
-use Rattle.loops.specs.Mesh.{Sent}
-use Rattle.loops.proofs.Invariant.{Near, Stands, pathIn, Leads, home, nearer, Rooted, Move, stay, rooted-row}
+use Rattle.theorems.specs.Mesh.{Sent}
+use Rattle.theorems.proofs.Invariant.{Near, Stands, pathIn, Leads, home, nearer, Rooted, Move, stay, rooted-row}
 
 -- ---- a row that falls
 

@@ -9,7 +9,7 @@ use Rattle.table.specs.Address.{same}
 use Rattle.table.specs.Table.{own}
 use Rattle.table.proofs.WellFormed.{same-is, same-itself, differ}
 use Rattle.rules.proofs.Branches.{cond-cases}
-use Rattle.loops.specs.Mesh.{tableOf, withTable}
+use Rattle.theorems.specs.Mesh.{tableOf, withTable}
 
 -- the table that is found is that of the point
 pub table-own : (a : Address) (tables : List (List ℕ)) (t : List ℕ) → tableOf a tables ≡ some t → own t ≡ a

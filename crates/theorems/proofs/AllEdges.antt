@@ -3,7 +3,7 @@ use mathlib.Core.Path.{_≡_, refl}
 use mathlib.Core.Bool.{true}
 use Rattle.rules.specs.Lists.{all}
 use Rattle.rules.proofs.Computing.{computing}
-use Rattle.edges.specs.Edges.{edges, shutOut}
+use Rattle.theorems.specs.Edges.{edges, shutOut}
 
 pub all-edges : all (λ b. b) edges ≡ true
 unfolding computing

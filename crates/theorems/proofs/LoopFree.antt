@@ -29,13 +29,13 @@ use Rattle.rules.specs.Calls.{Call, outcome, OperandsFit}
 use Rattle.rules.proofs.Branches.{cond-cases}
 use Rattle.rules.proofs.Alls.{all-append, all-map}
 use Rattle.rules.proofs.CallsKeep.{Kept, call-kept}
-use Rattle.loops.specs.Mesh.{Point, Sent, Mesh, freshTable, start, tableOf, withTable, Action, delivers, makes, readsOnly, Event, deliveryOf, callOf, sentBy, leaves, calls, happen, run, throughout, met}
-use Rattle.loops.specs.Premise.{beside, knownIn, held, numbersFor, isWithin, allWithin}
-use Rattle.loops.specs.Statements.{ActionFits}
-use Rattle.loops.proofs.Tables.{table-own, table-listed}
-use Rattle.loops.proofs.Invariant.{Near, rowOf, rowAt, RowAt, row-at, Inv, all-at, inv-after}
-use Rattle.loops.proofs.Walks.{none-twice}
-use Rattle.loops.proofs.Calls.{FromLog, call-fine}
+use Rattle.theorems.specs.Mesh.{Point, Sent, Mesh, freshTable, start, tableOf, withTable, Action, delivers, makes, readsOnly, Event, deliveryOf, callOf, sentBy, leaves, calls, happen, run, throughout, met}
+use Rattle.theorems.specs.Premise.{beside, knownIn, held, numbersFor, isWithin, allWithin}
+use Rattle.theorems.specs.Statements.{ActionFits}
+use Rattle.theorems.proofs.Tables.{table-own, table-listed}
+use Rattle.theorems.proofs.Invariant.{Near, rowOf, rowAt, RowAt, row-at, Inv, all-at, inv-after}
+use Rattle.theorems.proofs.Walks.{none-twice}
+use Rattle.theorems.proofs.Calls.{FromLog, call-fine}
 
 -- ---- octets, and senders of six octets
 
