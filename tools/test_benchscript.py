@@ -21,7 +21,8 @@ from loading import load_tool
 ROOT = Path(__file__).resolve().parent.parent
 TOOL = ROOT / "tools" / "benchscript"
 BENCH = Path(os.environ.get("HWMP_BENCH", ROOT / "target" / "bin" / "bench"))
-SCRIPTS = sorted((ROOT / "examples" / "bench").glob("*.bench"))
+EXAMPLES = ROOT / "examples" / "bench"
+SCRIPTS = sorted(EXAMPLES.glob("*.bench"))
 SEED = int(os.environ.get("HWMP_SEED", random.randrange(2**32)))
 
 
@@ -547,28 +548,26 @@ class FakeBench(unittest.TestCase):
         self.assert_complaint("the bench ended at octet 0, 'advance 1', which is no fault")
 
 
-def crate_of(script: Path) -> Path:
-    """The program crate that has the same input as a script of the examples."""
-    name = "bench" if script.stem == "worked" else f"bench_{script.stem}"
-    return ROOT / "crates" / name
-
-
 class Examples(unittest.TestCase):
-    def test_each_script_gives_the_input_of_its_crate(self) -> None:
+    def test_each_script_has_its_expected_output_and_no_other_is_there(self) -> None:
+        expected = {output.stem for output in EXAMPLES.glob("*.expected")}
+        self.assertEqual({script.stem for script in SCRIPTS}, expected)
+
+    def test_the_bench_prints_what_each_script_expects(self) -> None:
         for script in SCRIPTS:
             with self.subTest(script.name):
                 done = call("octets", script)
                 self.assertEqual((done.returncode, done.stderr), (0, b""))
-                same = done.stdout == (crate_of(script) / "stdin").read_bytes()
-                self.assertTrue(same, f"differs: {crate_of(script) / 'stdin'}")
+                printed = benchscript.run_bench(BENCH, done.stdout)
+                expected = script.with_suffix(".expected")
+                self.assertTrue(printed == expected.read_bytes(), f"differs: {expected}")
 
-    def test_the_bench_prints_the_output_of_each_crate(self) -> None:
-        for script in SCRIPTS:
-            with self.subTest(script.name):
-                octets = (crate_of(script) / "stdin").read_bytes()
-                printed = benchscript.run_bench(BENCH, octets)
-                same = printed == (crate_of(script) / "stdout").read_bytes()
-                self.assertTrue(same, f"differs: {crate_of(script) / 'stdout'}")
+    def test_the_worked_case_is_that_of_the_program_crate(self) -> None:
+        crate = ROOT / "crates" / "bench"
+        octets = call("octets", EXAMPLES / "worked.bench").stdout
+        self.assertEqual(octets, (crate / "stdin").read_bytes())
+        expected = (EXAMPLES / "worked.expected").read_bytes()
+        self.assertEqual(expected, (crate / "stdout").read_bytes())
 
     def test_run_says_what_each_script_is_there_to_show(self) -> None:
         self.assertEqual({script.stem for script in SCRIPTS}, set(WHAT_SCRIPTS_SHOW))
@@ -580,7 +579,7 @@ class Examples(unittest.TestCase):
                 self.assertIn(WHAT_SCRIPTS_SHOW[script.stem], lines)
 
     def test_words_of_the_worked_case(self) -> None:
-        done = call("run", "--bench", BENCH, ROOT / "examples" / "bench" / "worked.bench")
+        done = call("run", "--bench", BENCH, EXAMPLES / "worked.bench")
         self.assertEqual(done.stdout.decode().splitlines()[4:], WORKED_FROM_ITS_LAST_LINK)
 
     def test_two_frames_where_one_has_room(self) -> None:

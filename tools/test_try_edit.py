@@ -81,7 +81,7 @@ class Guide(unittest.TestCase):
                 self.assertTrue((ROOT / name).exists())
 
     def test_each_computed_loop_is_in_the_list(self) -> None:
-        runs = (ROOT / "crates" / "loops" / "specs" / "Runs.antt").read_text()
+        runs = (ROOT / "crates" / "theorems" / "specs" / "Runs.antt").read_text()
         (listed,) = re.findall(r"^counterexamples = (.*)$", runs, re.MULTILINE)
         answers = [re.findall(r"Does it loop\?\*\* (No|Yes: `\w+`)\.", error) for error in ERRORS]
         self.assertEqual([len(answer) for answer in answers], [1] * 6)

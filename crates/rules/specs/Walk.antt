@@ -1,5 +1,5 @@
 -- The walk of document 01 over tables side by side, along rows that are active at a clock. (The walk of demand 3 goes along
--- valid rows, expired or not: `met` in crate `loops`.) Assumes nothing.
+-- valid rows, expired or not: `met` in crate `theorems`.) Assumes nothing.
 use Prim.Native.Nat.{ℕ, zero, suc, _+_, _-_, _*_, _/_, _%_, _^_}
 use mathlib.Core.Bool.{Bool, not, _&&_, _||_, cond}
 use mathlib.Core.List.{List, [], _∷_, map}

@@ -1,2 +1,0 @@
--- P1 to P8.
-pub mod AllEdges

@@ -1,5 +1,0 @@
-pub mod Mesh
-pub mod Premise
-pub mod WrongRules
-pub mod Runs
-pub mod Statements

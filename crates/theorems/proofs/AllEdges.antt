@@ -1,0 +1,14 @@
+-- P1 to P8, and the errors to shut out: every test passes, computed from the definitions. Assumes nothing.
+use mathlib.Core.Path.{_≡_, refl}
+use mathlib.Core.Bool.{true}
+use Rattle.rules.specs.Lists.{all}
+use Rattle.rules.proofs.Computing.{computing}
+use Rattle.theorems.specs.Edges.{edges, shutOut}
+
+pub all-edges : all (λ b. b) edges ≡ true
+unfolding computing
+all-edges = refl
+
+pub all-shut-out : all (λ b. b) shutOut ≡ true
+unfolding computing
+all-shut-out = refl

@@ -1,0 +1,196 @@
+-- Each accepted call is `Fine`. Assumes nothing.
+use Prim.Native.Nat.{ℕ, _^_, _<_}
+use mathlib.Core.Path.{_≡_, refl, sym, ap, subst, _∙_}
+use mathlib.Core.Bool.{Bool}
+use mathlib.Core.List.{List, _++_, List·Memᴰ}
+use mathlib.Core.Option.{some, Option·map}
+use mathlib.Core.Logic.{inl, inr}
+use Rattle.octets.specs.LittleEndian.{Octets}
+use Rattle.table.specs.declared.address.Address.{Address}
+use Rattle.table.specs.declared.row.Head.{Head}
+use Rattle.table.specs.declared.row.Row.{Row}
+use Rattle.table.specs.Row.{headWith, isThrough}
+use Rattle.table.specs.Layout.{putHead}
+use Rattle.table.specs.Table.{own, number, rowFor, changeWhere}
+use Rattle.table.proofs.Heads.{head-found}
+use Rattle.table.proofs.Changes.{KeepsRows, changed, by-test, change-found}
+use Rattle.element.specs.declared.NumberedAddress.{NumberedAddress}
+use Rattle.element.specs.declared.PathInfo.{PathInfo}
+use Rattle.element.specs.declared.RreqFields.{RreqFields}
+use Rattle.element.specs.declared.RrepFields.{RrepFields}
+use Rattle.element.specs.declared.Target.{Target}
+use Rattle.element.specs.Element.{Element, rann, rreq, rrep, rerr}
+use Rattle.element.specs.Octets.{readElement}
+use Rattle.rules.specs.Decision.{accepted}
+use Rattle.rules.specs.Outcome.{Frame, Effect}
+use Rattle.rules.specs.declared.Arrival.{Arrival}
+use Rattle.rules.specs.Learn.{learnt}
+use Rattle.rules.specs.Destinations.{Answered, allAnswered}
+use Rattle.rules.specs.Onward.{onward, toAll, rannOnward, rreqOnward, rrepOnward}
+use Rattle.rules.specs.Errors.{isMatch, erred, broken, brokenEntries, errorAt}
+use Rattle.rules.specs.Receive.{pathOf, rannReceived, rrepReceived, rreqReceived, rerrReceived, received, receiving, receive}
+use Rattle.rules.specs.Originate.{numberedHead, ownPath, announced, requested, asking, ask, announcing, announce, requestingAsRoot, rootRequest}
+use Rattle.rules.specs.Break.{brokenOff, breaking, breakNeighbour}
+use Rattle.rules.specs.Calls.{Call, receives, makes, asks, announces, requestsAsRoot, breaks, outcome, OperandsFit}
+use Rattle.rules.proofs.Rulings.{passed}
+use Rattle.rules.proofs.Alls.{all-append}
+use Rattle.rules.proofs.AsGood.{InWindow, Falls, stays, break-falls, error-falls}
+use Rattle.rules.proofs.Learning.{Heard, learnt-keeps}
+use Rattle.rules.proofs.Falling.{break-keeps-rows, error-keeps-rows}
+use Rattle.rules.proofs.Emitting.{to-all-emitted, rann-emitted, rreq-emitted, rrep-emitted, errors-emitted}
+use Rattle.rules.proofs.Accepted.{Accepted, accepted-element}
+use Rattle.rules.proofs.CallsKeep.{Kept, call-kept}
+use Rattle.theorems.specs.Mesh.{Sent}
+use Rattle.theorems.proofs.Invariant.{Near, Backed, pathIn, Sound, Fine, stay, backed-path, backed-none}
+use Rattle.theorems.proofs.Moves.{changed-move, learnt-move, learnt-absent, learnt-stands}
+use Rattle.theorems.proofs.Frames.{AllBacked, replies-backed}
+
+-- an element that is received is one of the log, from its sender
+abbrev pub FromLog : List Sent → Call → Type 0
+FromLog log (receives a octets) = (s : Sent) × List·Memᴰ s log × (s .sender ≡ a .transmitter) × (s .octets ≡ octets)
+FromLog log (makes call) = Unit {0}
+
+-- ---- originating: no row is written, and what is sent is the point's own path
+
+module _ (d : Address) (base : ℕ) (log : List Sent) (t : List ℕ) where
+  originates : (h : Head) → h .own ≡ own t → (e : Element) (flags lifetime : ℕ) → pathOf e ≡ some (ownPath h flags lifetime)
+      → Sound d base log t (record { table = putHead t h; frames = toAll e })
+  unfolding ownPath
+  originates h same-point e flags lifetime is =
+      let row : rowFor (putHead t h) d ≡ rowFor t d = head-found t h d in
+      record {
+        move = rw row (stay (rowFor t d));
+        absent = λ self before. row ∙ before;
+        backed = to-all-emitted (λ (x : Element). Backed d base (own t) (rowFor (putHead t h) d) (pathOf x)) e
+            (rw is (backed-path _ (λ about. inl (sym same-point ∙ about)))) .each;
+      }
+
+  requested-sound : (flags lifetime : ℕ) (targets : List Target) → Sound d base log t (requested t flags lifetime targets)
+  unfolding requested numberedHead headWith
+  requested-sound flags lifetime targets = originates _ refl _ flags lifetime refl
+
+  announced-sound : (flags lifetime : ℕ) → Sound d base log t (announced t flags lifetime)
+  unfolding announced numberedHead headWith
+  announced-sound flags lifetime = originates _ refl _ flags lifetime refl
+
+module _ (d : Address) (base : ℕ) (small : base < 2 ^ 32) (log : List Sent) (t : List ℕ) (octets : Octets t) (near : Near base (rowFor t d)) where
+  -- ---- rows that fall, under frames that bring no path
+
+  fallen-sound : (p : Row → Bool) (f : Row → Row) → KeepsRows p f → ((r : Row) → InWindow base r → InWindow base (f r) → Falls base small r (f r))
+      → (h : Head) (frames : List Frame) → AllBacked d base (own t) (rowFor (putHead (changeWhere p f t) h) d) frames
+      → Near base (rowFor (putHead (changeWhere p f t) h) d) → Sound d base log t (record { table = putHead (changeWhere p f t) h; frames = frames })
+  fallen-sound p f keeps fall h frames backed near′ =
+      let row : rowFor (putHead (changeWhere p f t) h) d ≡ Option·map (changed p f) (rowFor t d) =
+      head-found (changeWhere p f t) h d ∙ change-found p f keeps t octets d in
+      record {
+        move = rw row (changed-move small (changed p f) falls-or-stays (rowFor t d) near (rw row at near′));
+        absent = λ self before. row ∙ ap (Option·map (changed p f)) before;
+        backed = backed;
+      }
+    where
+      falls-or-stays : (r : Row) → InWindow base r → InWindow base (changed p f r) → Falls base small r (changed p f r)
+      falls-or-stays r near = by-test p f (λ (q : Row). InWindow base q → Falls base small r q) r (λ _. stays refl) (λ _. fall r near)
+
+  break-sound : (c : ℕ) (neighbour : Address) → Near base (rowFor (brokenOff t c neighbour .table) d)
+      → Sound d base log t (brokenOff t c neighbour)
+  unfolding brokenOff errorAt
+  break-sound c neighbour =
+      fallen-sound (isThrough c neighbour) broken (break-keeps-rows c neighbour) (break-falls base small) _ _
+      (errors-emitted (λ (x : Element). Backed d base (own t) _ (pathOf x)) (brokenEntries t c neighbour) (λ i l. backed-none) .each)
+
+  -- ---- an element from the log
+
+  module _ (a : Arrival) (s : Sent) (logged : List·Memᴰ s log) (by : s .sender ≡ a .transmitter) where
+    -- steps 1 and 2, whichever of the three elements brings the path
+    module _ (p : PathInfo) (has : pathIn (s .octets) ≡ some p) (heard : Heard t a p) where
+      u : List ℕ
+      u = learnt a p t
+
+      same-point : own u ≡ own t
+      unfolding u
+      same-point = ap (λ (h : Head). h .own) (learnt-keeps t a p heard .head)
+
+      heard-sound : (h : Head) (frames : List Frame) → AllBacked d base (own u) (rowFor u d) frames
+          → Near base (rowFor (putHead u h) d) → Sound d base log t (record { table = putHead u h; frames = frames })
+      unfolding u
+      heard-sound h frames backed near′ =
+          let row : rowFor (putHead (learnt a p t) h) d ≡ rowFor (learnt a p t) d = head-found (learnt a p t) h d in
+          record {
+            move = rw row (learnt-move d base small log t a p heard s logged by has near (rw row at near′));
+            absent = λ self before. row ∙ learnt-absent d t a p heard self before;
+            backed = rw (row, ← same-point) backed;
+          }
+
+      onward-backed : Backed d base (own u) (rowFor u d) (some (onward a p))
+      unfolding u onward
+      onward-backed = backed-path _ (λ about. inr (learnt-stands d t a p heard base about))
+
+    -- an element is backed by the row for d after steps 1 and 2
+    abbrev BackedAfter : PathInfo → Element → Type 0
+    BackedAfter p e = Backed d base (own (learnt a p t)) (rowFor (learnt a p t) d) (pathOf e)
+
+    rann-sound : (p : PathInfo) → pathIn (s .octets) ≡ some p → Heard t a p → Near base (rowFor (rannReceived t a p .table) d)
+        → Sound d base log t (rannReceived t a p)
+    unfolding rannReceived u
+    rann-sound p has heard =
+        heard-sound p has heard _ (rannOnward a p)
+        (rann-emitted (BackedAfter p) a p (onward-backed p has heard) .each)
+
+    rrep-sound : (f : RrepFields) (dependents : List NumberedAddress) → pathIn (s .octets) ≡ some (f .path) → Heard t a (f .path)
+        → Near base (rowFor (rrepReceived t a f dependents .table) d) → Sound d base log t (rrepReceived t a f dependents)
+    unfolding rrepReceived u
+    rrep-sound f dependents has heard =
+        let v : List ℕ = learnt a (f .path) t in
+        heard-sound (f .path) has heard _ (rrepOnward (learnt a (f .path) t) a f dependents)
+        (rrep-emitted (BackedAfter (f .path)) v a f dependents (onward-backed (f .path) has heard) .each)
+
+    rreq-sound : (f : RreqFields) (targets : List Target) → pathIn (s .octets) ≡ some (f .path) → Heard t a (f .path)
+        → Near base (rowFor (rreqReceived t a f targets .table) d) → Sound d base log t (rreqReceived t a f targets)
+    unfolding rreqReceived u
+    rreq-sound f targets has heard =
+        let v : List ℕ = learnt a (f .path) t in
+        let done : Answered = allAnswered v a (f .path) (number t) targets in
+        heard-sound (f .path) has heard _ (done .replies ++ rreqOnward v a f (done .kept))
+        (all-append (λ (g : Frame). Backed d base (own v) (rowFor v d) (pathOf (g .element))) (done .replies) (rreqOnward v a f (done .kept))
+        (replies-backed d base v a (f .path) (number t) targets)
+        (rreq-emitted (BackedAfter (f .path)) v a f (done .kept) (λ _. onward-backed (f .path) has heard) .each))
+
+    received-sound : (e : Element) → readElement (s .octets) ≡ e → Accepted t a e → Near base (rowFor (received t a e .table) d)
+        → Sound d base log t (received t a e)
+    unfolding received rerrReceived
+    received-sound (rann p) is ok = rann-sound p (ap pathOf is) (ok .heard p refl)
+    received-sound (rreq f targets) is ok = rreq-sound f targets (ap pathOf is) (ok .heard (f .path) refl)
+    received-sound (rrep f dependents) is ok = rrep-sound f dependents (ap pathOf is) (ok .heard (f .path) refl)
+    received-sound (rerr flags destinations) is ok =
+        fallen-sound (isMatch (a .clock) (a .transmitter) destinations) (erred destinations)
+        (error-keeps-rows (a .clock) (a .transmitter) destinations (ok .fits .entries)) (error-falls base small destinations) _ _
+        (to-all-emitted (λ (x : Element). Backed d base (own t) _ (pathOf x)) _ backed-none .each)
+
+  -- ---- every call
+
+  module _ (room : ℕ) where
+    call-sound : (call : Call) → OperandsFit call → FromLog log call → (e : Effect) → outcome t room call ≡ accepted e
+        → Near base (rowFor (e .table) d) → Sound d base log t e
+    unfolding outcome receive asking ask announce rootRequest breaking breakNeighbour
+    call-sound (receives a octets′) fit from e is =
+        let p = passed (receiving t room a octets′) e is in
+        subst (λ (x : Effect). Near base (rowFor (x .table) d) → Sound d base log t x) (p .1)
+        (received-sound a (from .0) (from .1) (from .2) (readElement octets′) (ap readElement (from .3))
+        (accepted-element t room a octets′ octets (fit .0) (fit .1) (p .0)))
+    call-sound (makes (asks lifetime items)) fit from e is =
+        subst (λ (x : Effect). Near base (rowFor (x .table) d) → Sound d base log t x) (passed (asking t room lifetime items) e is .1)
+        (λ _. requested-sound d base log t _ _ _)
+    call-sound (makes (announces flags lifetime)) fit from e is =
+        subst (λ (x : Effect). Near base (rowFor (x .table) d) → Sound d base log t x) (passed (announcing t room flags lifetime) e is .1)
+        (λ _. announced-sound d base log t flags lifetime)
+    call-sound (makes (requestsAsRoot flags lifetime)) fit from e is =
+        subst (λ (x : Effect). Near base (rowFor (x .table) d) → Sound d base log t x) (passed (requestingAsRoot t room flags lifetime) e is .1)
+        (λ _. requested-sound d base log t _ _ _)
+    call-sound (makes (breaks c neighbour)) fit from e is =
+        subst (λ (x : Effect). Near base (rowFor (x .table) d) → Sound d base log t x) (passed (breaking t room c neighbour) e is .1)
+        (break-sound c neighbour)
+
+    pub call-fine : (call : Call) → OperandsFit call → FromLog log call → (e : Effect) → outcome t room call ≡ accepted e → Fine d base log t e
+    call-fine call fit from e is =
+        let k : Kept t e = call-kept t octets room call fit e is in
+        record { own = k .leaves .own; frames = k .frames; sound = call-sound call fit from e is }

@@ -1,0 +1,60 @@
+-- The paths in the frames that a point emits: each is the point's own, or its row is at least as good. Assumes nothing.
+use Prim.Native.Nat.{ℕ}
+use mathlib.Core.Path.{_≡_, refl, sym, ap, _∙_}
+use mathlib.Core.Bool.{true}
+use mathlib.Core.List.{List}
+use mathlib.Core.Option.{Option, some}
+use mathlib.Core.Logic.{_⊎_, inl, inr}
+use lib.Dec.{eqb}
+use native.Mathlib.Nat.{le-refl}
+use Rattle.counters.specs.declared.SequenceNumber.{SequenceNumber}
+use Rattle.counters.specs.declared.HopCount.{HopCount}
+use Rattle.counters.specs.declared.Metric.{Metric}
+use Rattle.counters.specs.Numbers.{nextNumber}
+use Rattle.counters.proofs.Rank.{level}
+use Rattle.table.specs.declared.address.Address.{Address}
+use Rattle.table.specs.declared.row.Row.{Row}
+use Rattle.table.specs.Table.{own, rowFor}
+use Rattle.table.proofs.Lookup.{row-destination}
+use Rattle.element.specs.declared.PathInfo.{PathInfo}
+use Rattle.element.specs.declared.Target.{Target}
+use Rattle.element.specs.Element.{Element}
+use Rattle.rules.specs.Outcome.{Frame}
+use Rattle.rules.specs.declared.Arrival.{Arrival}
+use Rattle.rules.specs.Destinations.{reply, allAnswered}
+use Rattle.rules.specs.Receive.{pathOf}
+use Rattle.rules.proofs.Emitting.{Each, replies-emitted}
+use Rattle.theorems.proofs.Invariant.{Stands, Backed, backed-path}
+
+-- every path in the frames is backed, at the point with this address and this row for d
+abbrev pub AllBacked : Address → ℕ → Address → Option Row → List Frame → Type 0
+AllBacked d base self o frames = Each (λ (e : Element). Backed d base self o (pathOf e)) frames
+
+-- the point of the table u, after steps 1 and 2
+module _ (d : Address) (base : ℕ) (u : List ℕ) where
+  -- an element is backed by the row for d
+  abbrev BackedHere : Element → Type 0
+  BackedHere e = Backed d base (own u) (rowFor u d) (pathOf e)
+
+  reply-backed : (a : Arrival) (p : PathInfo) (to : Address) (n : SequenceNumber) (hops : HopCount) (metric : Metric)
+      → (to ≡ d → (own u ≡ d) ⊎ Stands base (rowFor u d) n (metric .0)) → BackedHere (reply a p to n hops metric .element)
+  unfolding reply
+  reply-backed a p to n hops metric h = backed-path _ h
+
+  row-stands : (to : Address) (r : Row) → rowFor u to ≡ some r → eqb (r .known) 1 ≡ true → r .destination ≡ d
+      → Stands base (rowFor u d) (r .number) (r .metric .0)
+  row-stands to r found known about =
+      record {
+        row = r;
+        found = ap (rowFor u) (sym about ∙ row-destination u to r found) ∙ found;
+        known = known;
+        good = level refl (le-refl (r .metric .0));
+      }
+
+  -- replies: for oneself, or from a row
+  pub replies-backed : (a : Arrival) (p : PathInfo) (n : SequenceNumber) (targets : List Target)
+      → AllBacked d base (own u) (rowFor u d) (allAnswered u a p n targets .replies)
+  replies-backed a p n targets =
+      replies-emitted BackedHere u a p (λ k. reply-backed a p (own u) (nextNumber k) (record { 0 = 0 }) (record { 0 = 0 }) inl)
+      (λ to r found known. reply-backed a p (r .destination) (r .number) (r .hops) (r .metric) (λ about. inr (row-stands to r found known about)))
+      n targets .each

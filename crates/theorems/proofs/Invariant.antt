@@ -1,0 +1,216 @@
+-- The invariant of a mesh towards one destination d, `Inv`, and what it asks of one accepted call, `Fine`.
+--     rooted    each valid row leads to d itself, or to a point that has sent a path strictly better than the row
+--     backed    each path that was ever sent still stands: its sender is d, or holds a row at least as good
+--     absent    d holds no row for itself
+-- Nothing here knows the rules of the calls. Assumes nothing.
+use Prim.Native.Nat.{ℕ}
+use mathlib.Core.Path.{_≡_, refl, sym, ap, subst, _∙_}
+use mathlib.Core.Bool.{true}
+use mathlib.Core.List.{List, [], _∷_, _++_, List·Memᴰ, List·Memᴰ·not-nil, List·Memᴰ·cases-cons, List·Memᴰ·append-cases, Memᴰ·append-left, Memᴰ·of-map}
+use mathlib.Core.Option.{Option, none, some, Option·none-ne-some, Option·some-injective}
+use mathlib.Core.Logic.{_⊎_, ⊎-elim, ⊎-map}
+use lib.Dec.{eqb}
+use Rattle.counters.specs.declared.SequenceNumber.{SequenceNumber}
+use Rattle.counters.proofs.Rank.{AtLeast, Above}
+use Rattle.table.specs.declared.address.Address.{Address}
+use Rattle.table.specs.declared.row.Row.{Row}
+use Rattle.table.specs.Table.{own, rowFor}
+use Rattle.table.proofs.WellFormed.{equal-or-not}
+use Rattle.element.specs.declared.PathInfo.{PathInfo}
+use Rattle.element.specs.Octets.{readElement, writeElement}
+use Rattle.element.specs.Entries.{All}
+use Rattle.element.proofs.ReadBack.{Fits, read-back}
+use Rattle.rules.specs.Decision.{accepted}
+use Rattle.rules.specs.Outcome.{Frame, Effect}
+use Rattle.rules.specs.Receive.{pathOf}
+use Rattle.rules.proofs.AsGood.{InWindow}
+use Rattle.rules.proofs.Sending.{FramesFit}
+use Rattle.theorems.specs.Mesh.{Sent, Mesh, tableOf, withTable, sentBy, leaves}
+use Rattle.theorems.proofs.Tables.{table-own, table-same, table-other}
+
+-- ---- one row, held or not
+
+-- a known number in it is within the window
+abbrev pub Near : ℕ → Option Row → Type 0
+Near base o = (r : Row) → o ≡ some r → InWindow base r
+
+-- it is held, of known number, and at least as good as number n with metric m
+pub record Stands (base : ℕ) (o : Option Row) (n : SequenceNumber) (m : ℕ) : Type 0 where
+  pub row : Row
+  pub found : o ≡ some row
+  pub known : eqb (row .known) 1 ≡ true
+  pub good : AtLeast base (row .number) (row .metric .0) n m
+
+-- the path that the octets of an element bring
+abbrev pub pathIn : List ℕ → Option PathInfo
+pathIn s = pathOf (readElement s)
+
+-- the point a has sent a path for d that is strictly better than number n with metric m
+pub record HasSent (d : Address) (base : ℕ) (log : List Sent) (a : Address) (n : SequenceNumber) (m : ℕ) : Type 0 where
+  pub sent : Sent
+  pub logged : List·Memᴰ sent log
+  pub by : sent .sender ≡ a
+  pub path : PathInfo
+  pub has : pathIn (sent .octets) ≡ some path
+  pub about : path .subject ≡ d
+  pub better : Above base (path .number) (path .metric .0) n m
+
+pub data Leads (d : Address) (base : ℕ) (log : List Sent) (r : Row) : Type 0 where
+  home : r .next ≡ d → Leads d base log r
+  nearer : HasSent d base log (r .next) (r .number) (r .metric .0) → Leads d base log r
+
+abbrev pub Rooted : Address → ℕ → List Sent → Option Row → Type 0
+Rooted d base log o = (r : Row) → o ≡ some r → eqb (r .status) 1 ≡ true → Leads d base log r
+
+-- a path for d, if there is one, is that of the point a itself, or a's row is at least as good
+abbrev pub Backed : Address → ℕ → Address → Option Row → Option PathInfo → Type 0
+Backed d base a o k = (p : PathInfo) → k ≡ some p → p .subject ≡ d → (a ≡ d) ⊎ Stands base o (p .number) (p .metric .0)
+
+-- ---- one call
+
+-- what becomes of a row: what it stood for still stands, and it stays rooted
+pub record Move (d : Address) (base : ℕ) (log : List Sent) (o o′ : Option Row) : Type 0 where
+  pub keeps : {n : SequenceNumber} {m : ℕ} → Stands base o n m → Stands base o′ n m
+  pub rooted : Rooted d base log o → Rooted d base log o′
+
+pub record Sound (d : Address) (base : ℕ) (log : List Sent) (t : List ℕ) (e : Effect) : Type 0 where
+  pub move : Move d base log (rowFor t d) (rowFor (e .table) d)
+  pub absent : own t ≡ d → rowFor t d ≡ none → rowFor (e .table) d ≡ none
+  pub backed : All (λ (f : Frame). Backed d base (own t) (rowFor (e .table) d) (pathOf (f .element))) (e .frames)
+
+-- the point stays the same, its frames fit, and the call is sound if a known number in the row that it leaves is within the window
+pub record Fine (d : Address) (base : ℕ) (log : List Sent) (t : List ℕ) (e : Effect) : Type 0 where
+  pub own : own (e .table) ≡ own t
+  pub frames : FramesFit (e .frames)
+  pub sound : Near base (rowFor (e .table) d) → Sound d base log t e
+
+pub stay : {d : Address} {base : ℕ} {log : List Sent} (o : Option Row) → Move d base log o o
+stay o = record { keeps = λ st. st; rooted = λ h. h }
+
+pub rooted-row : {d : Address} {base : ℕ} {log : List Sent} {o : Option Row} (r : Row) → o ≡ some r → Leads d base log r → Rooted d base log o
+rooted-row {d} {base} {log} r e lead q found valid =
+    subst (λ (x : Row). Leads d base log x) (Option·some-injective r q (sym e ∙ found)) lead
+
+pub backed-path : {d : Address} {base : ℕ} {a : Address} {o : Option Row} (p : PathInfo)
+    → (p .subject ≡ d → (a ≡ d) ⊎ Stands base o (p .number) (p .metric .0)) → Backed d base a o (some p)
+backed-path {d} {base} {a} {o} p h q has =
+    subst (λ (x : PathInfo). x .subject ≡ d → (a ≡ d) ⊎ Stands base o (x .number) (x .metric .0)) (Option·some-injective p q has) h
+
+pub backed-none : {d : Address} {base : ℕ} {a : Address} {o : Option Row} → Backed d base a o none
+backed-none p has about = absurd (Option·none-ne-some p has)
+
+-- ---- the row for d at a point
+
+abbrev pub rowOf : Address → Option (List ℕ) → Option Row
+rowOf d none = none
+rowOf d (some t) = rowFor t d
+
+unfoldable pub rowAt : Address → List (List ℕ) → Address → Option Row
+rowAt d tables a = rowOf d (tableOf a tables)
+
+-- a row that is found stands in the table of a point
+pub record RowAt (d : Address) (tables : List (List ℕ)) (a : Address) (r : Row) : Type 0 where
+  pub table : List ℕ
+  pub at : tableOf a tables ≡ some table
+  pub found : rowFor table d ≡ some r
+
+pub row-at : (d : Address) (tables : List (List ℕ)) (a : Address) (r : Row) → rowAt d tables a ≡ some r → RowAt d tables a r
+unfolding rowAt
+row-at d tables a r = go (tableOf a tables) refl
+  where
+    go : (o : Option (List ℕ)) → tableOf a tables ≡ o → rowOf d o ≡ some r → RowAt d tables a r
+    go none e h = absurd (Option·none-ne-some r h)
+    go (some t) e h = record { table = t; at = e; found = h }
+
+-- ---- the invariant, and a fine call
+
+pub record Inv (d : Address) (base : ℕ) (m : Mesh) : Type 0 where
+  pub rooted : (a : Address) → Rooted d base (m .log) (rowAt d (m .tables) a)
+  pub backed : (s : Sent) → List·Memᴰ s (m .log) → Backed d base (s .sender) (rowAt d (m .tables) (s .sender)) (pathIn (s .octets))
+  pub absent : rowAt d (m .tables) d ≡ none
+
+pub all-at : {A : Type 0} (P : A → Type 0) {x : A} (l : List A) → All P l → List·Memᴰ x l → P x
+unfolding All
+all-at P [] h m = absurd (List·Memᴰ·not-nil m)
+all-at P {x} (y ∷ l) h m = ⊎-elim (λ e. rw e (h .0)) (λ k. all-at P l (h .1) k) (List·Memᴰ·cases-cons m)
+
+-- the log only grows, so a row that leads on still does
+longer : {d : Address} {base : ℕ} {log : List Sent} (more : List Sent) {r : Row} → Leads d base log r → Leads d base (log ++ more) r
+longer more (home e) = home e
+longer more (nearer k) =
+    nearer
+    (record {
+      sent = k .sent;
+      logged = Memᴰ·append-left more (k .logged);
+      by = k .by;
+      path = k .path;
+      has = k .has;
+      about = k .about;
+      better = k .better;
+    })
+
+module _ (d : Address) (base : ℕ) (m : Mesh) (inv : Inv d base m) (a : Address) (t : List ℕ) (e : Effect) (here : tableOf a (m .tables) ≡ some t)
+    (fine : Fine d base (m .log) t e) (near : Near base (rowAt d (withTable a (e .table) (m .tables)) a)) where
+  is-a : own t ≡ a
+  is-a = table-own a (m .tables) t here
+
+  row : rowAt d (m .tables) a ≡ rowFor t d
+  unfolding rowAt
+  row = rw here
+
+  tables′ : List (List ℕ)
+  tables′ = withTable a (e .table) (m .tables)
+
+  row-same : rowAt d tables′ a ≡ rowFor (e .table) d
+  unfolding rowAt tables′ is-a
+  row-same = rw (table-same a (e .table) (fine .own ∙ is-a) (m .tables) t here)
+
+  row-other : (b : Address) → (a ≡ b → ⊥) → rowAt d tables′ b ≡ rowAt d (m .tables) b
+  unfolding rowAt tables′ is-a
+  row-other b apart = rw (table-other a (e .table) (fine .own ∙ is-a) b apart (m .tables))
+
+  sound : Sound d base (m .log) t e
+  unfolding tables′
+  sound = fine .sound (rw row-same at near)
+
+  -- a statement about the rows after the call: it holds at the point of the call, and elsewhere it held before
+  each : (P : Address → Option Row → Type 0) → P a (rowFor (e .table) d) → ((b : Address) → P b (rowAt d (m .tables) b))
+      → (b : Address) → P b (rowAt d tables′ b)
+  each P at elsewhere b =
+      ⊎-elim (λ q. subst (λ (x : Address). P x (rowAt d tables′ x)) q (rw row-same at))
+      (λ apart. rw (row-other b apart) (elsewhere b)) (equal-or-not a b)
+
+  abbrev BackedNow : Sent → Type 0
+  BackedNow s = Backed d base (s .sender) (rowAt d tables′ (s .sender)) (pathIn (s .octets))
+
+  still-backed : (s : Sent) → List·Memᴰ s (m .log) → BackedNow s
+  still-backed s k =
+      each (λ b o. s .sender ≡ b → Backed d base (s .sender) o (pathIn (s .octets)))
+      (λ q p has about. ⊎-map (λ x. x) (λ st. sound .move .keeps (rw (q, row) at st)) (inv .backed s k p has about))
+      (λ b q. rw (← q) (inv .backed s k))
+      (s .sender) refl
+
+  -- what is written is read back, so the element in the log is that of the frame
+  frame-backed : (f : Frame) → List·Memᴰ f (e .frames) → BackedNow (record { sender = a; octets = writeElement (f .element) })
+  frame-backed f k =
+      rw (row-same, ← is-a, read-back (f .element) (all-at (λ (g : Frame). Fits (g .element)) (e .frames) (fine .frames) k))
+      (all-at (λ (g : Frame). Backed d base (own t) (rowFor (e .table) d) (pathOf (g .element))) (e .frames) (sound .backed) k)
+
+  newly-backed : (s : Sent) → List·Memᴰ s (sentBy a (e .frames)) → BackedNow s
+  unfolding sentBy
+  newly-backed s k =
+      let q : (f : Frame) × List·Memᴰ f (e .frames) × (record { sender = a; octets = writeElement (f .element) } ≡ s) = Memᴰ·of-map _ (e .frames) k in
+      subst BackedNow (q .2) (frame-backed (q .0) (q .1))
+
+  pub inv-after : Inv d base (leaves m a (accepted e))
+  unfolding leaves tables′
+  inv-after =
+      record {
+        rooted = λ b r found valid. longer (sentBy a (e .frames))
+            (each (λ b o. Rooted d base (m .log) o) (sound .move .rooted (rw row at (inv .rooted a))) (inv .rooted) b r found valid);
+        backed = λ s k. ⊎-elim (still-backed s) (newly-backed s) (List·Memᴰ·append-cases (m .log) k);
+        absent = each (λ b o. b ≡ d → o ≡ none)
+            (λ q. sound .absent (is-a ∙ q) (sym row ∙ ap (rowAt d (m .tables)) q ∙ inv .absent))
+            (λ b q. ap (rowAt d (m .tables)) q ∙ inv .absent)
+            d refl;
+      }

@@ -1,0 +1,11 @@
+-- P1 to P8, demand 3 and what it rests on, and last all theorems.
+pub mod AllEdges
+pub mod Tables
+pub mod Invariant
+pub mod Walks
+pub mod Moves
+pub mod Frames
+pub mod Calls
+pub mod LoopFree
+pub mod Computed
+pub mod Theorems

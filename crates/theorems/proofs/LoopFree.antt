@@ -1,0 +1,224 @@
+-- Demand 3: whatever calls the points of a mesh make, no walk along valid rows meets a point twice. Assumes nothing.
+use Prim.Native.Nat.{ℕ, zero, suc, _+_, _*_, _^_, _<_}
+use mathlib.Core.Path.{_≡_, refl, sym, subst, _∙_}
+use mathlib.Core.Bool.{Bool, true, false, and-eq-true-iff}
+use mathlib.Core.List.{List, [], _∷_, _++_, flatMap, List·Memᴰ, List·Memᴰ·head, List·Memᴰ·tail, List·Memᴰ·not-nil, List·Memᴰ·cases-cons}
+use mathlib.Core.Option.{Option, none, some, Option·none-ne-some, Option·some-injective}
+use mathlib.Core.Logic.{⊎-elim}
+use lib.Dec.{eqb}
+use lib.ListN.{getElem?}
+use borrow.Author.Tests.{ltb-true}
+use Rattle.octets.specs.LittleEndian.{Octets}
+use Rattle.octets.proofs.Laws.{FitFields}
+use Rattle.counters.specs.declared.Metric.{Metric}
+use Rattle.table.specs.declared.address.Address.{Address}
+use Rattle.table.specs.declared.row.Row.{Row}
+use Rattle.table.specs.Address.{same}
+use Rattle.table.specs.Table.{own, number, rowFor}
+use Rattle.table.proofs.HeadAndRows.{FitHead, FitRow, head-fits}
+use Rattle.table.proofs.Heads.{fresh-none, fresh-octets}
+use Rattle.table.proofs.Lookup.{row-fits-its-octets}
+use Rattle.element.specs.Octets.{writeElement}
+use Rattle.element.specs.Lists.{twice}
+use Rattle.element.specs.Entries.{All}
+use Rattle.element.proofs.ReadBack.{Fits, octets-written}
+use Rattle.rules.specs.Decision.{Decision, refused, accepted}
+use Rattle.rules.specs.Lists.{all}
+use Rattle.rules.specs.Outcome.{Frame, Effect}
+use Rattle.rules.specs.Calls.{Call, outcome, OperandsFit}
+use Rattle.rules.proofs.Branches.{cond-cases}
+use Rattle.rules.proofs.Alls.{all-append, all-map}
+use Rattle.rules.proofs.CallsKeep.{Kept, call-kept}
+use Rattle.theorems.specs.Mesh.{Point, Sent, Mesh, freshTable, start, tableOf, withTable, Action, delivers, makes, readsOnly, Event, deliveryOf, callOf, sentBy, leaves, calls, happen, run, throughout, met}
+use Rattle.theorems.specs.Premise.{beside, knownIn, held, numbersFor, isWithin, allWithin}
+use Rattle.theorems.specs.Statements.{ActionFits}
+use Rattle.theorems.proofs.Tables.{table-own, table-listed}
+use Rattle.theorems.proofs.Invariant.{Near, rowOf, rowAt, RowAt, row-at, Inv, all-at, inv-after}
+use Rattle.theorems.proofs.Walks.{none-twice}
+use Rattle.theorems.proofs.Calls.{FromLog, call-fine}
+
+-- ---- octets, and senders of six octets
+
+abbrev SentFits : Sent → Type 0
+SentFits s = (s .sender .0 < 256 ^ 6) × Octets (s .octets)
+
+record Sane (m : Mesh) : Type 0 where
+  tables : All Octets (m .tables)
+  log : All SentFits (m .log)
+
+table-octets : (m : Mesh) → Sane m → (a : Address) (t : List ℕ) → tableOf a (m .tables) ≡ some t → Octets t
+table-octets m sane a t here = all-at Octets (m .tables) (sane .tables) (table-listed a (m .tables) t here)
+
+address-fits : (a : Address) (t : List ℕ) → Octets t → own t ≡ a → a .0 < 256 ^ 6
+unfolding FitHead FitFields
+address-fits a t o is = rw (← is) (head-fits t o .0)
+
+with-table-octets : (a : Address) (u : List ℕ) → Octets u → (tables : List (List ℕ)) → All Octets tables → All Octets (withTable a u tables)
+unfolding withTable All
+with-table-octets a u o [] h = tt
+with-table-octets a u o (t ∷ tables) h =
+    cond-cases (All Octets) (same (own t) a) (λ _. (o, h .1)) (λ _. (h .0, with-table-octets a u o tables (h .1)))
+
+module _ (m : Mesh) (sane : Sane m) (a : Address) (t : List ℕ) (here : tableOf a (m .tables) ≡ some t) where
+  sane-after : (e : Effect) → Kept t e → Sane (leaves m a (accepted e))
+  unfolding leaves sentBy
+  sane-after e k =
+      let fits = address-fits a t (table-octets m sane a t here) (table-own a (m .tables) t here) in
+      record {
+        tables = with-table-octets a (e .table) (k .leaves .whole .octets) (m .tables) (sane .tables);
+        log = all-append SentFits (m .log) (sentBy a (e .frames)) (sane .log)
+            (all-map SentFits (λ (f : Frame). Fits (f .element)) (λ (f : Frame). record { sender = a; octets = writeElement (f .element) })
+            (λ f g. (fits, octets-written (f .element) (g .count))) (e .frames) (k .frames));
+      }
+
+-- ---- the numbers of a row are among those held
+
+module _ {A : Type 0} (p : A → Bool) where
+  all-parts : (l l′ : List A) → all p (l ++ l′) ≡ true → (all p l ≡ true) × (all p l′ ≡ true)
+  unfolding all
+  all-parts [] l′ e = (refl, e)
+  all-parts (x ∷ l) l′ e =
+      let here = and-eq-true-iff (p x) (all p (l ++ l′)) .0 e in
+      let rest = all-parts l l′ (here .1) in
+      (rw (here .0, rest .0), rest .1)
+
+  all-of-flat : {B : Type 0} (f : B → List A) (l : List B) → all p (flatMap f l) ≡ true → {x : B} → List·Memᴰ x l → all p (f x) ≡ true
+  unfolding flatMap
+  all-of-flat f [] e k = absurd (List·Memᴰ·not-nil k)
+  all-of-flat f (y ∷ l) e k =
+      let parts = all-parts (f y) (flatMap f l) e in
+      ⊎-elim (λ q. rw q (parts .0)) (λ j. all-of-flat f l (parts .1) j) (List·Memᴰ·cases-cons k)
+
+module _ (d : Address) (base : ℕ) (m : Mesh) (sane : Sane m) (within : allWithin d base m ≡ true) where
+  row-within : (a : Address) (t : List ℕ) → tableOf a (m .tables) ≡ some t → (r : Row) → rowFor t d ≡ some r → eqb (r .known) 1 ≡ true
+      → isWithin base (r .number) ≡ true
+  unfolding allWithin numbersFor held all
+  row-within a t here r found known =
+      let tables = all-parts (isWithin base) (flatMap (held d) (m .tables)) _ within .0 in
+      let numbers = all-of-flat (isWithin base) (held d) (m .tables) tables (table-listed a (m .tables) t here) in
+      let row = all-parts (isWithin base) (beside d (own t) (number t)) (knownIn (rowFor t d)) numbers .1 in
+      and-eq-true-iff (isWithin base (r .number)) true .0 (rw (found, known) at row) .0
+
+  near-at : (a : Address) → Near base (rowAt d (m .tables) a)
+  unfolding isWithin FitRow FitFields
+  near-at a r found known =
+      let k : RowAt d (m .tables) a r = row-at d (m .tables) a r found in
+      let o : Octets (k .table) = table-octets m sane a (k .table) (k .at) in
+      record {
+        fits = row-fits-its-octets (k .table) d r (k .found) o .1 .1 .1 .1 .1 .1 .0;
+        near = ltb-true _ _ (row-within a (k .table) (k .at) r (k .found) known);
+      }
+
+-- ---- the beginning
+
+module _ (d : Address) (base : ℕ) where
+  fresh-at : (points : List Point) (a : Address) → rowAt d (start points .tables) a ≡ none
+  unfolding start tableOf rowAt
+  fresh-at [] a = refl
+  fresh-at (p ∷ points) a =
+      cond-cases (λ (o : Option (List ℕ)). rowOf d o ≡ none) (same (own (freshTable p)) a)
+      (λ _. fresh-none (32 + 32 * p .rows) (p .address) (p .number) d) (λ _. fresh-at points a)
+
+  begins : (points : List Point) → Inv d base (start points)
+  unfolding start
+  begins points =
+      record {
+        rooted = λ a r found valid. absurd (Option·none-ne-some r (sym (fresh-at points a) ∙ found));
+        backed = λ s k. absurd (List·Memᴰ·not-nil k);
+        absent = fresh-at points d;
+      }
+
+sane-start : (points : List Point) → Sane (start points)
+unfolding start All
+sane-start points = record { tables = each points; log = tt }
+  where
+    each : (points : List Point) → All Octets (start points .tables)
+    each [] = tt
+    each (p ∷ points) = (fresh-octets (32 + 32 * p .rows) (p .address) (p .number), each points)
+
+-- ---- one event
+
+logged : (log : List Sent) (k : ℕ) (s : Sent) → getElem? log k ≡ some s → List·Memᴰ s log
+logged [] k s e = absurd (Option·none-ne-some s e)
+logged (x ∷ log) zero s e = List·Memᴰ·head (Option·some-injective s x (sym e))
+logged (x ∷ log) (suc k) s e = List·Memᴰ·tail (logged log k s e)
+
+-- the call that an action is: its operands fit, and an element that it brings is one of the log
+record Made (log : List Sent) (call : Call) : Type 0 where
+  fit : OperandsFit call
+  from : FromLog log call
+
+delivery-made : (log : List Sent) → All SentFits log → (place c : ℕ) (link : Metric) (o : Option Sent) → getElem? log place ≡ o → (call : Call)
+    → deliveryOf c link o ≡ some call → Made log call
+delivery-made log fits place c link none at call is = absurd (Option·none-ne-some call is)
+delivery-made log fits place c link (some s) at call is =
+    let k : List·Memᴰ s log = logged log place s at in
+    subst (Made log) (Option·some-injective _ call is) (record { fit = all-at SentFits log fits k; from = (s, k, refl, refl) })
+
+made : (log : List Sent) → All SentFits log → (action : Action) → ActionFits action → (call : Call) → callOf log action ≡ some call → Made log call
+unfolding callOf
+made log fits (delivers place c link) fit call is = delivery-made log fits place c link (getElem? log place) refl call is
+made log fits (makes own-call) fit call is = subst (Made log) (Option·some-injective _ call is) (record { fit = fit; from = tt })
+made log fits readsOnly fit call is = absurd (Option·none-ne-some call is)
+
+module _ (d : Address) (base : ℕ) (small : base < 2 ^ 32) where
+  record Good (m : Mesh) : Type 0 where
+    sane : Sane m
+    inv : Inv d base m
+
+  -- an accepted call of a point, whose operands fit, with an element of the log if it receives one
+  module _ (m : Mesh) (good : Good m) (within : allWithin d base m ≡ true) (a : Address) (t : List ℕ) (here : tableOf a (m .tables) ≡ some t) where
+    t-octets : Octets t
+    t-octets = table-octets m (good .sane) a t here
+
+    t-near : Near base (rowFor t d)
+    unfolding rowAt
+    t-near = rw here at (near-at d base m (good .sane) within a)
+
+    call-good : (room : ℕ) (call : Call) → Made (m .log) call
+        → (o : Decision Effect) → outcome t room call ≡ o → allWithin d base (leaves m a o) ≡ true → Good (leaves m a o)
+    unfolding leaves
+    call-good room call k (refused n) is within′ = good
+    call-good room call k (accepted e) is within′ =
+        let sane′ : Sane (leaves m a (accepted e)) = sane-after m (good .sane) a t here e (call-kept t t-octets room call (k .fit) e is) in
+        record {
+          sane = sane′;
+          inv = inv-after d base m (good .inv) a t e here (call-fine d base small (m .log) t t-octets t-near room call (k .fit) (k .from) e is)
+              (near-at d base (leaves m a (accepted e)) sane′ within′ a);
+        }
+
+  happens : (m : Mesh) (e : Event) → ActionFits (e .action) → Good m → allWithin d base m ≡ true → allWithin d base (happen outcome m e) ≡ true
+      → Good (happen outcome m e)
+  unfolding happen
+  happens m e fit good within within′ = go (tableOf (e .point) (m .tables)) refl (callOf (m .log) (e .action)) refl within′
+    where
+      go : (o : Option (List ℕ)) → tableOf (e .point) (m .tables) ≡ o → (k : Option Call) → callOf (m .log) (e .action) ≡ k
+          → allWithin d base (calls outcome m e o k) ≡ true → Good (calls outcome m e o k)
+      go none here k is within′ = good
+      go (some t) here none is within′ = good
+      go (some t) here (some call) is within′ =
+          call-good m good within (e .point) t here (e .room) call (made (m .log) (good .sane .log) (e .action) fit call is)
+          (outcome t (e .room) call) refl within′
+
+  -- ---- a list of events
+
+  at-first : (m : Mesh) (events : List Event) → throughout outcome (allWithin d base) m events ≡ true → allWithin d base m ≡ true
+  unfolding throughout
+  at-first m [] h = h
+  at-first m (e ∷ events) h = and-eq-true-iff (allWithin d base m) (throughout outcome (allWithin d base) (happen outcome m e) events) .0 h .0
+
+  runs : (m : Mesh) (events : List Event) → All (λ (e : Event). ActionFits (e .action)) events → Good m
+      → throughout outcome (allWithin d base) m events ≡ true → Good (run outcome m events)
+  unfolding run throughout All
+  runs m [] fit good within = good
+  runs m (e ∷ events) fit good within =
+      let both = and-eq-true-iff (allWithin d base m) (throughout outcome (allWithin d base) (happen outcome m e) events) .0 within in
+      runs (happen outcome m e) events (fit .1)
+      (happens m e (fit .0) good (both .0) (at-first (happen outcome m e) events (both .1))) (both .1)
+
+  pub loop-free : (points : List Point) (events : List Event) → All (λ (e : Event). ActionFits (e .action)) events
+      → throughout outcome (allWithin d base) (start points) events ≡ true
+      → (hops : ℕ) (a : Address) → twice (met (run outcome (start points) events) d hops a) ≡ false
+  loop-free points events fit within =
+      none-twice d base (run outcome (start points) events)
+      (runs (start points) events fit (record { sane = sane-start points; inv = begins d base points }) within .inv)

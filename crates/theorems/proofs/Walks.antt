@@ -1,0 +1,120 @@
+-- Under the invariant a walk towards d meets no point twice: the rows that it follows get strictly better until it comes to d.
+-- Assumes nothing.
+use Prim.Native.Nat.{ℕ, zero, suc}
+use mathlib.Core.Path.{_≡_, refl, sym, ap, _∙_}
+use mathlib.Core.Bool.{Bool, true, false, _||_, cond}
+use mathlib.Core.List.{List, [], _∷_}
+use mathlib.Core.Option.{Option, none, some, Option·none-ne-some, Option·some-injective}
+use mathlib.Core.Logic.{_⊎_, inl, inr, ⊎-map}
+use lib.Dec.{eqb}
+use Rattle.counters.proofs.Rank.{Above, at-least-trans, at-least-above, weaken, not-above-itself}
+use Rattle.table.specs.declared.address.Address.{Address}
+use Rattle.table.specs.declared.row.Row.{Row}
+use Rattle.table.specs.Address.{same}
+use Rattle.table.specs.Table.{rowFor}
+use Rattle.table.proofs.WellFormed.{same-is}
+use Rattle.element.specs.Lists.{among, twice}
+use Rattle.element.specs.Entries.{All}
+use Rattle.rules.proofs.Branches.{cond-cases}
+use Rattle.rules.specs.Lists.{isThere}
+use Rattle.theorems.specs.Mesh.{Mesh, tableOf, validNext, nextIn, nextAt, metBy, met}
+use Rattle.theorems.proofs.Invariant.{Leads, home, nearer, rowAt, Inv}
+
+not-among : (P : Address → Type 0) (a : Address) → (P a → ⊥) → (l : List Address) → All P l → among a l ≡ false
+unfolding among All
+not-among P a never [] h = refl
+not-among P a never (b ∷ l) h = by (same b a) refl (not-among P a never l (h .1))
+  where
+    by : (k : Bool) → same b a ≡ k → among a l ≡ false → (k || among a l) ≡ false
+    by true e rest = absurd (never (rw (← same-is b a e) (h .0)))
+    by false e rest = rest
+
+module _ (d : Address) (base : ℕ) (m : Mesh) (inv : Inv d base m) where
+  -- the row for d at the point a is valid, with next hop b
+  record Hop (a b : Address) : Type 0 where
+    row : Row
+    found : rowAt d (m .tables) a ≡ some row
+    valid : eqb (row .status) 1 ≡ true
+    next : row .next ≡ b
+
+  hop : (a b : Address) → nextAt m d a ≡ some b → Hop a b
+  unfolding nextAt rowAt
+  hop a b e = go (tableOf a (m .tables)) refl e
+    where
+      through : (t : List ℕ) → tableOf a (m .tables) ≡ some t → (o : Option Row) → rowFor t d ≡ o → validNext o ≡ some b → Hop a b
+      through t at none q e = absurd (Option·none-ne-some b e)
+      through t at (some r) q e = by (eqb (r .status) 1) refl e
+        where
+          by : (k : Bool) → eqb (r .status) 1 ≡ k → cond k (some (r .next)) none ≡ some b → Hop a b
+          by true v e = record { row = r; found = rw at q; valid = v; next = Option·some-injective (r .next) b e }
+          by false v e = absurd (Option·none-ne-some b e)
+
+      go : (o : Option (List ℕ)) → tableOf a (m .tables) ≡ o → nextIn m d o ≡ some b → Hop a b
+      go none q e = absurd (Option·none-ne-some b e)
+      go (some t) q e = through t q (rowFor t d) refl e
+
+  -- the row for d at the point c is strictly better than the row r
+  record Beats (r : Row) (c : Address) : Type 0 where
+    row : Row
+    found : rowAt d (m .tables) c ≡ some row
+    better : Above base (row .number) (row .metric .0) (r .number) (r .metric .0)
+
+  -- c is d, or has a strictly better row than r
+  abbrev Further : Row → Address → Type 0
+  Further r c = (c ≡ d) ⊎ Beats r c
+
+  -- d has no row for itself, so no walk goes on from it
+  not-from-d : {a b : Address} → Hop a b → a ≡ d → ⊥
+  not-from-d {a} h e = Option·none-ne-some (h .row) (sym (inv .absent) ∙ ap (rowAt d (m .tables)) (sym e) ∙ h .found)
+
+  -- the next hop of a valid row is d, or has a strictly better row
+  next-further : {a b : Address} (h : Hop a b) → Further (h .row) b
+  next-further {a} {b} h = go (inv .rooted a (h .row) (h .found) (h .valid))
+    where
+      go : Leads d base (m .log) (h .row) → Further (h .row) b
+      go (home e) = inl (sym (h .next) ∙ e)
+      go (nearer k) =
+          let at-b : k .sent .sender ≡ b = k .by ∙ h .next in
+          ⊎-map (λ e. sym at-b ∙ e)
+          (λ st. record { row = st .row; found = ap (rowAt d (m .tables)) (sym at-b) ∙ st .found; better = at-least-above (st .good) (k .better) })
+          (inv .backed (k .sent) (k .logged) (k .path) (k .has) (k .about))
+
+  further-trans : (r : Row) {b c : Address} → Further r b → (h : Hop b c) → Further (h .row) c → Further r c
+  further-trans r (inl e) h far = absurd (not-from-d h e)
+  further-trans r (inr near) h (inl e) = inl e
+  further-trans r (inr near) h (inr far) =
+      let same-row : near .row ≡ h .row = Option·some-injective (near .row) (h .row) (sym (near .found) ∙ h .found) in
+      inr (record { row = far .row; found = far .found; better = at-least-trans (far .better) (rw same-row at (weaken (near .better))) })
+
+  -- every point that the walk meets after the row r is d, or has a strictly better row
+  all-further : (r : Row) (hops : ℕ) (b : Address) → Further r b → All (Further r) (met m d hops b)
+  unfolding met All
+  all-further r zero b near = cond-cases (All (Further r)) (isThere (tableOf b (m .tables))) (λ _. (near, tt)) (λ _. tt)
+  all-further r (suc hops) b near =
+      cond-cases (All (Further r)) (isThere (tableOf b (m .tables))) (λ _. (near, rest (nextAt m d b) refl (all-further r hops))) (λ _. tt)
+    where
+      rest : (o : Option Address) → nextAt m d b ≡ o → ((c : Address) → Further r c → All (Further r) (met m d hops c))
+          → All (Further r) (metBy m d o (met m d hops))
+      rest none e ih = tt
+      rest (some c) e ih = ih c (further-trans r near (hop b c e) (next-further (hop b c e)))
+
+  -- the point of a row is not among those that come after
+  not-again : {a b : Address} (h : Hop a b) → Further (h .row) a → ⊥
+  not-again h (inl e) = not-from-d h e
+  not-again h (inr k) =
+      let same-row : k .row ≡ h .row = Option·some-injective (k .row) (h .row) (sym (k .found) ∙ h .found) in
+      not-above-itself (rw same-row at (k .better))
+
+  pub none-twice : (hops : ℕ) (a : Address) → twice (met m d hops a) ≡ false
+  unfolding met twice among
+  none-twice zero a = cond-cases (λ (l : List Address). twice l ≡ false) (isThere (tableOf a (m .tables))) (λ _. refl) (λ _. refl)
+  none-twice (suc hops) a =
+      cond-cases (λ (l : List Address). twice l ≡ false) (isThere (tableOf a (m .tables)))
+      (λ _. rest (nextAt m d a) refl (none-twice hops)) (λ _. refl)
+    where
+      rest : (o : Option Address) → nextAt m d a ≡ o → ((b : Address) → twice (met m d hops b) ≡ false)
+          → twice (a ∷ metBy m d o (met m d hops)) ≡ false
+      rest none e ih = refl
+      rest (some b) e ih =
+          let h : Hop a b = hop a b e in
+          rw (not-among (Further (h .row)) a (not-again h) (met m d hops b) (all-further (h .row) hops b (next-further h))) (ih b)

@@ -1,0 +1,6 @@
+pub mod Edges
+pub mod Mesh
+pub mod Premise
+pub mod WrongRules
+pub mod Runs
+pub mod Statements

@@ -1,0 +1,154 @@
+-- What is proved of the rules of document 01: each statement is a type here, and `proofs/Theorems.antt` has its proof under
+-- the name that is given beside it. Assumes nothing.
+--
+-- How to read: `(x : T) → P` is 'for every x: P', `P → Q` 'if P then Q', `×` 'and', `≡` 'equals'; `x ∷ l` is a list that begins with
+-- x, `l ++ k` one list after another; `cond b x y` is x if b holds, else y; `r .f` is the field f of r, and `a .0` the number that an
+-- address, a sequence number or a metric is. A `List ℕ` is a list of octets.
+use Prim.Native.Nat.{ℕ, _^_, _<_, _≤_}
+use mathlib.Core.Path.{_≡_}
+use mathlib.Core.Bool.{true, false}
+use mathlib.Core.List.{List, _++_, map}
+use lib.ListN.{length}
+use Rattle.octets.specs.LittleEndian.{Octets}
+use Rattle.counters.specs.declared.SequenceNumber.{SequenceNumber}
+use Rattle.table.specs.declared.address.Address.{Address}
+use Rattle.table.specs.Address.{individual}
+use Rattle.table.specs.Table.{isTable}
+use Rattle.element.specs.Element.{Element}
+use Rattle.element.specs.Entries.{All}
+use Rattle.element.specs.Octets.{wrongLength, otherId, misfit, readElement, writeElement}
+use Rattle.element.specs.Lists.{twice}
+use Rattle.rules.specs.Decision.{accepted}
+use Rattle.rules.specs.Lists.{all}
+use Rattle.rules.specs.Outcome.{Frame, Effect, frameOctets}
+use Rattle.rules.specs.Fresh.{makeFresh}
+use Rattle.rules.specs.Forget.{forget}
+use Rattle.rules.specs.Errors.{broken}
+use Rattle.rules.specs.Receive.{isStaleFor}
+use Rattle.rules.specs.Calls.{Call, outcome, OwnOperandsFit, OperandsFit}
+use Rattle.rules.specs.Walk.{Walked, walk}
+use Rattle.theorems.specs.Edges.{edges, shutOut}
+use Rattle.theorems.specs.Mesh.{Point, start, Action, delivers, makes, readsOnly, Event, run, throughout, met}
+use Rattle.theorems.specs.Premise.{allWithin}
+use Rattle.theorems.specs.WrongRules.{ruledBy, receivingBy, breakingBy}
+use Rattle.theorems.specs.Runs.{worked, wentRound, loops, counterexamples, outside, outsideLoops}
+
+-- ---- P1 to P8 (`p1-to-p8`): every test in the list passes
+
+abbrev pub EdgesHold : Type 0
+EdgesHold = all (λ b. b) edges ≡ true
+
+-- The trainees' errors that document 01 names are shut out (`errors-shut-out`): every test in the list passes.
+abbrev pub ErrorsShutOut : Type 0
+ErrorsShutOut = all (λ b. b) shutOut ≡ true
+
+-- ---- stays a table (`stays-a-table`, `fresh-is-a-table`, `forget-stays-a-table`)
+
+-- Whatever octets a call finds as its table: if it is accepted, it leaves octets that pass refusal 21, as many as before.
+-- (The five calls that write table and output; then a fresh table, and forgetting a destination.)
+abbrev pub StaysTable : Type 0
+StaysTable =
+    (t : List ℕ) → Octets t → (room : ℕ) (call : Call) → OperandsFit call → (e : Effect) → outcome t room call ≡ accepted e
+    → Octets (e .table) × (isTable (e .table) ≡ true) × (length (e .table) ≡ length t)
+
+abbrev pub FreshIsTable : Type 0
+FreshIsTable =
+    (t u : List ℕ) (own : Address) (number : SequenceNumber) → own .0 < 256 ^ 6 → number .0 < 256 ^ 4
+    → makeFresh t own number ≡ accepted u → Octets u × (isTable u ≡ true) × (length u ≡ length t)
+
+abbrev pub ForgetStaysTable : Type 0
+ForgetStaysTable =
+    (t u : List ℕ) (d : Address) → Octets t → forget t d ≡ accepted u → Octets u × (isTable u ≡ true) × (length u ≡ length t)
+
+-- ---- has room (`has-room`)
+
+-- The frames of an accepted call take at most 1,560 octets, so that an output that passes refusal 2 has room for them.
+abbrev pub HasRoom : Type 0
+HasRoom =
+    (t : List ℕ) → Octets t → (room : ℕ) (call : Call) → OperandsFit call → (e : Effect) → outcome t room call ≡ accepted e
+    → length (frameOctets (e .frames)) ≤ 1560
+
+-- ---- reads back (`reads-back`)
+
+-- the octets of an element pass refusals 6, 7 and 8, and are read as its fields
+pub record ReadsAs (s : List ℕ) (e : Element) : Type 0 where
+  pub passes-6 : wrongLength s ≡ false
+  pub passes-7 : otherId s ≡ false
+  pub passes-8 : misfit s ≡ false
+  pub fields : readElement s ≡ e
+
+-- Such are the octets of the elements in all frames of an accepted call.
+abbrev pub ReadsBack : Type 0
+ReadsBack =
+    (t : List ℕ) → Octets t → (room : ℕ) (call : Call) → OperandsFit call → (e : Effect) → outcome t room call ≡ accepted e
+    → All (λ (f : Frame). ReadsAs (writeElement (f .element)) (f .element)) (e .frames)
+
+-- ---- walks (`hops-at-most`)
+
+-- A walk that is answered, with 0, 41 or 42, counts at most as many hops as there are points.
+abbrev pub HopsAtMost : Type 0
+HopsAtMost = (s : List ℕ) (count c : ℕ) (from d : Address) (w : Walked) → walk s count c from d ≡ accepted w → w .hops ≤ count
+
+-- ---- loop free, demand 3 (`loop-free`)
+
+-- a point of the demand: an individual address, any own number, 1 to 128 rows
+pub record PointFits (p : Point) : Type 0 where
+  pub address : individual (p .address) ≡ true
+  pub six-octets : p .address .0 < 256 ^ 6
+  pub four-octets : p .number .0 < 256 ^ 4
+  pub rows : (1 ≤ p .rows) × (p .rows ≤ 128)
+
+-- the operands of an action are what C's types can hold: a lifetime has 32 bits, an octet is below 256; all else is free
+abbrev pub ActionFits : Action → Type 0
+ActionFits (delivers place c link) = Unit {0}
+ActionFits (makes call) = OwnOperandsFit call
+ActionFits readsOnly = Unit {0}
+
+-- For any set of points with fresh tables and different addresses,
+-- and any list of their calls, with elements delivered late, repeated, reordered or lost, whether refused or not:
+-- if, from first to last, all numbers held or carried for a destination d lie within 2^31 consecutive ones counted round zero,
+-- then the walk along valid rows for d, from any point a and however long, meets no point twice.
+--
+-- (The proof does not use what is said of the points: a call on octets that are no table is refused, and of two points with
+-- one address the second would never be called or met. Of the numbers it uses only those in rows: that these lie so is enough.
+-- A forget is not among the calls: a forgotten row is a dropped one, and with those there are loops.)
+abbrev pub LoopFree : Type 0
+LoopFree =
+    (points : List Point) → All PointFits points → twice (map (λ (p : Point). p .address) points) ≡ false
+    → (events : List Event) → All (λ (e : Event). ActionFits (e .action)) events
+    → (d : Address) (base : ℕ) → base < 2 ^ 32
+    → throughout outcome (allWithin d base) (start points) events ≡ true
+    → (a : Address) (hops : ℕ) → twice (met (run outcome (start points) events) d hops a) ≡ false
+
+-- ---- not vacuous (`not-vacuous`)
+
+-- The worked case of document 01, run on the rules, meets the premise, answers as the bench prints, and ends with the routes
+-- that its walk finds. A second run, in which numbers pass from 4,294,967,295 to 0, meets the premise and finds its routes too.
+abbrev pub NotVacuous : Type 0
+NotVacuous = all (λ b. b) (worked outcome ++ wentRound outcome) ≡ true
+
+-- ---- sharp (`sharp`, `else-the-rules`, `needs-its-premise`)
+
+-- Five wrong rules (`WrongRules.antt`), each with a list of calls that meets the premise and ends with a walk that meets a point
+-- twice: numbers compared as plain numbers, the reply of 11-06-1778 that takes an equal number with a worse metric,
+-- an equal number into an inactive row at a worse metric, a broken row dropped, a break that does not step the number.
+--
+-- (For other errors no list is given: an error matched by destination only; an error with a newer number or a break that leaves
+-- the metric; a break that hits expired rows too. That no row gets worse by these, and so none loops, is argued here and not
+-- proved. Demand 3 does not exclude them. The edges exclude the first and a break that leaves the metric; code that is proved
+-- equal to the rules, and tests, exclude all.)
+abbrev pub Sharp : Type 0
+Sharp = all loops counterexamples ≡ true
+
+-- Put together the same way, but with the rules' own test of refusal 25 and their own change of a broken row, they are the rules:
+-- so each differs from them in the one sentence that it changes (`else-the-rules`).
+abbrev pub ElseTheRules : Type 0
+ElseTheRules =
+    (t : List ℕ) (room : ℕ) (call : Call) → ruledBy (receivingBy (λ e. isStaleFor)) (breakingBy broken) t room call ≡ outcome t room call
+
+-- One list of calls loops under the rules themselves; so no base has all its numbers in its window.
+abbrev pub NeedsPremise : Type 0
+NeedsPremise =
+    (outsideLoops ≡ true)
+    × ((base : ℕ) → base < 2 ^ 32
+    → throughout outcome (allWithin (outside .destination) base) (start (outside .points)) (outside .events) ≡ false)
