@@ -1,11 +1,11 @@
 // The bench: up to 16 points, the links between them and the frames that they have sent, driven by commands.
-mod calls;
 mod frames;
 pub mod interpreter;
 mod links;
 mod operands;
 mod points;
 mod settle;
+mod traffic;
 
 ghost use mathlib.Core.Path.{_≡_};
 ghost use Rattle.bench_core.specs.InCode.{printed};

@@ -1,9 +1,9 @@
 // The commands by their octets: each reads its operands, which are known to be there.
 use crate::Done;
 use crate::State;
-use crate::calls;
 use crate::links;
 use crate::points;
+use crate::traffic;
 use counters::SequenceNumber;
 use table::address::Address;
 ghost use mathlib.Core.Path.{_≡_};
@@ -48,7 +48,7 @@ pub fn ask(input: &[u8], s: State, tables: &mut [u8], slots: &mut [u8]) -> Done
 {
     let p = octets::read_u8(input, 1);
     let lifetime = octets::read_u32(input, 9);
-    calls::ask_for(s, p, &input[2..9], lifetime, tables, slots)
+    traffic::ask_for(s, p, &input[2..9], lifetime, tables, slots)
 }
 
 pub fn announce(input: &[u8], s: State, tables: &mut [u8], slots: &mut [u8]) -> Done
@@ -57,7 +57,7 @@ pub fn announce(input: &[u8], s: State, tables: &mut [u8], slots: &mut [u8]) -> 
     ensures { λ r. ⌜ doneIn r (now (tables .exit)) (now (slots .exit)) ≡ announceSelf (benchOf s (now (tables .entry)) (now (slots .entry))) (numberAt 1 (now (input .entry)) 1) (numberAt 4 (now (input .entry)) 2) ⌝ }
 {
     let p = octets::read_u8(input, 1);
-    calls::announce_self(s, p, octets::read_u32(input, 2), tables, slots)
+    traffic::announce_self(s, p, octets::read_u32(input, 2), tables, slots)
 }
 
 pub fn deliver(
@@ -72,7 +72,7 @@ pub fn deliver(
     ensures { λ r. ⌜ doneIn r (now (tables .exit)) (now (slots .exit)) ≡ deliver (benchOf s (now (tables .entry)) (now (slots .entry))) (now (links .entry)) (numberAt 2 (now (input .entry)) 1) (numberAt 1 (now (input .entry)) 3) ⌝ }
 {
     let k = octets::read_u16(input, 1);
-    calls::deliver_frame(s, k, octets::read_u8(input, 3), tables, slots, links)
+    traffic::deliver_frame(s, k, octets::read_u8(input, 3), tables, slots, links)
 }
 
 pub fn break_off(input: &[u8], s: State, tables: &mut [u8], slots: &mut [u8]) -> Done
@@ -81,7 +81,7 @@ pub fn break_off(input: &[u8], s: State, tables: &mut [u8], slots: &mut [u8]) ->
     ensures { λ r. ⌜ doneIn r (now (tables .exit)) (now (slots .exit)) ≡ breakOff (benchOf s (now (tables .entry)) (now (slots .entry))) (numberAt 1 (now (input .entry)) 1) (numberAt 1 (now (input .entry)) 2) ⌝ }
 {
     let p = octets::read_u8(input, 1);
-    calls::break_off(s, p, octets::read_u8(input, 2), tables, slots)
+    traffic::break_off(s, p, octets::read_u8(input, 2), tables, slots)
 }
 
 pub fn walk(input: &[u8], s: State, tables: &[u8]) -> Done

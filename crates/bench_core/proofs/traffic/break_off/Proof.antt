@@ -1,8 +1,8 @@
--- `bench_core::calls::break_off` meets its contract: no point, no neighbour, or as its call leaves it. Assumes nothing.
+-- `bench_core::traffic::break_off` meets its contract: no point, no neighbour, or as its call leaves it. Assumes nothing.
 use borrow.Author.Needs.{needs}
 use Rattle.bench_core.proofs.Calling.{lent-table, break-fault, neighbour-fault, break-done}
-use Rattle.bench_core.proofs.calls.break_off.Statement.{statement}
-use Rattle.bench_core.proofs.calls.break_off.Tie as tie
+use Rattle.bench_core.proofs.traffic.break_off.Statement.{statement}
+use Rattle.bench_core.proofs.traffic.break_off.Tie as tie
 
 pub break-off-spec : {M : Type 1} → statement M
 break-off-spec =

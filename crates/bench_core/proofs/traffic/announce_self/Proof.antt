@@ -1,8 +1,8 @@
--- `bench_core::calls::announce_self` meets its contract: no point, or as its call leaves it. Assumes nothing.
+-- `bench_core::traffic::announce_self` meets its contract: no point, or as its call leaves it. Assumes nothing.
 use borrow.Author.Needs.{needs}
 use Rattle.bench_core.proofs.Calling.{lent-table, announce-fault, announce-done}
-use Rattle.bench_core.proofs.calls.announce_self.Statement.{statement}
-use Rattle.bench_core.proofs.calls.announce_self.Tie as tie
+use Rattle.bench_core.proofs.traffic.announce_self.Statement.{statement}
+use Rattle.bench_core.proofs.traffic.announce_self.Tie as tie
 
 pub announce-self-spec : {M : Type 1} → statement M
 announce-self-spec =

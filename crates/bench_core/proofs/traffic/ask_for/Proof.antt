@@ -1,8 +1,8 @@
--- `bench_core::calls::ask_for` meets its contract: no point, or as its call leaves it. Assumes nothing.
+-- `bench_core::traffic::ask_for` meets its contract: no point, or as its call leaves it. Assumes nothing.
 use borrow.Author.Needs.{needs}
 use Rattle.bench_core.proofs.Calling.{lent-table, ask-fault, ask-done}
-use Rattle.bench_core.proofs.calls.ask_for.Statement.{statement}
-use Rattle.bench_core.proofs.calls.ask_for.Tie as tie
+use Rattle.bench_core.proofs.traffic.ask_for.Statement.{statement}
+use Rattle.bench_core.proofs.traffic.ask_for.Tie as tie
 
 pub ask-for-spec : {M : Type 1} → statement M
 ask-for-spec =

@@ -1,8 +1,8 @@
--- `bench_core::calls::deliver_frame` meets its contract: an index of no frame or point, or received. Assumes nothing.
+-- `bench_core::traffic::deliver_frame` meets its contract: an index of no frame or point, or received. Assumes nothing.
 use borrow.Author.Needs.{needs}
 use Rattle.bench_core.proofs.Calling.{frame-fault, receiver-fault, sender-fault, delivered}
-use Rattle.bench_core.proofs.calls.deliver_frame.Statement.{statement}
-use Rattle.bench_core.proofs.calls.deliver_frame.Tie as tie
+use Rattle.bench_core.proofs.traffic.deliver_frame.Statement.{statement}
+use Rattle.bench_core.proofs.traffic.deliver_frame.Tie as tie
 
 pub deliver-frame-spec : {M : Type 1} → statement M
 deliver-frame-spec =

@@ -1,8 +1,8 @@
--- `bench_core::calls::hand_over` meets its contract: as the receive leaves it. Assumes nothing.
+-- `bench_core::traffic::hand_over` meets its contract: as the receive leaves it. Assumes nothing.
 use borrow.Author.Needs.{needs}
 use Rattle.bench_core.proofs.Calling.{lent-table, handed-over}
-use Rattle.bench_core.proofs.calls.hand_over.Statement.{statement}
-use Rattle.bench_core.proofs.calls.hand_over.Tie as tie
+use Rattle.bench_core.proofs.traffic.hand_over.Statement.{statement}
+use Rattle.bench_core.proofs.traffic.hand_over.Tie as tie
 
 pub hand-over-spec : {M : Type 1} → statement M
 hand-over-spec =
