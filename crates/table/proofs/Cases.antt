@@ -5,7 +5,7 @@ use lib.Dec.{eqb, leb}
 use lib.ListN.{length}
 use mathlib.Core.Path.{_≡_, refl, sym, ap, _∙_}
 use native.Mathlib.Omega.{arith}
-use borrow.Author.Tests.{leb-true, le-leb, lt-leb, eqb-true, eq-eqb, ne-eqb}
+use borrow.Author.Tests.{leb-true, le-leb, lt-leb, eqb-true, eq-eqb, ne-eqb, not-true, not-false}
 use mathlib.Core.Bool.{Bool, true, false, _&&_, _||_, not, and-eq-true-iff}
 use mathlib.Core.List.{List}
 use mathlib.Core.Option.{none, some}
@@ -19,7 +19,7 @@ use Rattle.table.specs.Layout.{headOctets, rowOctets, mostRows, place, s
 use Rattle.table.specs.declared.search.Found.the-variants.{At, Nothing}
 use Rattle.table.proofs.Places.{first-below}
 use Rattle.table.specs.Places.{first, every, isNothing, orElse}
-use Rattle.table.specs.Table.{vacant, holds, findRow, rowFor, firstFree, putAt, placeFor, store, alone, passes, isTable}
+use Rattle.table.specs.Table.{vacant, holds, findRow, rowFor, activeNext, firstFree, putAt, placeFor, store, alone, passes, isTable}
 
 pub both : (a b : Bool) → (a && b) ≡ true → (a ≡ true) × (b ≡ true)
 both a b = and-eq-true-iff a b .0
@@ -63,6 +63,21 @@ module _ (t : List ℕ) where
   pub row-none : (d : Address) (f : Found) → f ≡ findRow t d → f ≡ Nothing → rowFor t d ≡ none
   unfolding rowFor
   row-none d f fe no-row = rw (← fe, no-row)
+
+  -- its active next hop
+  module _ (c : ℕ) (d : Address) (f : Found) (fe : f ≡ findRow t d) where
+    pub next-absent : f ≡ Nothing → none ≡ activeNext c (rowFor t d)
+    unfolding activeNext
+    next-absent no-row = rw (row-none d f fe no-row)
+
+    module _ (i : ℕ) (at-i : f ≡ At i) (r : Row) (re : r ≡ rowAt t i) (a : Bool) (ae : a ≡ active c r) where
+      pub next-inactive : not a ≡ true → none ≡ activeNext c (rowFor t d)
+      unfolding activeNext
+      next-inactive no-a = rw (row-at d f fe i at-i r re, ← ae, not-true a no-a)
+
+      pub next-active : not a ≡ false → some (r .next) ≡ activeNext c (rowFor t d)
+      unfolding activeNext
+      next-active yes-a = rw (row-at d f fe i at-i r re, ← ae, not-false a yes-a)
 
   module _ (d : Address) (f : Found) (fe : f ≡ findRow t d) (g : Found) (ge : g ≡ orElse f (firstFree t)) where
     place-is : g ≡ placeFor t d

@@ -11,8 +11,10 @@ use Rattle.table.specs.declared.address.Address.{Address}
 use Rattle.table.specs.declared.row.Row.{Row}
 use Rattle.table.specs.declared.search.Found.{Found}
 use Rattle.table.specs.declared.search.Found.the-variants.{At, Nothing}
+use Rattle.table.specs.declared.search.NextHop.{NextHop}
+use Rattle.table.specs.declared.search.NextHop.the-variants.{To, Nobody}
 use Rattle.table.specs.Address.{same}
-use Rattle.table.specs.Row.{freshHead, freeRow, headOk, rowOk}
+use Rattle.table.specs.Row.{freshHead, freeRow, headOk, rowOk, active}
 use Rattle.table.specs.Layout.{rows, headAt, putHead, rowAt, putRow}
 use Rattle.table.specs.Places.{first, count, every, isNothing, orElse}
 
@@ -51,6 +53,16 @@ rowIn t Nothing = none
 -- the row that is held for d
 unfoldable pub rowFor : List ℕ → Address → Option Row
 rowFor t d = rowIn t (findRow t d)
+
+-- Returns the next hop of a row that is there and active at clock c, or none.
+unfoldable pub activeNext : ℕ → Option Row → Option Address
+activeNext c none = none
+activeNext c (some r) = cond (active c r) (some (r .next)) none
+
+-- Returns the address in the code's answer, or none.
+abbrev pub hopIn : NextHop → Option Address
+hopIn (To next) = some next
+hopIn Nobody = none
 
 -- how many new rows a destination needs that has this row, or none
 abbrev pub newRows : Option Row → ℕ

@@ -9,7 +9,7 @@ ghost use Prim.Native.Nat.{_+_, _≤_, _<_};
 ghost use lib.ListN.{length};
 ghost use Rattle.table.specs.Layout.{mostRows, place, rowOctets, rows, Sized};
 ghost use Rattle.table.specs.Places.{count, first, isNothing, orElse};
-ghost use Rattle.table.specs.Table.{findRow, firstFree, freeRows, holds, vacant};
+ghost use Rattle.table.specs.Table.{activeNext, findRow, firstFree, freeRows, holds, hopIn, rowFor, vacant};
 
 // A place of the table, or none.
 pub enum Found {
@@ -72,6 +72,28 @@ pub fn find_row(table: &[u8], d: Address) -> Found
     ensures { λ r. ⌜ r ≡ findRow (now (table .entry)) d ⌝ }
 {
     find_below(table, rows_of(table), d)
+}
+
+// The next hop of a row, or none.
+pub enum NextHop {
+    To(Address),
+    Nobody,
+}
+
+// Answers the next hop of the destination's row, if that is active.
+pub fn active_next(table: &[u8], clock: u64, destination: Address) -> NextHop
+    requires { ⌜ Sized (now table) ⌝ }
+    ensures { λ r. ⌜ hopIn r ≡ activeNext clock (rowFor (now (table .entry)) destination) ⌝ }
+{
+    let Found::At(i) = find_row(table, destination) else {
+        return NextHop::Nobody;
+    };
+    let r = row::read_row(table, i);
+    if !r.is_active(clock) {
+        return NextHop::Nobody;
+    }
+    let next = r.next;
+    NextHop::To(next)
 }
 
 // The first of the n first rows that is free.
