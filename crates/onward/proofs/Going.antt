@@ -1,20 +1,20 @@
 -- What goes on, case by case, as the code asks it. Assumes nothing.
 use Prim.Native.Nat.{ℕ, _+_, _/_, _%_, _<_, _≤_}
 use mathlib.Core.Path.{_≡_, refl, sym, ap, ap₂, _∙_}
-use mathlib.Core.Bool.{Bool, true, false, not, cond}
+use mathlib.Core.Bool.{Bool, true, false, cond}
 use mathlib.Core.List.{List, [], _∷_}
-use mathlib.Core.Option.{Option, none, some}
+use mathlib.Core.Option.{Option, none}
 use lib.ListN.{length}
 use native.Mathlib.Omega.{arith}
 use borrow.Author.Tests.{lt-ltb, le-ltb}
 use Rattle.octets.specs.LittleEndian.{over}
 use Rattle.table.specs.declared.address.Address.{Address}
 use Rattle.table.specs.declared.row.Head.{Head}
-use Rattle.table.specs.declared.row.Row.{Row}
+use Rattle.table.specs.declared.search.NextHop.{NextHop}
+use Rattle.table.specs.declared.search.NextHop.the-variants.{To, Nobody}
 use Rattle.table.specs.Address.{same}
 use Rattle.table.specs.Layout.{headAt}
-use Rattle.table.specs.Row.{active}
-use Rattle.table.specs.Table.{own, rowFor}
+use Rattle.table.specs.Table.{own, rowFor, activeNext, hopIn}
 use Rattle.table.proofs.ByHead.{is-own, is-other}
 use Rattle.element.specs.declared.NumberedAddress.{NumberedAddress}
 use Rattle.element.specs.declared.PathInfo.{PathInfo}
@@ -27,19 +27,12 @@ use Rattle.element.specs.Octets.{writeFrame}
 use Rattle.element.proofs.Scans.{each-length}
 use Rattle.element.proofs.Sizes.{frame-length}
 use Rattle.rules.specs.declared.Arrival.{Arrival}
-use Rattle.rules.specs.Decision.{refused, accepted, decide}
-use Rattle.rules.specs.NextHop.{alongRow}
-use Rattle.rules.specs.Onward.{onward, toAll, towards, rannOnward, rrepOnward}
+use Rattle.rules.specs.Onward.{onward, sentTo, toAll, rannOnward, rrepOnward}
 use Rattle.rules.specs.Outcome.{Frame, frameOctets}
 use Rattle.rules.proofs.FrameOctets.{no-frame, one-frame}
 use Rattle.calls.specs.declared.Emitted.{Emitted}
-use Rattle.table_calls.specs.declared.next_hop.Hop.{Hop}
-use Rattle.table_calls.specs.declared.next_hop.Hop.the-variants.{Via, Refused}
 use Rattle.calls.specs.Answers.{emitted}
-use Rattle.table_calls.specs.Answers.{decisionOf}
-use Rattle.onward.specs.declared.receiver.Receiver.{Receiver}
-use Rattle.onward.specs.declared.receiver.Receiver.the-variants.{To, Nobody}
-use Rattle.onward.specs.Sent.{sentTo, activeHop, replyReceiver, rrepForward}
+use Rattle.onward.specs.Sent.{replyReceiver, rrepForward}
 
 -- ---- no frame, or one
 
@@ -85,69 +78,42 @@ module _ (a : Arrival) (p : PathInfo) where
     pub announcement-written : (s v : List ℕ) → v ≡ over s 0 (writeFrame allOnes (rann q)) → v ≡ over s 0 (frameOctets (rannOnward a p))
     announcement-written s v = one-written (rannOnward a p) allOnes (rann q) announcement-goes s v 0
 
--- ---- to whom
-
--- the active next hop, as `alongRow` decides it
-module _ (c : ℕ) (h : Hop) where
-  pub hop-active : (o : Option Row) → decisionOf h ≡ decide (alongRow c o) → (next : Address) → h ≡ Via next → To next ≡ activeHop c o
-  unfolding alongRow activeHop
-  hop-active none e next he = let z : _≡_ {A = ℕ} 0 1 = cc in absurd (omega arith)
-  hop-active (some r) e next he = by (active c r) (ap decisionOf (sym he) ∙ e)
-    where
-      by : (b : Bool) → accepted next ≡ cond (not b) (refused 28) (accepted (r .next)) → To next ≡ cond b (To (r .next)) Nobody
-      by true e = cc
-      by false e = let z : _≡_ {A = ℕ} 0 1 = cc in absurd (omega arith)
-
-  pub hop-none : (o : Option Row) → decisionOf h ≡ decide (alongRow c o) → (n : ℕ) → h ≡ Refused n → Nobody ≡ activeHop c o
-  unfolding alongRow activeHop
-  hop-none none e n he = refl
-  hop-none (some r) e n he = by (active c r) (ap decisionOf (sym he) ∙ e)
-    where
-      by : (b : Bool) → refused n ≡ cond (not b) (refused 28) (accepted (r .next)) → Nobody ≡ cond b (To (r .next)) Nobody
-      by true e = let z : _≡_ {A = ℕ} 0 1 = cc in absurd (omega arith)
-      by false e = refl
-
-pub towards-is : (c : ℕ) (e : Element) (o : Option Row) → towards c e o ≡ sentTo e (activeHop c o)
-unfolding towards activeHop
-towards-is c e none = refl
-towards-is c e (some r) = by (active c r)
-  where
-    by : (b : Bool) → cond b (record { receiver = r .next; element = e } ∷ []) [] ≡ sentTo e (cond b (To (r .next)) Nobody)
-    by true = refl
-    by false = refl
-
 -- ---- a RREP
 
-module _ (g : RrepFields) (part : List ℕ) (x : Receiver) where
+module _ (g : RrepFields) (part : List ℕ) (x : NextHop) where
   abbrev sentReply : List Frame
-  sentReply = sentTo (rrep g (numberedIn part)) x
+  sentReply = sentTo (rrep g (numberedIn part)) (hopIn x)
+
+  sent-by : (y : NextHop) → x ≡ y → sentReply ≡ sentTo (rrep g (numberedIn part)) (hopIn y)
+  sent-by y e = ap (λ (z : NextHop). sentTo (rrep g (numberedIn part)) (hopIn z)) e
 
   module _ (e : x ≡ Nobody) where
     pub reply-none : (em : Emitted) → em ≡ emitted [] → em ≡ emitted sentReply
-    reply-none = none-counted sentReply (ap (sentTo (rrep g (numberedIn part))) e)
+    reply-none = none-counted sentReply (sent-by Nobody e)
 
     pub reply-unwritten : (s : List ℕ) → s ≡ over s 0 (frameOctets sentReply)
-    reply-unwritten s = none-written sentReply (ap (sentTo (rrep g (numberedIn part))) e) s 0
+    reply-unwritten s = none-written sentReply (sent-by Nobody e) s 0
 
   module _ (to : Address) (e : x ≡ To to) where
     pub reply-counted : (octets : ℕ) → octets ≡ 0 + 40 + length part → length part % 10 ≡ 0 → (em : Emitted) → em ≡ record { frames = 1; octets = octets }
         → em ≡ emitted sentReply
     reply-counted octets size whole =
-        one-counted sentReply to (rrep g (numberedIn part)) (ap (sentTo (rrep g (numberedIn part))) e) octets
+        one-counted sentReply to (rrep g (numberedIn part)) (sent-by (To to) e) octets
         (omega (arith, size, whole, each-length (numberedAt part) 0 (length part / 10)))
 
     pub reply-written : (s v : List ℕ) → v ≡ over s 0 (writeFrame to (rrep g (numberedIn part))) → v ≡ over s 0 (frameOctets sentReply)
-    reply-written s v = one-written sentReply to (rrep g (numberedIn part)) (ap (sentTo (rrep g (numberedIn part))) e) s v 0
+    reply-written s v = one-written sentReply to (rrep g (numberedIn part)) (sent-by (To to) e) s v 0
 
 pub reply-room : (n k : ℕ) → n ≡ 0 + 40 + k → k ≤ 220 → n ≤ 1560
 reply-room n k e l = omega arith
 
 module _ (t : List ℕ) (c : ℕ) (source : Address) (h : Head) (he : h ≡ headAt t) where
-  pub source-own : source .0 ≡ h .own .0 → Nobody ≡ replyReceiver t c source
+  pub source-own : source .0 ≡ h .own .0 → none ≡ replyReceiver t c source
   unfolding replyReceiver
   source-own e = rw (is-own t h he source e)
 
-  pub source-other : (source .0 ≡ h .own .0 → ⊥) → (x : Receiver) → x ≡ activeHop c (rowFor t source) → x ≡ replyReceiver t c source
+  pub source-other : (source .0 ≡ h .own .0 → ⊥) → (x : NextHop) → hopIn x ≡ activeNext c (rowFor t source)
+      → hopIn x ≡ replyReceiver t c source
   unfolding replyReceiver
   source-other e x xe = rw (is-other t h he source e) xe
 
@@ -162,19 +128,19 @@ module _ (t : List ℕ) (a : Arrival) (f : RrepFields) (part : List ℕ) where
       e : Element
       e = rrep (rrepForward a f) dependents
 
-      o : Option Row
-      o = rowFor t (f .source .address)
+      o : Option Address
+      o = activeNext (a .clock) (rowFor t (f .source .address))
 
-      by : (b : Bool) → cond b [] (towards (a .clock) e o) ≡ sentTo e (cond b Nobody (activeHop (a .clock) o))
+      by : (b : Bool) → cond b [] (sentTo e o) ≡ sentTo e (cond b none o)
       by true = refl
-      by false = towards-is (a .clock) e o
+      by false = refl
 
-  module _ (x : Receiver) (xe : x ≡ replyReceiver t (a .clock) (f .source .address)) (g : RrepFields) (ge : g ≡ rrepForward a f) where
-    replied-by : sentTo (rrep g dependents) x ≡ rrepOnward t a f dependents
-    replied-by = ap₂ (λ (k : RrepFields) (y : Receiver). sentTo (rrep k dependents) y) ge xe ∙ sym reply-is
+  module _ (x : NextHop) (xe : hopIn x ≡ replyReceiver t (a .clock) (f .source .address)) (g : RrepFields) (ge : g ≡ rrepForward a f) where
+    replied-by : sentTo (rrep g dependents) (hopIn x) ≡ rrepOnward t a f dependents
+    replied-by = ap₂ (λ (k : RrepFields) (y : Option Address). sentTo (rrep k dependents) y) ge xe ∙ sym reply-is
 
-    pub reply-goes-counted : (em : Emitted) → em ≡ emitted (sentTo (rrep g dependents) x) → em ≡ emitted (rrepOnward t a f dependents)
+    pub reply-goes-counted : (em : Emitted) → em ≡ emitted (sentTo (rrep g dependents) (hopIn x)) → em ≡ emitted (rrepOnward t a f dependents)
     reply-goes-counted em eme = eme ∙ ap emitted replied-by
 
-    pub reply-goes-written : (s v : List ℕ) → v ≡ over s 0 (frameOctets (sentTo (rrep g dependents) x)) → v ≡ over s 0 (frameOctets (rrepOnward t a f dependents))
+    pub reply-goes-written : (s v : List ℕ) → v ≡ over s 0 (frameOctets (sentTo (rrep g dependents) (hopIn x))) → v ≡ over s 0 (frameOctets (rrepOnward t a f dependents))
     reply-goes-written s v ve = ve ∙ ap (λ (l : List Frame). over s 0 (frameOctets l)) replied-by

@@ -3,12 +3,15 @@ use Prim.Native.Nat.{ℕ, _+_, _-_, _*_, _/_, _<_, _≤_}
 use mathlib.Core.Path.{_≡_, refl, sym, ap, subst, _∙_}
 use mathlib.Core.Bool.{Bool, true, false, not, cond}
 use mathlib.Core.List.{List, [], _∷_, append-nil, flatMap}
+use mathlib.Core.Option.{Option, none, some}
 use lib.ListN.{length}
 use native.Mathlib.Omega.{arith}
 use borrow.Author.Tests.{lt-ltb, le-ltb, ltb-false, not-true, not-false}
 use Rattle.octets.specs.LittleEndian.{over}
 use Rattle.table.specs.declared.address.Address.{Address}
-use Rattle.table.specs.Table.{rowFor}
+use Rattle.table.specs.declared.search.NextHop.{NextHop}
+use Rattle.table.specs.declared.search.NextHop.the-variants.{To, Nobody}
+use Rattle.table.specs.Table.{rowFor, activeNext, hopIn}
 use Rattle.element.specs.declared.Kind.the-variants.{Rreq}
 use Rattle.element.specs.declared.PathInfo.{PathInfo}
 use Rattle.element.specs.declared.RreqFields.{RreqFields}
@@ -20,25 +23,24 @@ use Rattle.element.specs.Octets.{frameStart}
 use Rattle.element.proofs.Written.{started-last}
 use Rattle.rules.specs.declared.Arrival.{Arrival}
 use Rattle.element.specs.Flags.{unicast}
-use Rattle.rules.specs.Onward.{onward, toAll, towards, rreqOnward}
+use Rattle.rules.specs.Onward.{onward, sentTo, toAll, rreqOnward}
 use Rattle.rules.specs.Outcome.{Frame, frameOctets}
 use Rattle.calls.specs.declared.Emitted.{Emitted}
 use Rattle.calls.specs.Answers.{emitted}
 use Rattle.onward.specs.Kept.{keptOf, keptAmong}
 use Rattle.onward.proofs.KeptOnes.{kept-address, kept-few}
-use Rattle.onward.specs.declared.receiver.Receiver.{Receiver}
-use Rattle.onward.specs.declared.receiver.Receiver.the-variants.{To, Nobody}
-use Rattle.onward.specs.Sent.{sentTo, activeHop, requestReceiver, rreqForward, sentWith, keptSentTo, requestSent, unicastToSeveral}
-use Rattle.onward.proofs.Going.{none-counted, none-written, one-counted, one-written, towards-is}
+use Rattle.onward.specs.Sent.{requestReceiver, rreqForward, sentWith, keptSentTo, requestSent, unicastToSeveral}
+use Rattle.onward.proofs.Going.{none-counted, none-written, one-counted, one-written}
 
 -- ---- to whom
 
 module _ (t : List ℕ) (c : ℕ) (p : PathInfo) (part : List ℕ) (b : Bool) (be : b ≡ unicast p) where
-  pub to-all : not b ≡ true → To allOnes ≡ requestReceiver t c p part
+  pub to-all : not b ≡ true → some allOnes ≡ requestReceiver t c p part
   unfolding requestReceiver
   to-all e = rw (← be, not-true b e)
 
-  pub to-one : not b ≡ false → (q : Target) → q ≡ targetAt part 0 → (x : Receiver) → x ≡ activeHop c (rowFor t (q .address)) → x ≡ requestReceiver t c p part
+  pub to-one : not b ≡ false → (q : Target) → q ≡ targetAt part 0 → (x : NextHop) → hopIn x ≡ activeNext c (rowFor t (q .address))
+      → hopIn x ≡ requestReceiver t c p part
   unfolding requestReceiver
   to-one e q qe x xe = rw (← be, not-false b e, ← qe) xe
 
@@ -102,10 +104,11 @@ module _ (t : List ℕ) (c : ℕ) (part : List ℕ) (to : Address) (f : RreqFiel
 
 -- ---- to its receiver, if there is one
 
-module _ (t : List ℕ) (c : ℕ) (f : RreqFields) (part : List ℕ) (x : Receiver) (xe : x ≡ requestReceiver t c (f .path) part) where
-  sent-by : (y : Receiver) → x ≡ y → requestSent t c f part ≡ keptSentTo f (keptAmong t c part) y
+module _ (t : List ℕ) (c : ℕ) (f : RreqFields) (part : List ℕ) (x : NextHop)
+    (xe : hopIn x ≡ requestReceiver t c (f .path) part) where
+  sent-by : (y : NextHop) → x ≡ y → requestSent t c f part ≡ keptSentTo f (keptAmong t c part) (hopIn y)
   unfolding requestSent
-  sent-by y e = ap (keptSentTo f (keptAmong t c part)) (sym xe ∙ e)
+  sent-by y e = ap (keptSentTo f (keptAmong t c part)) (sym xe ∙ ap hopIn e)
 
   module _ (e : x ≡ Nobody) where
     pub request-none : (em : Emitted) → em ≡ emitted [] → em ≡ emitted (requestSent t c f part)
@@ -139,32 +142,32 @@ module _ (t : List ℕ) (a : Arrival) (f : RreqFields) where
 
   -- to an address d for its first kept destination
   module _ (left : 2 ≤ f .path .ttl) (d : Address) where
-    abbrev receiverFor : Bool → Receiver
-    receiverFor b = cond b (activeHop (a .clock) (rowFor t d)) (To allOnes)
+    abbrev receiverFor : Bool → Option Address
+    receiverFor b = cond b (activeNext (a .clock) (rowFor t d)) (some allOnes)
 
-    sent-as : (q : Target) (qs : List Target) (x : Receiver) → sentTo (rreq (rreqForward a f) (q ∷ qs)) x ≡ keptSentTo (rreqForward a f) (q ∷ qs) x
+    sent-as : (q : Target) (qs : List Target) (x : Option Address) → sentTo (rreq (rreqForward a f) (q ∷ qs)) x ≡ keptSentTo (rreqForward a f) (q ∷ qs) x
     unfolding sentWith
-    sent-as q qs (To to) = refl
-    sent-as q qs Nobody = refl
+    sent-as q qs (some to) = refl
+    sent-as q qs none = refl
 
     goes-by : (kept : List Target) → (unicast (f .path) ≡ true → All (λ (k : Target). k .address ≡ d) kept)
         → rreqOnward t a f kept ≡ keptSentTo (rreqForward a f) kept (receiverFor (unicast (f .path)))
     unfolding rreqOnward sentWith All
     goes-by [] h = by (receiverFor (unicast (f .path)))
       where
-        by : (x : Receiver) → [] ≡ keptSentTo (rreqForward a f) [] x
-        by (To to) = refl
-        by Nobody = refl
+        by : (x : Option Address) → [] ≡ keptSentTo (rreqForward a f) [] x
+        by (some to) = refl
+        by none = refl
     goes-by (q ∷ qs) h = rw (le-ltb (f .path .ttl) 2 left) (by (unicast (f .path)) h)
       where
         e : Element
         e = rreq (rreqForward a f) (q ∷ qs)
 
         by : (b : Bool) → (b ≡ true → All (λ (k : Target). k .address ≡ d) (q ∷ qs))
-            → cond b (towards (a .clock) e (rowFor t (q .address))) (toAll e) ≡ keptSentTo (rreqForward a f) (q ∷ qs) (receiverFor b)
+            → cond b (sentTo e (activeNext (a .clock) (rowFor t (q .address)))) (toAll e) ≡ keptSentTo (rreqForward a f) (q ∷ qs) (receiverFor b)
         by true h =
-            towards-is (a .clock) e (rowFor t (q .address)) ∙ ap (λ (k : Address). sentTo e (activeHop (a .clock) (rowFor t k))) (h refl .0)
-            ∙ sent-as q qs (activeHop (a .clock) (rowFor t d))
+            ap (λ (k : Address). sentTo e (activeNext (a .clock) (rowFor t k))) (h refl .0)
+            ∙ sent-as q qs (activeNext (a .clock) (rowFor t d))
         by false h = refl
 
   module _ (part : List ℕ) (left : 2 ≤ f .path .ttl) (some-target : 11 ≤ length part) (one-target : unicastToSeveral (f .path) part ≡ false) where

@@ -1,5 +1,5 @@
--- To whom an element goes on, and what is then sent. For the code's own functions: `towards-is`, `reply-is` and `request-is` say
--- that the rules' frames are these. Assumes nothing.
+-- To whom an element goes on, and what is then sent. For the code's own functions: `reply-is` and `request-is` say that the
+-- rules' frames are these. Assumes nothing.
 use Prim.Native.Nat.{ℕ, _/_}
 use mathlib.Core.Bool.{Bool, _&&_, cond}
 use mathlib.Core.List.{List, [], _∷_}
@@ -7,15 +7,13 @@ use mathlib.Core.Option.{Option, none, some}
 use lib.Dec.{ltb}
 use lib.ListN.{length}
 use Rattle.table.specs.declared.address.Address.{Address}
-use Rattle.table.specs.declared.row.Row.{Row}
 use Rattle.table.specs.Address.{same}
-use Rattle.table.specs.Row.{active}
-use Rattle.table.specs.Table.{own, rowFor}
+use Rattle.table.specs.Table.{own, rowFor, activeNext}
 use Rattle.element.specs.declared.PathInfo.{PathInfo}
 use Rattle.element.specs.declared.RrepFields.{RrepFields}
 use Rattle.element.specs.declared.RreqFields.{RreqFields}
 use Rattle.element.specs.declared.Target.{Target}
-use Rattle.element.specs.Element.{Element, rreq}
+use Rattle.element.specs.Element.{rreq}
 use Rattle.element.specs.Entries.{targetAt}
 use Rattle.element.specs.Lists.{allOnes}
 use Rattle.rules.specs.declared.Arrival.{Arrival}
@@ -23,23 +21,11 @@ use Rattle.element.specs.Flags.{unicast}
 use Rattle.rules.specs.Onward.{onward}
 use Rattle.rules.specs.Outcome.{Frame}
 use Rattle.onward.specs.Kept.{keptAmong}
-use Rattle.onward.specs.declared.receiver.Receiver.{Receiver}
-use Rattle.onward.specs.declared.receiver.Receiver.the-variants.{To, Nobody}
-
--- an element to a receiver, if there is one
-abbrev pub sentTo : Element → Receiver → List Frame
-sentTo e (To to) = record { receiver = to; element = e } ∷ []
-sentTo e Nobody = []
-
--- the next hop of a row, if that is active
-unfoldable pub activeHop : ℕ → Option Row → Receiver
-activeHop c none = Nobody
-activeHop c (some r) = cond (active c r) (To (r .next)) Nobody
 
 -- ---- a RREP
 
-unfoldable pub replyReceiver : List ℕ → ℕ → Address → Receiver
-replyReceiver t c source = cond (same source (own t)) Nobody (activeHop c (rowFor t source))
+unfoldable pub replyReceiver : List ℕ → ℕ → Address → Option Address
+replyReceiver t c source = cond (same source (own t)) none (activeNext c (rowFor t source))
 
 abbrev pub rrepForward : Arrival → RrepFields → RrepFields
 rrepForward a f = record { path = onward a (f .path); source = f .source }
@@ -50,8 +36,8 @@ rrepForward a f = record { path = onward a (f .path); source = f .source }
 unfoldable pub unicastToSeveral : PathInfo → List ℕ → Bool
 unicastToSeveral p part = unicast p && ltb 1 (length part / 11)
 
-unfoldable pub requestReceiver : List ℕ → ℕ → PathInfo → List ℕ → Receiver
-requestReceiver t c p part = cond (unicast p) (activeHop c (rowFor t (targetAt part 0 .address))) (To allOnes)
+unfoldable pub requestReceiver : List ℕ → ℕ → PathInfo → List ℕ → Option Address
+requestReceiver t c p part = cond (unicast p) (activeNext c (rowFor t (targetAt part 0 .address))) (some allOnes)
 
 abbrev pub rreqForward : Arrival → RreqFields → RreqFields
 rreqForward a f = record { request = f .request; path = onward a (f .path) }
@@ -62,9 +48,9 @@ sentWith to f [] = []
 sentWith to f (q ∷ qs) = record { receiver = to; element = rreq f (q ∷ qs) } ∷ []
 
 -- the same to a receiver, if there is one
-abbrev pub keptSentTo : RreqFields → List Target → Receiver → List Frame
-keptSentTo f kept (To to) = sentWith to f kept
-keptSentTo f kept Nobody = []
+abbrev pub keptSentTo : RreqFields → List Target → Option Address → List Frame
+keptSentTo f kept (some to) = sentWith to f kept
+keptSentTo f kept none = []
 
 -- a RREQ with the destinations of part that are kept, to its receiver
 unfoldable pub requestSent : List ℕ → ℕ → RreqFields → List ℕ → List Frame

@@ -1,7 +1,6 @@
 // What goes on of a received RANN, RREQ or RREP, and to whom. The table is that after steps 1 and 2.
 pub mod announcement;
 mod kept;
-mod receiver;
 pub mod reply;
 pub mod request;
 

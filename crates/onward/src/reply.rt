@@ -1,33 +1,34 @@
 // A RREP goes on towards its source, with its dependents unread.
-use crate::receiver;
-use crate::receiver::Receiver;
 use calls::Emitted;
 use element::RrepFields;
 use element::write;
 use rules::Arrival;
 use table::address::Address;
 use table::row;
+use table::search;
+use table::search::NextHop;
 ghost use mathlib.Core.Path.{_≡_};
 ghost use Prim.Native.Nat.{_+_, _%_, _<_, _≤_};
 ghost use lib.ListN.{length};
 ghost use Rattle.octets.specs.LittleEndian.{over};
 ghost use Rattle.element.specs.Entries.{numberedIn};
 ghost use Rattle.element.specs.Element.{rrep};
-ghost use Rattle.rules.specs.Onward.{rrepOnward};
+ghost use Rattle.rules.specs.Onward.{rrepOnward, sentTo};
 ghost use Rattle.rules.specs.Outcome.{frameOctets};
 ghost use Rattle.calls.specs.Answers.{emitted};
-ghost use Rattle.onward.specs.Sent.{replyReceiver, rrepForward, sentTo};
+ghost use Rattle.onward.specs.Sent.{replyReceiver, rrepForward};
 ghost use Rattle.table.specs.Layout.{Sized};
+ghost use Rattle.table.specs.Table.{hopIn};
 
 // To nobody if the source is this point.
-fn receiver_of(table: &[u8], clock: u64, source: Address) -> Receiver
+fn receiver_of(table: &[u8], clock: u64, source: Address) -> NextHop
     requires { ⌜ Sized (now table) ⌝ }
-    ensures { λ r. ⌜ r ≡ replyReceiver (now (table .entry)) clock source ⌝ }
+    ensures { λ r. ⌜ hopIn r ≡ replyReceiver (now (table .entry)) clock source ⌝ }
 {
     if source.0 == row::read_head(table).own.0 {
-        return Receiver::Nobody;
+        return NextHop::Nobody;
     }
-    receiver::active_hop(table, clock, source)
+    search::active_next(table, clock, source)
 }
 
 fn fields_onward(a: Arrival, f: RrepFields) -> RrepFields
@@ -42,14 +43,14 @@ fn fields_onward(a: Arrival, f: RrepFields) -> RrepFields
 }
 
 // A RREP to this receiver, if there is one.
-fn send_to(output: &mut [u8], receiver: Receiver, f: RrepFields, part: &[u8]) -> Emitted
+fn send_to(output: &mut [u8], receiver: NextHop, f: RrepFields, part: &[u8]) -> Emitted
     requires { ⌜ length (now part) ≤ 220 ⌝ }
     requires { ⌜ length (now part) % 10 ≡ 0 ⌝ }
     requires { ⌜ 1560 ≤ length (now output) ⌝ }
-    ensures { λ r. ⌜ r ≡ emitted (sentTo (rrep f (numberedIn (now (part .entry)))) receiver) ⌝ }
-    ensures { λ _. ⌜ now (output .exit) ≡ over (now (output .entry)) 0 (frameOctets (sentTo (rrep f (numberedIn (now (part .entry)))) receiver)) ⌝ }
+    ensures { λ r. ⌜ r ≡ emitted (sentTo (rrep f (numberedIn (now (part .entry)))) (hopIn receiver)) ⌝ }
+    ensures { λ _. ⌜ now (output .exit) ≡ over (now (output .entry)) 0 (frameOctets (sentTo (rrep f (numberedIn (now (part .entry)))) (hopIn receiver))) ⌝ }
 {
-    let Receiver::To(next) = receiver else {
+    let NextHop::To(next) = receiver else {
         return Emitted::nothing();
     };
     let octets = write::write_rrep(output, 0, next, f, part);

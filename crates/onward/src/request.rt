@@ -1,7 +1,5 @@
 // A RREQ goes on with the destinations that are kept.
 use crate::kept;
-use crate::receiver;
-use crate::receiver::Receiver;
 use calls::Emitted;
 use element::PathInfo;
 use element::RreqFields;
@@ -10,6 +8,8 @@ use element::list;
 use element::write;
 use rules::Arrival;
 use table::address::Address;
+use table::search;
+use table::search::NextHop;
 ghost use mathlib.Core.Path.{_≡_};
 ghost use mathlib.Core.Bool.{false};
 ghost use Prim.Native.Nat.{_+_, _<_, _≤_};
@@ -21,17 +21,18 @@ ghost use Rattle.calls.specs.Answers.{emitted};
 ghost use Rattle.onward.specs.Kept.{keptAmong};
 ghost use Rattle.onward.specs.Sent.{requestReceiver, requestSent, rreqForward, sentWith, unicastToSeveral};
 ghost use Rattle.table.specs.Layout.{Sized};
+ghost use Rattle.table.specs.Table.{hopIn};
 
 // All ones, or if unicast the active next hop of its destination.
-fn receiver_of(table: &[u8], clock: u64, p: PathInfo, part: &[u8]) -> Receiver
+fn receiver_of(table: &[u8], clock: u64, p: PathInfo, part: &[u8]) -> NextHop
     requires { ⌜ Sized (now table) ⌝ }
     requires { ⌜ 11 ≤ length (now part) ⌝ }
-    ensures { λ r. ⌜ r ≡ requestReceiver (now (table .entry)) clock p (now (part .entry)) ⌝ }
+    ensures { λ r. ⌜ hopIn r ≡ requestReceiver (now (table .entry)) clock p (now (part .entry)) ⌝ }
 {
     if !flags::is_unicast(p) {
-        return Receiver::To(Address(list::ALL_ONES));
+        return NextHop::To(Address(list::ALL_ONES));
     }
-    receiver::active_hop(table, clock, list::target_at(part, 0).address)
+    search::active_next(table, clock, list::target_at(part, 0).address)
 }
 
 fn fields_onward(a: Arrival, f: RreqFields) -> RreqFields
@@ -88,8 +89,8 @@ fn send(
     ensures { λ _. ⌜ now (output .exit) ≡ over (now (output .entry)) at (frameOctets (requestSent (now (table .entry)) clock f (now (part .entry)))) ⌝ }
 {
     match receiver_of(table, clock, f.path, part) {
-        Receiver::To(to) => send_kept(output, at, to, f, table, clock, part),
-        Receiver::Nobody => Emitted::nothing(),
+        NextHop::To(to) => send_kept(output, at, to, f, table, clock, part),
+        NextHop::Nobody => Emitted::nothing(),
     }
 }
 

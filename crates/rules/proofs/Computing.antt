@@ -8,7 +8,7 @@ use Rattle.table.specs.Address.{individual}
 use Rattle.table.specs.Layout.{sized, headAt, putHead, allZero, rowAt, putRow}
 use Rattle.table.specs.Row.{headWith, headOk, isFree, isUnnumbered, isOther, statusOk, boundsOk, isHeld, rowOk, active, renewed, numbered, invalidated, raised, isThrough}
 use Rattle.table.specs.Places.{first, count, every}
-use Rattle.table.specs.Table.{vacant, holds, findRow, rowFor, freeRows, firstFree, alone, isTable, fresh, placeFor, store, freed, changeBelow, changeWhere}
+use Rattle.table.specs.Table.{vacant, holds, findRow, rowFor, activeNext, freeRows, firstFree, alone, isTable, fresh, placeFor, store, freed, changeBelow, changeWhere}
 use Rattle.element.specs.Layout.{known, kindWith, fits}
 use Rattle.element.specs.Entries.{each, numberedAt, numberedOctets, targetAt, targetOctets, itemAt}
 use Rattle.element.specs.Octets.{wrongLength, otherId, misfit, readAs, readElement, fixedOctets, writeElement, writeFrame}
@@ -18,10 +18,10 @@ use Rattle.element.specs.Flags.{bit, withDO}
 use Rattle.rules.specs.Outcome.{frameOctets, atExit}
 use Rattle.rules.specs.Fresh.{makeFresh}
 use Rattle.rules.specs.Forget.{forget}
-use Rattle.rules.specs.NextHop.{alongRow, nextHop}
+use Rattle.rules.specs.NextHop.{nextHop}
 use Rattle.rules.specs.Learn.{expiryOf, subjectRow, transmitterRow, takesLink, subjectLearnt, transmitterLearnt, learnt}
 use Rattle.rules.specs.Destinations.{reply, answeredNumber, answersFor, forOneself, forAllOnes, forAnother, answered, allAnswered}
-use Rattle.rules.specs.Onward.{onward, towards, rannOnward, rreqOnward, rrepOnward}
+use Rattle.rules.specs.Onward.{onward, rannOnward, rreqOnward, rrepOnward}
 use Rattle.rules.specs.Errors.{isLostBy, matches, numberBeside, isMatch, erredWith, erred, broken, brokenEntry, brokenEntries, errorAt, errorsFor}
 use Rattle.rules.specs.Receive.{hasBadAddress, severalOrAll, hasBadList, isLowTtlReply, isStaleFor, isStale, matchesNothing, rowsNeeded, rannReceived, rrepReceived, rreqReceived, rerrReceived, received, receive}
 use Rattle.rules.specs.Originate.{numberedHead, ownPath, announced, requested, itemsFit, knownNumber, askedFor, asking, ask, announce, isRootFlags, rootRequest}
@@ -33,14 +33,14 @@ unfoldable pub computing : Unit {0}
 unfolding flatMap numberOctets numberAt over withNumber fieldsAt withFields fieldOctets
     stepped advancedFor wrapped newer older
     individual sized headAt putHead allZero rowAt putRow headWith headOk isFree isUnnumbered isOther statusOk boundsOk isHeld rowOk
-    active renewed numbered invalidated raised first count every vacant holds findRow rowFor freeRows firstFree alone
+    active renewed numbered invalidated raised first count every vacant holds findRow rowFor activeNext freeRows firstFree alone
     isTable fresh placeFor store freed changeBelow changeWhere
     known kindWith fits each numberedAt numberedOctets targetAt targetOctets itemAt wrongLength otherId misfit readAs readElement
     fixedOctets writeElement writeFrame entriesIn addressesFrom allowed anyForbidden among twice onesBesideOthers
-    any all those bit withDO frameOctets atExit makeFresh forget alongRow nextHop
+    any all those bit withDO frameOctets atExit makeFresh forget nextHop
     expiryOf subjectRow transmitterRow takesLink subjectLearnt transmitterLearnt learnt
     reply answeredNumber answersFor forOneself forAllOnes forAnother answered allAnswered
-    onward towards rannOnward rreqOnward rrepOnward
+    onward rannOnward rreqOnward rrepOnward
     isThrough isLostBy matches numberBeside isMatch erredWith erred broken brokenEntry brokenEntries errorAt errorsFor
     hasBadAddress severalOrAll hasBadList isLowTtlReply isStaleFor isStale matchesNothing rowsNeeded
     rannReceived rrepReceived rreqReceived rerrReceived received receive

@@ -14,7 +14,7 @@ use Rattle.table.specs.declared.address.Address.{Address}
 use Rattle.table.specs.declared.row.Row.{Row}
 use Rattle.table.specs.Address.{same}
 use Rattle.table.specs.Row.{active}
-use Rattle.table.specs.Table.{own, rowFor}
+use Rattle.table.specs.Table.{own, rowFor, activeNext}
 use Rattle.element.specs.declared.NumberedAddress.{NumberedAddress}
 use Rattle.element.specs.declared.PathInfo.{PathInfo}
 use Rattle.element.specs.declared.RreqFields.{RreqFields}
@@ -28,7 +28,7 @@ use Rattle.element.specs.Flags.{replyWanted, unicast, hasDO}
 use Rattle.rules.specs.Outcome.{Frame}
 use Rattle.rules.specs.declared.Arrival.{Arrival}
 use Rattle.rules.specs.Destinations.{Answered, ownReply, rowReply, answeredNumber, answersFor, forOneself, forAllOnes, forAnother, answered, allAnswered}
-use Rattle.rules.specs.Onward.{onward, toAll, towards, ifTtlLeft, rannOnward, rreqOnward, rrepOnward}
+use Rattle.rules.specs.Onward.{onward, sentTo, toAll, ifTtlLeft, rannOnward, rreqOnward, rrepOnward}
 use Rattle.rules.specs.Errors.{errorAt, errorsFor}
 use Rattle.rules.proofs.Branches.{cond-cases}
 use Rattle.rules.proofs.Alls.{all-append, all-between}
@@ -63,10 +63,9 @@ module _ (Q : Element → Type 0) where
 
   -- ---- what goes on
 
-  towards-emitted : (c : ℕ) (e : Element) → Q e → (next : Option Row) → Emits Q 1 (towards c e next)
-  unfolding towards
-  towards-emitted c e h none = none-emitted 1
-  towards-emitted c e h (some r) = cond-cases (Emits Q 1) (active c r) (λ _. one-emitted _ h) (λ _. none-emitted 1)
+  sent-emitted : (e : Element) → Q e → (to : Option Address) → Emits Q 1 (sentTo e to)
+  sent-emitted e h none = none-emitted 1
+  sent-emitted e h (some to) = one-emitted _ h
 
   if-ttl-left-emitted : (p : PathInfo) (frames : List Frame) → Emits Q 1 frames → Emits Q 1 (ifTtlLeft p frames)
   if-ttl-left-emitted p frames h = cond-cases (Emits Q 1) (ltb (p .ttl) 2) (λ _. none-emitted 1) (λ _. h)
@@ -82,7 +81,7 @@ module _ (Q : Element → Type 0) where
     rreq-emitted f [] h = none-emitted 1
     rreq-emitted f (q ∷ qs) h =
         if-ttl-left-emitted (f .path) _
-        (cond-cases (Emits Q 1) (unicast (f .path)) (λ _. towards-emitted (a .clock) _ (h (omega arith)) (rowFor u (q .address)))
+        (cond-cases (Emits Q 1) (unicast (f .path)) (λ _. sent-emitted _ (h (omega arith)) (activeNext (a .clock) (rowFor u (q .address))))
         (λ _. to-all-emitted _ (h (omega arith))))
 
     pub rrep-emitted : (f : RrepFields) (dependents : List NumberedAddress)
@@ -90,7 +89,7 @@ module _ (Q : Element → Type 0) where
     unfolding rrepOnward
     rrep-emitted f dependents h =
         cond-cases (Emits Q 1) (same (f .source .address) (own u)) (λ _. none-emitted 1)
-        (λ _. towards-emitted (a .clock) _ h (rowFor u (f .source .address)))
+        (λ _. sent-emitted _ h (activeNext (a .clock) (rowFor u (f .source .address))))
 
     -- ---- replies: for oneself, under a number that was stepped; and from a row of known number
 

@@ -6,6 +6,7 @@ use mathlib.Core.Option.{Option, none, some}
 use native.Mathlib.Omega.{arith}
 use Rattle.table.specs.declared.address.Address.{Address}
 use Rattle.table.specs.Address.{same}
+use Rattle.table.specs.Table.{activeNext}
 use Rattle.rules.specs.Decision.{accepted}
 use Rattle.rules.specs.Walk.{Walked, tablesIn, rowOfPoint, leadsTo, goOn, follow, walking, walk}
 use Rattle.rules.proofs.Branches.{cond-cases}
@@ -24,7 +25,7 @@ module _ (tables : List (List ℕ)) (c : ℕ) (d : Address) where
   hops-in (suc remaining) a hops =
       cond-cases (λ (w : Walked). w .hops ≤ hops + suc remaining) (same a d)
       (λ _. omega arith)
-      (λ _. on (leadsTo tables c d (rowOfPoint tables a d)) hops (hops + suc remaining) (follow tables c d remaining) (omega arith)
+      (λ _. on (leadsTo tables c d (activeNext c (rowOfPoint tables a d))) hops (hops + suc remaining) (follow tables c d remaining) (omega arith)
       (λ next. let rest = hops-in remaining next (hops + 1) in omega arith))
 
 pub walk-hops : (s : List ℕ) (count c : ℕ) (start d : Address) (w : Walked) → walk s count c start d ≡ accepted w → w .hops ≤ count

@@ -4,10 +4,10 @@ use mathlib.Core.Bool.{cond}
 use mathlib.Core.List.{List, [], _∷_}
 use mathlib.Core.Option.{Option, none, some}
 use lib.Dec.{ltb}
+use Rattle.table.specs.declared.address.Address.{Address}
 use Rattle.table.specs.declared.row.Row.{Row}
 use Rattle.table.specs.Address.{same}
-use Rattle.table.specs.Row.{active}
-use Rattle.table.specs.Table.{own, rowFor}
+use Rattle.table.specs.Table.{own, rowFor, activeNext}
 use Rattle.element.specs.declared.PathInfo.{PathInfo}
 use Rattle.element.specs.declared.NumberedAddress.{NumberedAddress}
 use Rattle.element.specs.declared.Target.{Target}
@@ -33,13 +33,17 @@ onward a p =
       metric = metricHere a p;
     }
 
-abbrev pub toAll : Element → List Frame
-toAll e = record { receiver = allOnes; element = e } ∷ []
+-- Returns the frame with this element to a receiver, or no frame if there is none.
+abbrev pub sentTo : Element → Option Address → List Frame
+sentTo e none = []
+sentTo e (some to) = record { receiver = to; element = e } ∷ []
 
--- to the active next hop of a destination, and not at all if there is none
-unfoldable pub towards : ℕ → Element → Option Row → List Frame
-towards c e none = []
-towards c e (some r) = cond (active c r) (record { receiver = r .next; element = e } ∷ []) []
+abbrev pub toAll : Element → List Frame
+toAll e = sentTo e (some allOnes)
+
+-- to the active next hop of a row, and not at all if there is none
+abbrev pub towards : ℕ → Element → Option Row → List Frame
+towards c e row = sentTo e (activeNext c row)
 
 -- if TTL is at least 2
 abbrev pub ifTtlLeft : PathInfo → List Frame → List Frame

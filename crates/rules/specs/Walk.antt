@@ -9,9 +9,8 @@ use lib.ListN.{length, take, drop}
 use Rattle.table.specs.declared.address.Address.{Address}
 use Rattle.table.specs.declared.row.Row.{Row}
 use Rattle.table.specs.Address.{individual, same, addressOf}
-use Rattle.table.specs.Row.{active}
 use Rattle.table.specs.Layout.{sized}
-use Rattle.table.specs.Table.{clock, isTable, rowFor}
+use Rattle.table.specs.Table.{clock, isTable, rowFor, activeNext}
 use Rattle.element.specs.Entries.{each}
 use Rattle.element.specs.Lists.{among, twice}
 use Rattle.rules.specs.Decision.{Decision, refused, accepted, Ruling, decide, refuse_when_, _above_, _below_, accept, _>>_}
@@ -64,10 +63,10 @@ rowOfPoint (t ∷ tables) address destination =
     cond (same (addressOf t) address) (rowFor t destination) (rowOfPoint tables address destination)
 
 module _ (tables : List (List ℕ)) (c : ℕ) (destination : Address) where
-  -- where a row leads: to its next hop, if the row is active and that is the destination or a point
-  unfoldable pub leadsTo : Option Row → Option Address
+  -- Returns the next hop of an active row, if that is the destination or a point.
+  unfoldable pub leadsTo : Option Address → Option Address
   leadsTo none = none
-  leadsTo (some r) = cond (active c r && (same (r .next) destination || among (r .next) (points tables))) (some (r .next)) none
+  leadsTo (some next) = cond (same next destination || among next (points tables)) (some next) none
 
   -- nowhere to go on to: 41, and nothing more is counted
   abbrev pub goOn : Option Address → (hops : ℕ) → (Address → ℕ → Walked) → Walked
@@ -78,7 +77,8 @@ module _ (tables : List (List ℕ)) (c : ℕ) (destination : Address) where
   unfoldable pub follow : (remaining : ℕ) → Address → (hops : ℕ) → Walked
   follow zero at hops = cond (same at destination) (arrived hops) (tooLong hops)
   follow (suc remaining) at hops =
-      cond (same at destination) (arrived hops) (goOn (leadsTo (rowOfPoint tables at destination)) hops (follow remaining))
+      cond (same at destination) (arrived hops)
+      (goOn (leadsTo (activeNext c (rowOfPoint tables at destination))) hops (follow remaining))
 
 -- a refusal returns its number and else zeros, hops too
 abbrev pub walkedAtExit : Decision Walked → Walked

@@ -5,27 +5,28 @@ use mathlib.Core.Path.{_≡_, refl}
 use mathlib.Core.Bool.{Bool, true, false, not}
 use mathlib.Core.List.{List}
 use lib.ListN.{length}
-use borrow.Author.Tests.{not-true, not-false, lt-ltb, le-ltb}
+use borrow.Author.Tests.{lt-ltb, le-ltb}
 use Rattle.counters.specs.declared.SequenceNumber.{SequenceNumber}
 use Rattle.table.specs.declared.address.Address.{Address}
 use Rattle.table.specs.declared.row.Head.{Head}
 use Rattle.table.specs.declared.row.Row.{Row as TableRow}
 use Rattle.table.specs.declared.search.Found.{Found}
 use Rattle.table.specs.declared.search.Found.the-variants.{At, Nothing}
+use Rattle.table.specs.declared.search.NextHop.{NextHop}
+use Rattle.table.specs.declared.search.NextHop.the-variants.{To, Nobody}
 use Rattle.table.specs.Address.{individual}
-use Rattle.table.specs.Row.{freeRow, active}
-use Rattle.table.specs.Layout.{sized, place, headAt, rowAt, putRow, rowOctets, headOctets, Sized}
-use Rattle.table.specs.Table.{isTable, findRow, rowFor, fresh, freed}
-use Rattle.table.proofs.Cases.{of-size, found-within, row-at, row-none}
-use Rattle.rules.specs.Decision.{decide, left}
+use Rattle.table.specs.Row.{freeRow}
+use Rattle.table.specs.Layout.{sized, place, headAt, rowAt, putRow, rowOctets}
+use Rattle.table.specs.Table.{isTable, findRow, rowFor, activeNext, hopIn, fresh, freed}
+use Rattle.table.proofs.Cases.{found-within, row-at, row-none}
+use Rattle.rules.specs.Decision.{left}
 use Rattle.rules.specs.Fresh.{makeFresh}
 use Rattle.rules.specs.Forget.{forget}
-use Rattle.rules.specs.NextHop.{alongRow, nextHop}
+use Rattle.rules.specs.NextHop.{nextHop}
 use Rattle.calls.specs.declared.Answer.the-variants.{Accepted, Refused}
 use Rattle.calls.proofs.Checks.{passes-1}
 use Rattle.table_calls.specs.declared.forget.Check.{Check}
 use Rattle.table_calls.specs.declared.forget.Check.the-variants.{Row, Refused as Refusal}
-use Rattle.table_calls.specs.declared.next_hop.Hop.{Hop}
 use Rattle.table_calls.specs.declared.next_hop.Hop.the-variants.{Via, Refused as NoHop}
 use Rattle.calls.specs.Answers.{leaves}
 use Rattle.table_calls.specs.Answers.{decisionOf}
@@ -85,20 +86,6 @@ module _ (t : List ℕ) (d : Address) (k : Check) (ke : ToFree t d k) where
 
 -- ---- find a next hop
 
-module _ (t : List ℕ) (c : ℕ) (d : Address) (f : Found) (fe : f ≡ findRow t d) where
-  pub along-none : f ≡ Nothing → decisionOf (NoHop 28) ≡ decide (alongRow c (rowFor t d))
-  unfolding alongRow
-  along-none no-row = rw (row-none t d f fe no-row)
-
-  module _ (i : ℕ) (at-i : f ≡ At i) (r : TableRow) (re : r ≡ rowAt t i) (a : Bool) (ae : a ≡ active c r) where
-    pub along-inactive : not a ≡ true → decisionOf (NoHop 28) ≡ decide (alongRow c (rowFor t d))
-    unfolding alongRow
-    along-inactive no-a = rw (row-at t d f fe i at-i r re, ← ae, not-true a no-a)
-
-    pub along-row : not a ≡ false → decisionOf (Via (r .next)) ≡ decide (alongRow c (rowFor t d))
-    unfolding alongRow
-    along-row yes-a = rw (row-at t d f fe i at-i r re, ← ae, not-false a yes-a)
-
 module _ (t : List ℕ) (c : ℕ) (d : Address) (a : Bool) (ae : a ≡ sized t) where
   pub hop-1 : not a ≡ true → decisionOf (NoHop 1) ≡ nextHop t c d
   unfolding nextHop
@@ -124,6 +111,11 @@ module _ (t : List ℕ) (c : ℕ) (d : Address) (a : Bool) (ae : a ≡ sized t) 
           unfolding nextHop
           hop-22 l = cc (le-ltb 281474976710655 c in-time, lt-ltb c (h .clock) l)
 
-          pub hop-row : h .clock ≤ c → (o : Hop) → decisionOf o ≡ decide (alongRow c (rowFor t d)) → decisionOf o ≡ nextHop t c d
-          unfolding nextHop
-          hop-row l o oe = cc (le-ltb 281474976710655 c in-time, le-ltb c (h .clock) l)
+          module _ (in-order : h .clock ≤ c) (n : NextHop) (ne : hopIn n ≡ activeNext c (rowFor t d)) where
+            pub hop-28 : n ≡ Nobody → decisionOf (NoHop 28) ≡ nextHop t c d
+            unfolding nextHop
+            hop-28 nobody = cc (le-ltb 281474976710655 c in-time, le-ltb c (h .clock) in-order)
+
+            pub hop-via : (next : Address) → n ≡ To next → decisionOf (Via next) ≡ nextHop t c d
+            unfolding nextHop
+            hop-via next to-next = cc (le-ltb 281474976710655 c in-time, le-ltb c (h .clock) in-order)

@@ -1,65 +1,33 @@
 -- Where rows lead, and the way along them. Assumes nothing.
 use Prim.Native.Nat.{ℕ, zero, suc, _+_, _-_, _/_, _<_, _≤_}
 use mathlib.Core.Path.{_≡_, refl, sym, ap, _∙_}
-use mathlib.Core.Bool.{Bool, true, false, not, _&&_, _||_, cond, or-true}
+use mathlib.Core.Bool.{Bool, true, false, not, _||_, cond, or-true}
 use mathlib.Core.List.{List, [], _∷_}
-use mathlib.Core.Option.{Option, none, some, Option·none-ne-some, Option·some-injective}
+use mathlib.Core.Option.{Option, none, some, Option·none-ne-some}
 use lib.ListN.{length}
 use native.Mathlib.Omega.{arith}
 use native.Mathlib.Nat.{sub-zero}
 use borrow.Author.Tests.{eq-eqb, ne-eqb, not-true, not-false}
 use Rattle.table.specs.declared.address.Address.{Address}
 use Rattle.table.specs.declared.row.Row.{Row}
+use Rattle.table.specs.declared.search.NextHop.{NextHop}
+use Rattle.table.specs.declared.search.NextHop.the-variants.{To, Nobody}
 use Rattle.table.specs.Address.{addressOf, same}
-use Rattle.table.specs.Row.{active}
-use Rattle.table.specs.Table.{rowFor}
+use Rattle.table.specs.Table.{rowFor, activeNext, hopIn}
 use Rattle.element.specs.Entries.{each}
 use Rattle.element.specs.Lists.{among, twice}
 use Rattle.element.proofs.Scans.{each-next, each-end}
-use Rattle.rules.specs.Decision.{refused, accepted, decide}
-use Rattle.rules.specs.NextHop.{alongRow}
+use Rattle.rules.specs.Decision.{refused, accepted}
 use Rattle.rules.specs.Walk.{Walked, arrived, stopped, tooLong, tableAt, tablesIn, sideBySide, points, rowOfPoint, leadsTo, goOn, follow, walking, walk}
 use Rattle.calls.specs.declared.Answer.{Answer}
 use Rattle.calls.specs.declared.Answer.the-variants.{Accepted, Refused as NotWalked}
-use Rattle.table_calls.specs.declared.next_hop.Hop.{Hop}
-use Rattle.table_calls.specs.declared.next_hop.Hop.the-variants.{Via, Refused}
 use Rattle.calls.specs.Answers.{answerTo}
-use Rattle.table_calls.specs.Answers.{decisionOf as hopDecision}
 use Rattle.calls.proofs.Checks.{as-decision, decided-as, answer-passed}
 use Rattle.walk.specs.declared.Ending.{Ending}
-use Rattle.walk.specs.declared.way.Leads.{Leads}
-use Rattle.walk.specs.declared.way.Leads.the-variants.{To, Nowhere}
-use Rattle.walk.specs.Answers.{decisionOf, nextIn}
-use Rattle.walk.specs.OnTheWay.{activeNext, stoppedAt, resumed}
+use Rattle.walk.specs.Answers.{decisionOf}
+use Rattle.walk.specs.OnTheWay.{stoppedAt, resumed}
 use Rattle.walk.specs.Pieces.{Pieces, pieces, pointAt}
 use Rattle.walk.proofs.Tables.{pieces-there}
-
--- ---- where a row leads, by the hop that it gives
-
-module _ (t : List ℕ) (c : ℕ) (d : Address) (h : Hop) (he : hopDecision h ≡ decide (alongRow c (rowFor t d))) where
-  no-hop : (o : Option Row) (n : ℕ) → refused n ≡ decide (alongRow c o) → none ≡ activeNext c o
-  unfolding alongRow activeNext
-  no-hop none n e = refl
-  no-hop (some r) n e = by (active c r) e
-    where
-      by : (b : Bool) → refused n ≡ cond (not b) (refused 28) (accepted (r .next)) → none ≡ cond b (some (r .next)) none
-      by true e = let z : _≡_ {A = ℕ} 0 1 = cc in absurd (omega arith)
-      by false e = refl
-
-  a-hop : (o : Option Row) (a : Address) → accepted a ≡ decide (alongRow c o) → some a ≡ activeNext c o
-  unfolding alongRow activeNext
-  a-hop none a e = let z : _≡_ {A = ℕ} 0 1 = cc in absurd (omega arith)
-  a-hop (some r) a e = by (active c r) e
-    where
-      by : (b : Bool) → accepted a ≡ cond (not b) (refused 28) (accepted (r .next)) → some a ≡ cond b (some (r .next)) none
-      by true e = let n : a ≡ r .next = cc in ap some n
-      by false e = let z : _≡_ {A = ℕ} 0 1 = cc in absurd (omega arith)
-
-  pub leads-nowhere : (n : ℕ) → h ≡ Refused n → none ≡ activeNext c (rowFor t d)
-  leads-nowhere n e = no-hop (rowFor t d) n (sym (ap hopDecision e) ∙ he)
-
-  pub leads-there : (a : Address) → h ≡ Via a → some a ≡ activeNext c (rowFor t d)
-  leads-there a e = a-hop (rowFor t d) a (sym (ap hopDecision e) ∙ he)
 
 -- ---- the row of a point, sought from the first point on: g is the row that the whole list has
 
@@ -78,8 +46,8 @@ module _ (s : List ℕ) (long n : ℕ) (a d : Address) where
           ap (λ (l : List (List ℕ)). rowOfPoint l a d) (each-next (tableAt s long) i n l)
           ∙ ap (λ (x : Address). cond (same x a) (rowFor (tableAt s long i) d) (rowFrom (i + 1))) (sym pe)
 
-      pub row-found : p .0 ≡ a .0 → (t : List ℕ) → t ≡ tableAt s long i → (c : ℕ) (r : Leads) → nextIn r ≡ activeNext c (rowFor t d)
-          → nextIn r ≡ activeNext c g
+      pub row-found : p .0 ≡ a .0 → (t : List ℕ) → t ≡ tableAt s long i → (c : ℕ) (r : NextHop) → hopIn r ≡ activeNext c (rowFor t d)
+          → hopIn r ≡ activeNext c g
       row-found e t te c r re = rw (← so-far, row-next, eq-eqb (p .0) (a .0) e, ← te) re
 
       pub row-more : (p .0 ≡ a .0 → ⊥) → rowFrom (i + 1) ≡ g
@@ -88,31 +56,6 @@ module _ (s : List ℕ) (long n : ℕ) (a d : Address) where
     pub row-ended : n ≤ i → (c : ℕ) → none ≡ activeNext c g
     unfolding activeNext rowOfPoint
     row-ended l c = rw (← so-far, each-end (tableAt s long) i n l)
-
--- ---- what the rules make of that: the destination or a point
-
-module _ (tables : List (List ℕ)) (c : ℕ) (d : Address) where
-  leads-none : (o : Option Row) → none ≡ activeNext c o → none ≡ leadsTo tables c d o
-  unfolding activeNext leadsTo
-  leads-none none e = refl
-  leads-none (some r) e = by (active c r) e
-    where
-      by : (b : Bool) → none ≡ cond b (some (r .next)) none
-          → none ≡ cond (b && (same (r .next) d || among (r .next) (points tables))) (some (r .next)) none
-      by true e = absurd (Option·none-ne-some (r .next) e)
-      by false e = refl
-
-  leads-some : (o : Option Row) (a : Address) → some a ≡ activeNext c o
-      → cond (same a d || among a (points tables)) (some a) none ≡ leadsTo tables c d o
-  unfolding activeNext leadsTo
-  leads-some none a e = absurd (Option·none-ne-some a (sym e))
-  leads-some (some r) a e = by (active c r) e
-    where
-      by : (b : Bool) → some a ≡ cond b (some (r .next)) none
-          → cond (same a d || among a (points tables)) (some a) none
-          ≡ cond (b && (same (r .next) d || among (r .next) (points tables))) (some (r .next)) none
-      by true e = rw (Option·some-injective a (r .next) e)
-      by false e = absurd (Option·none-ne-some a (sym e))
 
 -- an address with a row is a point's
 either-row : (c : ℕ) (next : Address) (b x : Bool) (o p : Option Row) → (some next ≡ activeNext c p → x ≡ true)
@@ -151,24 +94,24 @@ module _ (tables : List (List ℕ)) (c : ℕ) (d : Address) (remaining hops befo
       by zero h l = re ∙ ap accepted h
       by (suc n) h l = absurd (omega arith)
 
-  module _ (ne : a .0 ≡ d .0 → ⊥) (some-left : 0 < remaining) (r : Leads) (re : nextIn r ≡ activeNext c (rowOfPoint tables a d)) where
-    pub way-stopped : r ≡ Nowhere → (end : Ending) → decisionOf end ≡ accepted (stoppedAt tables a hops before) → decisionOf end ≡ accepted g
-    unfolding resumed follow stoppedAt
+  module _ (ne : a .0 ≡ d .0 → ⊥) (some-left : 0 < remaining) (r : NextHop) (re : hopIn r ≡ activeNext c (rowOfPoint tables a d)) where
+    pub way-stopped : r ≡ Nobody → (end : Ending) → decisionOf end ≡ accepted (stoppedAt tables a hops before) → decisionOf end ≡ accepted g
+    unfolding resumed follow leadsTo stoppedAt
     way-stopped e end ee = ee ∙ ap accepted (by remaining so-far some-left)
       where
-        nowhere : none ≡ leadsTo tables c d (rowOfPoint tables a d)
-        nowhere = leads-none tables c d (rowOfPoint tables a d) (sym (ap nextIn e) ∙ re)
+        nowhere : none ≡ activeNext c (rowOfPoint tables a d)
+        nowhere = sym (ap hopIn e) ∙ re
 
         by : (n : ℕ) → resumed tables c d n a hops before ≡ g → 0 < n → stoppedAt tables a hops before ≡ g
         by zero h l = absurd (omega arith)
         by (suc n) h l = rw (← h, ne-eqb (a .0) (d .0) ne, ← nowhere)
 
     pub way-more : (next : Address) → r ≡ To next → resumed tables c d (remaining - 1) next (hops + 1) hops ≡ g
-    unfolding resumed follow
+    unfolding resumed follow leadsTo
     way-more next e = by remaining so-far some-left
       where
         on : some next ≡ activeNext c (rowOfPoint tables a d)
-        on = sym (ap nextIn e) ∙ re
+        on = sym (ap hopIn e) ∙ re
 
         led : (n : ℕ) (b : Bool) → goOn tables c d (cond b (some next) none) hops (follow tables c d n) ≡ cond b (follow tables c d n next (hops + 1)) (stopped hops)
         led n true = refl
@@ -178,7 +121,7 @@ module _ (tables : List (List ℕ)) (c : ℕ) (d : Address) (remaining hops befo
         by zero h l = absurd (omega arith)
         by (suc n) h l =
             let m : suc n - 1 ≡ n = omega arith in
-            rw (← h, ne-eqb (a .0) (d .0) ne, row-of-a-point tables a d next c on, ← leads-some tables c d (rowOfPoint tables a d) next on, m)
+            rw (← h, ne-eqb (a .0) (d .0) ne, row-of-a-point tables a d next c on, ← on, m)
             (sym (led n (same next d || among next (points tables))))
 
 -- ---- where it stops

@@ -1,13 +1,9 @@
 -- Document 01's numbers and values for the answers of a walk. Assumes nothing.
-use mathlib.Core.Option.{Option, none, some}
-use Rattle.table.specs.declared.address.Address.{Address}
 use Rattle.rules.specs.Decision.{Decision, refused, accepted}
 use Rattle.rules.specs.Walk.{Walked, arrived, stopped, tooLong}
 use Rattle.walk.specs.declared.Ending.{Ending}
 use Rattle.walk.specs.declared.Ending.the-variants.{Arrived, Stopped, TooLong, Refused}
 use Rattle.walk.specs.declared.Walked.{Walked as InNumbers}
-use Rattle.walk.specs.declared.way.Leads.{Leads}
-use Rattle.walk.specs.declared.way.Leads.the-variants.{To, Nowhere}
 
 -- 0, 41 and 42 carry the hops walked
 abbrev pub decisionOf : Ending → Decision Walked
@@ -18,8 +14,3 @@ decisionOf (Refused n) = refused n
 
 abbrev pub numbersOf : InNumbers → Walked
 numbersOf w = record { answer = w .answer; hops = w .hops }
-
--- where a row leads
-abbrev pub nextIn : Leads → Option Address
-nextIn (To a) = some a
-nextIn Nowhere = none

@@ -2,18 +2,10 @@
 use Prim.Native.Nat.{ℕ}
 use mathlib.Core.Bool.{cond, _||_}
 use mathlib.Core.List.{List}
-use mathlib.Core.Option.{Option, none, some}
 use Rattle.table.specs.declared.address.Address.{Address}
-use Rattle.table.specs.declared.row.Row.{Row}
 use Rattle.table.specs.Address.{same}
-use Rattle.table.specs.Row.{active}
 use Rattle.element.specs.Lists.{among}
 use Rattle.rules.specs.Walk.{Walked, stopped, points, follow}
-
--- the next hop of an active row, whether or not that is a point
-unfoldable pub activeNext : ℕ → Option Row → Option Address
-activeNext c none = none
-activeNext c (some r) = cond (active c r) (some (r .next)) none
 
 -- nothing leads on from address a: at a point it is reached by so many hops, else it is not counted
 unfoldable pub stoppedAt : List (List ℕ) → Address → (hops before : ℕ) → Walked

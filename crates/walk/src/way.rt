@@ -4,37 +4,19 @@ use crate::pieces;
 use crate::pieces::table_at;
 use counters::HopCount;
 use table::address::Address;
-use table_calls::next_hop;
-use table_calls::next_hop::Hop;
+use table::search;
+use table::search::NextHop;
 ghost use mathlib.Core.Path.{_≡_};
 ghost use mathlib.Core.Bool.{Bool};
-ghost use Rattle.table.specs.Table.{rowFor};
-ghost use Rattle.table.specs.Layout.{Sized};
+ghost use Rattle.table.specs.Table.{activeNext, hopIn};
 ghost use Rattle.element.specs.Lists.{among};
 ghost use Rattle.rules.specs.Decision.{accepted};
 ghost use Rattle.rules.specs.Walk.{follow, points, rowOfPoint};
-ghost use Rattle.walk.specs.Answers.{decisionOf, nextIn};
-ghost use Rattle.walk.specs.OnTheWay.{activeNext, resumed, stoppedAt};
+ghost use Rattle.walk.specs.Answers.{decisionOf};
+ghost use Rattle.walk.specs.OnTheWay.{resumed, stoppedAt};
 ghost use Rattle.walk.specs.Pieces.{Pieces, pieces};
 
-// Where a point's row leads, if it is active.
-pub enum Leads {
-    To(Address),
-    Nowhere,
-}
-
-// By the row that a table has for the destination.
-fn next_in(table: &[u8], clock: u64, destination: Address) -> Leads
-    requires { ⌜ Sized (now table) ⌝ }
-    ensures { λ r. ⌜ nextIn r ≡ activeNext clock (rowFor (now (table .entry)) destination) ⌝ }
-{
-    let Hop::Via(next) = next_hop::along_row(table, clock, destination) else {
-        return Leads::Nowhere;
-    };
-    Leads::To(next)
-}
-
-// From an address, which may be no point's.
+// Answers where a point's active row leads. The address may be no point's.
 fn next_from(
     tables: &[u8],
     long: usize,
@@ -42,18 +24,18 @@ fn next_from(
     at: Address,
     clock: u64,
     destination: Address,
-) -> Leads
+) -> NextHop
     requires { ⌜ Pieces (now tables) long count ⌝ }
-    ensures { λ r. ⌜ nextIn r ≡ activeNext clock (rowOfPoint (pieces (now (tables .entry)) long count) at destination) ⌝ }
+    ensures { λ r. ⌜ hopIn r ≡ activeNext clock (rowOfPoint (pieces (now (tables .entry)) long count) at destination) ⌝ }
 {
     let mut i = 0;
     while i < count {
         if pieces::point_at(tables, long, count, i).0 == at.0 {
-            return next_in(table_at(tables, long, i), clock, destination);
+            return search::active_next(table_at(tables, long, i), clock, destination);
         }
         i += 1;
     }
-    Leads::Nowhere
+    NextHop::Nobody
 }
 
 // No active row leads on from an address. If that is no point's, the hop to it is not counted.
@@ -111,7 +93,7 @@ pub fn follow(
         if at.0 == destination.0 {
             return Ending::Arrived(HopCount(hops));
         }
-        let Leads::To(next) = next_from(tables, long, count, at, clock, destination) else {
+        let NextHop::To(next) = next_from(tables, long, count, at, clock, destination) else {
             return stopped(tables, long, count, at, hops, before);
         };
         at = next;

@@ -1,7 +1,7 @@
 -- `table_calls::next_hop::next_hop` meets its contract: each return is a case of `nextHop`. Assumes nothing.
 use borrow.Author.Needs.{needs}
 use Rattle.calls.proofs.Checks.{passes-1}
-use Rattle.table_calls.proofs.Cases.{hop-1, hop-3, hop-9, hop-21, hop-22, hop-row}
+use Rattle.table_calls.proofs.Cases.{hop-1, hop-3, hop-9, hop-21, hop-22, hop-28, hop-via}
 use Rattle.table_calls.proofs.next_hop.next_hop.Statement.{statement}
 use Rattle.table_calls.proofs.next_hop.next_hop.Tie as tie
 
@@ -19,4 +19,7 @@ next-hop-spec =
     (λ c κs. search passes-1)
     (λ c. search hop-22)
     (λ c κs. search passes-1)
-    (λ c. search hop-row))
+    (λ c. search needs)
+    (λ c. search needs)
+    (λ c. search hop-via)
+    (λ c. search hop-28))
