@@ -39,7 +39,7 @@ use Rattle.destinations.specs.declared.answering.Answering.{Answering}
 use Rattle.destinations.specs.declared.answering.Answering.the-variants.{By, Nobody}
 use Rattle.destinations.specs.declared.replies.Replied.{Replied}
 use Rattle.destinations.specs.Answering.{answeringIn, answeringRow}
-use Rattle.destinations.specs.Replies.{repliedFrom}
+use Rattle.destinations.specs.Replies.{repliedAfter, repliedFrom}
 use Rattle.destinations.proofs.AnsweringRows.{anotherBy, answering-is}
 
 -- ---- one reply
@@ -77,18 +77,18 @@ module _ (t s v : List ℕ) (a : Arrival) (p : PathInfo) (n : SequenceNumber) (a
       ve ∙ ap (λ (g : RrepFields). over s at (frameOctets (replyFrame (a .transmitter) g ∷ [])))
       (fe ∙ ap (λ (k : Head). replyFields p (k .own) n (record { 0 = 0 }) (record { 0 = 0 })) he)
 
-pub oneself-place : (n : SequenceNumber) (at place : ℕ) → place ≡ at + 40
-    → _≡_ {A = Replied} (record { number = n; place = place }) (record { number = n; place = at + 40 })
-oneself-place n at place e = rw e
+pub oneself-place : (n : SequenceNumber) (frames at place : ℕ) → place ≡ at + 40
+    → _≡_ {A = Replied} (record { number = n; frames = frames; place = place }) (record { number = n; frames = frames; place = at + 40 })
+oneself-place n frames at place e = rw e
 
 -- ---- an answer x, where the replies before it end at `before`
 
 module _ (before : Replied) where
   -- it has no reply and leaves the number
   module _ (x : Answered) (none-said : x .replies ≡ []) (same-number : x .number ≡ before .number) where
-    silent-place : before ≡ repliedFrom (before .place) x
+    silent-place : before ≡ repliedAfter before x
     unfolding frameOctets flatMap
-    silent-place = rw (none-said, same-number, add-zero)
+    silent-place = rw (none-said, same-number, add-zero (before .frames), add-zero (before .place))
 
     silent-output : (s : List ℕ) → s ≡ over s (before .place) (frameOctets (x .replies))
     unfolding frameOctets flatMap over
@@ -97,9 +97,8 @@ module _ (before : Replied) where
   -- it has one
   module _ (x : Answered) (to : Address) (f : RrepFields) (said : x .replies ≡ record { receiver = to; element = rrep f [] } ∷ []) where
     said-place : (n : SequenceNumber) → n ≡ x .number → (place : ℕ) → place ≡ before .place + 40
-        → record { number = n; place = place } ≡ repliedFrom (before .place) x
-    said-place n ne place pe =
-        rw (ne, pe, ap (λ (l : List Frame). before .place + length (frameOctets l)) said, reply-long to f)
+        → record { number = n; frames = before .frames + 1; place = place } ≡ repliedAfter before x
+    said-place n ne place pe = rw (ne, pe, said, reply-long to f)
 
     said-output : (s v : List ℕ) → v ≡ over s (before .place) (frameOctets (record { receiver = to; element = rrep f [] } ∷ []))
         → v ≡ over s (before .place) (frameOctets (x .replies))
@@ -118,7 +117,7 @@ module _ (t : List ℕ) (a : Arrival) (p : PathInfo) (q : Target) (before : Repl
     unanswered : toAnother ≡ anotherBy t a p (before .number) q none
     unanswered = another-is ∙ ap (λ (y : Answering). anotherBy t a p (before .number) q (answeringIn y)) e
 
-    pub another-silent-place : before ≡ repliedFrom (before .place) toAnother
+    pub another-silent-place : before ≡ repliedAfter before toAnother
     another-silent-place = silent-place before toAnother (ap (λ (y : Answered). y .replies) unanswered) (ap (λ (y : Answered). y .number) unanswered)
 
     pub another-silent-output : (s : List ℕ) → s ≡ over s (before .place) (frameOctets (toAnother .replies))
@@ -133,7 +132,7 @@ module _ (t : List ℕ) (a : Arrival) (p : PathInfo) (q : Target) (before : Repl
     row-said = ap (λ (y : Answered). y .replies) row-answer ∙ ap (λ (g : RrepFields). replyFrame (a .transmitter) g ∷ []) (sym fe)
 
     pub another-said-place : (place : ℕ) → place ≡ before .place + 40
-        → _≡_ {A = Replied} (record { number = before .number; place = place }) (repliedFrom (before .place) toAnother)
+        → _≡_ {A = Replied} (record { number = before .number; frames = before .frames + 1; place = place }) (repliedAfter before toAnother)
     another-said-place = said-place before toAnother (a .transmitter) f row-said (before .number) (ap (λ (y : Answered). y .number) (sym row-answer))
 
     pub another-said-output : (s v : List ℕ) → v ≡ over s (before .place) (frameOctets (record { receiver = a .transmitter; element = rrep f [] } ∷ []))
@@ -147,8 +146,8 @@ module _ (t : List ℕ) (a : Arrival) (p : PathInfo) (q : Target) (before : Repl
   toThis = answered t a p (before .number) q
 
   -- of an answer that is known to be another's
-  answer-place : (x : Answered) → toThis ≡ x → (r : Replied) → r ≡ repliedFrom (before .place) x → r ≡ repliedFrom (before .place) toThis
-  answer-place x e r re = re ∙ ap (repliedFrom (before .place)) (sym e)
+  answer-place : (x : Answered) → toThis ≡ x → (r : Replied) → r ≡ repliedAfter before x → r ≡ repliedAfter before toThis
+  answer-place x e r re = re ∙ ap (repliedAfter before) (sym e)
 
   answer-output : (x : Answered) → toThis ≡ x → (s v : List ℕ) → v ≡ over s (before .place) (frameOctets (x .replies))
       → v ≡ over s (before .place) (frameOctets (toThis .replies))
@@ -156,7 +155,7 @@ module _ (t : List ℕ) (a : Arrival) (p : PathInfo) (q : Target) (before : Repl
 
   -- a reply for oneself under the number m
   module _ (m : SequenceNumber) (number-is : toThis .number ≡ m) (replies-are : toThis .replies ≡ ownReply a p (own t) m ∷ []) where
-    own-said-place : (r : Replied) → r ≡ record { number = m; place = before .place + 40 } → r ≡ repliedFrom (before .place) toThis
+    own-said-place : (r : Replied) → r ≡ record { number = m; frames = before .frames + 1; place = before .place + 40 } → r ≡ repliedAfter before toThis
     unfolding reply
     own-said-place r re = re ∙ said-place before toThis (a .transmitter) _ replies-are m (sym number-is) (before .place + 40) refl
 
@@ -176,7 +175,7 @@ module _ (t : List ℕ) (a : Arrival) (p : PathInfo) (q : Target) (before : Repl
     unfolding forOneself
     self-replies = ap (λ (y : Answered). y .replies) self-answer ∙ ap (λ (k : SequenceNumber). ownReply a p (own t) k ∷ []) (sym me)
 
-    pub self-place : (r : Replied) → r ≡ record { number = m; place = before .place + 40 } → r ≡ repliedFrom (before .place) toThis
+    pub self-place : (r : Replied) → r ≡ record { number = m; frames = before .frames + 1; place = before .place + 40 } → r ≡ repliedAfter before toThis
     self-place = own-said-place m self-number self-replies
 
     pub self-output : (s v : List ℕ) → v ≡ over s (before .place) (frameOctets (ownReply a p (own t) m ∷ [])) → v ≡ over s (before .place) (frameOctets (toThis .replies))
@@ -188,8 +187,8 @@ module _ (t : List ℕ) (a : Arrival) (p : PathInfo) (q : Target) (before : Repl
       unfolding answered
       other-answer = rw (is-other t h he (q .address) not-self, ne-eqb (q .address .0) 281474976710655 not-ones)
 
-      pub other-place : (r : Replied) → r ≡ repliedFrom (before .place) (forAnother t a p (before .number) q (rowFor t (q .address)))
-          → r ≡ repliedFrom (before .place) toThis
+      pub other-place : (r : Replied) → r ≡ repliedAfter before (forAnother t a p (before .number) q (rowFor t (q .address)))
+          → r ≡ repliedAfter before toThis
       other-place = answer-place _ other-answer
 
       pub other-output : (s v : List ℕ) → v ≡ over s (before .place) (frameOctets (forAnother t a p (before .number) q (rowFor t (q .address)) .replies))
@@ -206,7 +205,7 @@ module _ (t : List ℕ) (a : Arrival) (p : PathInfo) (q : Target) (before : Repl
         unfolding forAllOnes
         unwanted = rw (← be, not-true b no-reply)
 
-        pub unwanted-place : before ≡ repliedFrom (before .place) toThis
+        pub unwanted-place : before ≡ repliedAfter before toThis
         unwanted-place =
             silent-place before toThis (ap (λ (y : Answered). y .replies) (ones-answer ∙ unwanted)) (ap (λ (y : Answered). y .number) (ones-answer ∙ unwanted))
 
@@ -219,7 +218,7 @@ module _ (t : List ℕ) (a : Arrival) (p : PathInfo) (q : Target) (before : Repl
         unfolding forAllOnes
         wanted = rw (← be, not-false b wants-reply, me)
 
-        pub wanted-place : (r : Replied) → r ≡ record { number = m; place = before .place + 40 } → r ≡ repliedFrom (before .place) toThis
+        pub wanted-place : (r : Replied) → r ≡ record { number = m; frames = before .frames + 1; place = before .place + 40 } → r ≡ repliedAfter before toThis
         wanted-place = own-said-place m (ap (λ (y : Answered). y .number) (ones-answer ∙ wanted)) (ap (λ (y : Answered). y .replies) (ones-answer ∙ wanted))
 
         pub wanted-output : (s v : List ℕ) → v ≡ over s (before .place) (frameOctets (ownReply a p (own t) m ∷ [])) → v ≡ over s (before .place) (frameOctets (toThis .replies))
@@ -243,11 +242,11 @@ frames-long (f ∷ l) h =
     )
 
 module _ (t : List ℕ) (a : Arrival) (p : PathInfo) (n : SequenceNumber) where
-  one-short : (q : Target) → length (frameOctets (answered t a p n q .replies)) ≤ 40
+  one-short : (q : Target) → (length (frameOctets (answered t a p n q .replies)) ≤ 40) × (length (answered t a p n q .replies) ≤ 1)
   unfolding reply
   one-short q =
       let x : Emits Bare 1 (answered t a p n q .replies) = one-answered Bare t a p (λ m. refl) (λ d r found known. refl) n q in
-      omega (arith, frames-long (answered t a p n q .replies) (x .each), x .few)
+      (omega (arith, frames-long (answered t a p n q .replies) (x .each), x .few), x .few)
 
   pub replies-long : (targets : List Target)
       → (length (frameOctets (allAnswered t a p n targets .replies)) ≡ 40 * length (allAnswered t a p n targets .replies))
@@ -259,7 +258,7 @@ module _ (t : List ℕ) (a : Arrival) (p : PathInfo) (n : SequenceNumber) where
 
 -- ---- one after another
 
-module _ (t : List ℕ) (a : Arrival) (p : PathInfo) (part out₀ : List ℕ) (n : ℕ) (start : SequenceNumber) where
+module _ (t : List ℕ) (a : Arrival) (p : PathInfo) (part out₀ : List ℕ) (at n : ℕ) (start : SequenceNumber) where
   -- what is left before destination i, where the own number is m; and all of it
   abbrev leftFrom : ℕ → SequenceNumber → Answered
   leftFrom i m = allAnswered t a p m (each (targetAt part) i (n - i))
@@ -269,25 +268,37 @@ module _ (t : List ℕ) (a : Arrival) (p : PathInfo) (part out₀ : List ℕ) (n
 
   -- what stands before destination i: with what is left it comes to the whole
   pub record Replying (i : ℕ) (replied : Replied) (out : List ℕ) : Type 0 where
-    pub few : replied .place ≤ 40 * i
+    pub short : replied .place ≤ at + 40 * i
+    pub few : replied .frames ≤ i
     pub number : leftFrom i (replied .number) .number ≡ allReplies .number
-    pub counted : replied .place + length (frameOctets (leftFrom i (replied .number) .replies)) ≡ length (frameOctets (allReplies .replies))
-    pub written : over out (replied .place) (frameOctets (leftFrom i (replied .number) .replies)) ≡ over out₀ 0 (frameOctets (allReplies .replies))
+    pub counted : replied .frames + length (leftFrom i (replied .number) .replies) ≡ length (allReplies .replies)
+    pub long : replied .place + length (frameOctets (leftFrom i (replied .number) .replies)) ≡ at + length (frameOctets (allReplies .replies))
+    pub written : over out (replied .place) (frameOctets (leftFrom i (replied .number) .replies)) ≡ over out₀ at (frameOctets (allReplies .replies))
 
-  pub replying-start : Replying 0 (record { number = start; place = 0 }) out₀
+  pub replying-start : Replying 0 (record { number = start; frames = 0; place = at }) out₀
   replying-start =
-      record { few = omega arith; number = rw (sub-zero n); counted = rw (sub-zero n, zero-add (length (frameOctets (allReplies .replies)))); written = rw (sub-zero n) }
+      record {
+        short = omega arith;
+        few = omega arith;
+        number = rw (sub-zero n);
+        counted = rw (sub-zero n, zero-add (length (allReplies .replies)));
+        long = rw (sub-zero n);
+        written = rw (sub-zero n);
+      }
 
   module _ (i : ℕ) (replied : Replied) (out : List ℕ) (so-far : Replying i replied out) where
-    pub replying-room : i < n → n ≡ length part / 11 → length part ≤ 220 → 1560 ≤ length out₀ → length out ≡ length out₀ → replied .place + 40 ≤ length out
-    replying-room l ne short room same-length = omega (arith, so-far .few)
+    pub replying-room : i < n → n ≡ length part / 11 → length part ≤ 220 → at + 800 ≤ length out₀ → length out ≡ length out₀ → replied .place + 40 ≤ length out
+    replying-room l ne short room same-length = omega (arith, so-far .short)
 
-    pub replying-more : i < n → (q : Target) → q ≡ targetAt part i → (next : Replied) → next ≡ repliedFrom (replied .place) (answered t a p (replied .number) q)
+    pub replying-few : i < n → n ≡ length part / 11 → length part ≤ 220 → replied .frames < 20
+    replying-few l ne short = omega (arith, so-far .few)
+
+    pub replying-more : i < n → (q : Target) → q ≡ targetAt part i → (next : Replied) → next ≡ repliedAfter replied (answered t a p (replied .number) q)
         → (out′ : List ℕ) → out′ ≡ over out (replied .place) (frameOctets (answered t a p (replied .number) q .replies)) → Replying (i + 1) next out′
     unfolding allAnswered
     replying-more l q qe next ne out′ oe =
         let this : Answered = answered t a p (replied .number) (targetAt part i) in
-        let after : next ≡ repliedFrom (replied .place) this = ne ∙ ap (λ (x : Target). repliedFrom (replied .place) (answered t a p (replied .number) x)) qe in
+        let after : next ≡ repliedAfter replied this = ne ∙ ap (λ (x : Target). repliedAfter replied (answered t a p (replied .number) x)) qe in
         let here : out′ ≡ over out (replied .place) (frameOctets (this .replies)) =
         oe ∙ ap (λ (x : Target). over out (replied .place) (frameOctets (answered t a p (replied .number) x .replies))) qe in
         let rest : Answered = leftFrom (i + 1) (this .number) in
@@ -297,13 +308,25 @@ module _ (t : List ℕ) (a : Arrival) (p : PathInfo) (part out₀ : List ℕ) (n
         ap (λ (x : Answered). frameOctets (x .replies)) left ∙ frames-append (this .replies) (rest .replies) in
         let numbers : leftFrom (i + 1) (next .number) ≡ rest = ap (λ (x : Replied). leftFrom (i + 1) (x .number)) after in
         let place : next .place ≡ replied .place + length (frameOctets (this .replies)) = ap (λ (x : Replied). x .place) after in
+        let frames : next .frames ≡ replied .frames + length (this .replies) = ap (λ (x : Replied). x .frames) after in
+        let one : (length (frameOctets (this .replies)) ≤ 40) × (length (this .replies) ≤ 1) = one-short t a p (replied .number) (targetAt part i) in
         record {
-          few = omega (arith, so-far .few, place, one-short t a p (replied .number) (targetAt part i));
+          short = omega (arith, so-far .short, place, one .0);
+          few = omega (arith, so-far .few, frames, one .1);
           number = ap (λ (x : Answered). x .number) (numbers) ∙ ap (λ (x : Answered). x .number) (sym left) ∙ so-far .number;
           counted =
               omega (
                 arith,
                 so-far .counted,
+                frames,
+                ap (λ (x : Answered). length (x .replies)) left,
+                length-append (this .replies) (rest .replies),
+                ap (λ (x : Answered). length (x .replies)) numbers,
+              );
+          long =
+              omega (
+                arith,
+                so-far .long,
                 place,
                 ap length octets,
                 length-append (frameOctets (this .replies)) (frameOctets (rest .replies)),
@@ -321,14 +344,16 @@ module _ (t : List ℕ) (a : Arrival) (p : PathInfo) (part out₀ : List ℕ) (n
       unfolding allAnswered
       none-left = ap (allAnswered t a p (replied .number)) (each-end (targetAt part) i n l)
 
-      pub all-replied : replied ≡ repliedFrom 0 allReplies
+      pub all-replied : replied ≡ repliedFrom at allReplies
       unfolding frameOctets flatMap
       all-replied =
           let number : replied .number ≡ allReplies .number = ap (λ (x : Answered). x .number) (sym none-left) ∙ so-far .number in
-          let place : replied .place ≡ 0 + length (frameOctets (allReplies .replies)) =
-          omega (arith, so-far .counted, ap (λ (x : Answered). length (frameOctets (x .replies))) none-left) in
-          ap₂ {C = Replied} (λ (m : SequenceNumber) (k : ℕ). record { number = m; place = k }) number place
+          let frames : replied .frames ≡ length (allReplies .replies) =
+          omega (arith, so-far .counted, ap (λ (x : Answered). length (x .replies)) none-left) in
+          let place : replied .place ≡ at + length (frameOctets (allReplies .replies)) =
+          omega (arith, so-far .long, ap (λ (x : Answered). length (frameOctets (x .replies))) none-left) in
+          rw (number, frames, place)
 
-      pub replies-written : out ≡ over out₀ 0 (frameOctets (allReplies .replies))
+      pub replies-written : out ≡ over out₀ at (frameOctets (allReplies .replies))
       unfolding frameOctets flatMap over
       replies-written = ap (λ (x : Answered). over out (replied .place) (frameOctets (x .replies))) (sym none-left) ∙ so-far .written

@@ -5,6 +5,16 @@ use Rattle.rules.specs.Outcome.{frameOctets}
 use Rattle.rules.specs.Destinations.{Answered}
 use Rattle.destinations.specs.declared.replies.Replied.{Replied}
 
--- the own number and the place after the replies, if these stand from place at on
+-- Returns where the replies stand once those of x are written after `before`.
+abbrev pub repliedAfter : Replied → Answered → Replied
+repliedAfter before x =
+    record {
+      number = x .number;
+      frames = before .frames + length (x .replies);
+      place = before .place + length (frameOctets (x .replies));
+    }
+
+-- Returns the own number, the count of replies and the place after them, if they stand from place at on.
 abbrev pub repliedFrom : ℕ → Answered → Replied
-repliedFrom at x = record { number = x .number; place = at + length (frameOctets (x .replies)) }
+repliedFrom at x =
+    record { number = x .number; frames = length (x .replies); place = at + length (frameOctets (x .replies)) }

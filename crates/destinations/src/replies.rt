@@ -1,4 +1,4 @@
-// The replies to a RREQ, one after another from the start of the output. The table is that after steps 1 and 2.
+// The replies to a RREQ, one after another. The table is that after steps 1 and 2.
 use crate::answering;
 use crate::answering::Answering;
 use counters::HopCount;
@@ -17,7 +17,7 @@ use table::row;
 use table::row::Row;
 ghost use mathlib.Core.Path.{_≡_};
 ghost use mathlib.Core.List.{[], _∷_};
-ghost use Prim.Native.Nat.{_+_, _≤_};
+ghost use Prim.Native.Nat.{_+_, _<_, _≤_};
 ghost use lib.ListN.{length};
 ghost use Rattle.octets.specs.LittleEndian.{over};
 ghost use Rattle.table.specs.Table.{own, rowFor};
@@ -26,11 +26,12 @@ ghost use Rattle.element.specs.Element.{rrep};
 ghost use Rattle.element.specs.Entries.{targetsIn};
 ghost use Rattle.rules.specs.Destinations.{allAnswered, answered, answeredNumber, forAnother, ownReply, replyFields};
 ghost use Rattle.rules.specs.Outcome.{frameOctets};
-ghost use Rattle.destinations.specs.Replies.{repliedFrom};
+ghost use Rattle.destinations.specs.Replies.{repliedAfter, repliedFrom};
 
-// Where the replies stand: the own number so far, and the place after them in the output.
+// Where the replies stand: the own number so far, how many they are, and the place after them in the output.
 pub struct Replied {
     pub number: SequenceNumber,
+    pub frames: u32,
     pub place: usize,
 }
 
@@ -98,20 +99,26 @@ fn answered_number(own: SequenceNumber, requested: SequenceNumber) -> SequenceNu
 // A reply for oneself under this own number, which has been stepped.
 fn reply_as_oneself(
     output: &mut [u8],
-    at: usize,
     table: &[u8],
     a: Arrival,
     p: PathInfo,
     number: SequenceNumber,
+    before: Replied,
 ) -> Replied
-    requires { ⌜ at + 40 ≤ length (now output) ⌝ }
+    requires { ⌜ before .place + 40 ≤ length (now output) ⌝ }
+    requires { ⌜ before .frames < 20 ⌝ }
     requires { ⌜ Sized (now table) ⌝ }
-    ensures { λ r. ⌜ r ≡ record { number = number; place = at + 40 } ⌝ }
-    ensures { λ _. ⌜ now (output .exit) ≡ over (now (output .entry)) at (frameOctets (ownReply a p (own (now (table .entry))) number ∷ [])) ⌝ }
+    ensures { λ r. ⌜ r ≡ record { number = number; frames = before .frames + 1; place = before .place + 40 } ⌝ }
+    ensures { λ _. ⌜ now (output .exit) ≡ over (now (output .entry)) (before .place) (frameOctets (ownReply a p (own (now (table .entry))) number ∷ [])) ⌝ }
 {
     let f = own_fields(p, row::read_head(table).own, number);
-    let place = write_reply(output, at, a, f);
-    Replied { number, place }
+    let place = write_reply(output, before.place, a, f);
+    let frames = before.frames + 1;
+    Replied {
+        number,
+        frames,
+        place,
+    }
 }
 
 // Another: an intermediate reply, if a row answers for it.
@@ -124,8 +131,9 @@ fn reply_for_another(
     before: Replied,
 ) -> Replied
     requires { ⌜ before .place + 40 ≤ length (now output) ⌝ }
+    requires { ⌜ before .frames < 20 ⌝ }
     requires { ⌜ Sized (now table) ⌝ }
-    ensures { λ r. ⌜ r ≡ repliedFrom (before .place) (forAnother (now (table .entry)) a p (before .number) q (rowFor (now (table .entry)) (q .address))) ⌝ }
+    ensures { λ r. ⌜ r ≡ repliedAfter before (forAnother (now (table .entry)) a p (before .number) q (rowFor (now (table .entry)) (q .address))) ⌝ }
     ensures { λ _. ⌜ now (output .exit) ≡ over (now (output .entry)) (before .place) (frameOctets (forAnother (now (table .entry)) a p (before .number) q (rowFor (now (table .entry)) (q .address)) .replies)) ⌝ }
 {
     let Answering::By(r) = answering::answering_row(table, a.clock, q) else {
@@ -133,7 +141,12 @@ fn reply_for_another(
     };
     let place = write_reply(output, before.place, a, row_fields(p, r));
     let number = before.number;
-    Replied { number, place }
+    let frames = before.frames + 1;
+    Replied {
+        number,
+        frames,
+        place,
+    }
 }
 
 // The own address, another, or all ones: then a reply if it is wanted.
@@ -146,14 +159,21 @@ fn reply_to(
     before: Replied,
 ) -> Replied
     requires { ⌜ before .place + 40 ≤ length (now output) ⌝ }
+    requires { ⌜ before .frames < 20 ⌝ }
     requires { ⌜ Sized (now table) ⌝ }
-    ensures { λ r. ⌜ r ≡ repliedFrom (before .place) (answered (now (table .entry)) a p (before .number) q) ⌝ }
+    ensures { λ r. ⌜ r ≡ repliedAfter before (answered (now (table .entry)) a p (before .number) q) ⌝ }
     ensures { λ _. ⌜ now (output .exit) ≡ over (now (output .entry)) (before .place) (frameOctets (answered (now (table .entry)) a p (before .number) q .replies)) ⌝ }
 {
-    let at = before.place;
     let number = before.number;
     if q.address.0 == row::read_head(table).own.0 {
-        return reply_as_oneself(output, at, table, a, p, answered_number(number, q.number));
+        return reply_as_oneself(
+            output,
+            table,
+            a,
+            p,
+            answered_number(number, q.number),
+            before,
+        );
     }
     if q.address.0 != list::ALL_ONES {
         return reply_for_another(output, table, a, p, q, before);
@@ -161,12 +181,13 @@ fn reply_to(
     if !flags::is_reply_wanted(p) {
         return before;
     }
-    reply_as_oneself(output, at, table, a, p, number.next())
+    reply_as_oneself(output, table, a, p, number.next(), before)
 }
 
-// Writes the replies to the destinations in part, where the point has this own number.
+// Writes the replies to the destinations in part from place at on, where the point has this own number.
 pub fn write_replies(
     output: &mut [u8],
+    at: usize,
     table: &[u8],
     a: Arrival,
     p: PathInfo,
@@ -175,12 +196,16 @@ pub fn write_replies(
 ) -> Replied
     requires { ⌜ Sized (now table) ⌝ }
     requires { ⌜ length (now part) ≤ 220 ⌝ }
-    requires { ⌜ 1560 ≤ length (now output) ⌝ }
-    ensures { λ r. ⌜ r ≡ repliedFrom 0 (allAnswered (now (table .entry)) a p number (targetsIn (now (part .entry)))) ⌝ }
-    ensures { λ _. ⌜ now (output .exit) ≡ over (now (output .entry)) 0 (frameOctets (allAnswered (now (table .entry)) a p number (targetsIn (now (part .entry))) .replies)) ⌝ }
+    requires { ⌜ at + 800 ≤ length (now output) ⌝ }
+    ensures { λ r. ⌜ r ≡ repliedFrom at (allAnswered (now (table .entry)) a p number (targetsIn (now (part .entry)))) ⌝ }
+    ensures { λ _. ⌜ now (output .exit) ≡ over (now (output .entry)) at (frameOctets (allAnswered (now (table .entry)) a p number (targetsIn (now (part .entry))) .replies)) ⌝ }
 {
     let n = part.len() / 11;
-    let mut replied = Replied { number, place: 0 };
+    let mut replied = Replied {
+        number,
+        frames: 0,
+        place: at,
+    };
     let mut i = 0;
     while i < n {
         replied = reply_to(output, table, a, p, list::target_at(part, i), replied);

@@ -1,5 +1,5 @@
 -- What goes on, case by case, as the code asks it. Assumes nothing.
-use Prim.Native.Nat.{ℕ, _+_, _/_, _%_, _<_, _≤_}
+use Prim.Native.Nat.{ℕ, _+_, _-_, _/_, _%_, _<_, _≤_}
 use mathlib.Core.Path.{_≡_, refl, sym, ap, ap₂, _∙_}
 use mathlib.Core.Bool.{Bool, true, false, cond}
 use mathlib.Core.List.{List, [], _∷_}
@@ -64,19 +64,19 @@ module _ (a : Arrival) (p : PathInfo) where
     pub announcement-none : (e : Emitted) → e ≡ emitted [] → e ≡ emitted (rannOnward a p)
     announcement-none = none-counted (rannOnward a p) announcement-stays
 
-    pub announcement-unwritten : (s : List ℕ) → s ≡ over s 0 (frameOctets (rannOnward a p))
-    announcement-unwritten s = none-written (rannOnward a p) announcement-stays s 0
+    pub announcement-unwritten : (s : List ℕ) (at : ℕ) → s ≡ over s at (frameOctets (rannOnward a p))
+    announcement-unwritten = none-written (rannOnward a p) announcement-stays
 
   module _ (left : 2 ≤ p .ttl) (q : PathInfo) (qe : q ≡ onward a p) where
     announcement-goes : rannOnward a p ≡ toAll (rann q)
     unfolding rannOnward
     announcement-goes = rw (le-ltb (p .ttl) 2 left, qe)
 
-    pub announcement-counted : (octets : ℕ) → octets ≡ 0 + 29 → (em : Emitted) → em ≡ record { frames = 1; octets = octets } → em ≡ emitted (rannOnward a p)
-    announcement-counted = one-counted (rannOnward a p) allOnes (rann q) announcement-goes
+    pub announcement-counted : (at end : ℕ) → end ≡ at + 29 → (em : Emitted) → em ≡ record { frames = 1; octets = end - at } → em ≡ emitted (rannOnward a p)
+    announcement-counted at end size = one-counted (rannOnward a p) allOnes (rann q) announcement-goes (end - at) (omega (arith, size))
 
-    pub announcement-written : (s v : List ℕ) → v ≡ over s 0 (writeFrame allOnes (rann q)) → v ≡ over s 0 (frameOctets (rannOnward a p))
-    announcement-written s v = one-written (rannOnward a p) allOnes (rann q) announcement-goes s v 0
+    pub announcement-written : (s v : List ℕ) (at : ℕ) → v ≡ over s at (writeFrame allOnes (rann q)) → v ≡ over s at (frameOctets (rannOnward a p))
+    announcement-written = one-written (rannOnward a p) allOnes (rann q) announcement-goes
 
 -- ---- a RREP
 
@@ -91,21 +91,21 @@ module _ (g : RrepFields) (part : List ℕ) (x : NextHop) where
     pub reply-none : (em : Emitted) → em ≡ emitted [] → em ≡ emitted sentReply
     reply-none = none-counted sentReply (sent-by Nobody e)
 
-    pub reply-unwritten : (s : List ℕ) → s ≡ over s 0 (frameOctets sentReply)
-    reply-unwritten s = none-written sentReply (sent-by Nobody e) s 0
+    pub reply-unwritten : (s : List ℕ) (at : ℕ) → s ≡ over s at (frameOctets sentReply)
+    reply-unwritten = none-written sentReply (sent-by Nobody e)
 
   module _ (to : Address) (e : x ≡ To to) where
-    pub reply-counted : (octets : ℕ) → octets ≡ 0 + 40 + length part → length part % 10 ≡ 0 → (em : Emitted) → em ≡ record { frames = 1; octets = octets }
+    pub reply-counted : (at end : ℕ) → end ≡ at + 40 + length part → length part % 10 ≡ 0 → (em : Emitted) → em ≡ record { frames = 1; octets = end - at }
         → em ≡ emitted sentReply
-    reply-counted octets size whole =
-        one-counted sentReply to (rrep g (numberedIn part)) (sent-by (To to) e) octets
+    reply-counted at end size whole =
+        one-counted sentReply to (rrep g (numberedIn part)) (sent-by (To to) e) (end - at)
         (omega (arith, size, whole, each-length (numberedAt part) 0 (length part / 10)))
 
-    pub reply-written : (s v : List ℕ) → v ≡ over s 0 (writeFrame to (rrep g (numberedIn part))) → v ≡ over s 0 (frameOctets sentReply)
-    reply-written s v = one-written sentReply to (rrep g (numberedIn part)) (sent-by (To to) e) s v 0
+    pub reply-written : (s v : List ℕ) (at : ℕ) → v ≡ over s at (writeFrame to (rrep g (numberedIn part))) → v ≡ over s at (frameOctets sentReply)
+    reply-written = one-written sentReply to (rrep g (numberedIn part)) (sent-by (To to) e)
 
-pub reply-room : (n k : ℕ) → n ≡ 0 + 40 + k → k ≤ 220 → n ≤ 1560
-reply-room n k e l = omega arith
+pub reply-room : (at end k : ℕ) → end ≡ at + 40 + k → k ≤ 220 → end - at ≤ 1560
+reply-room at end k e l = omega arith
 
 module _ (t : List ℕ) (c : ℕ) (source : Address) (h : Head) (he : h ≡ headAt t) where
   pub source-own : source .0 ≡ h .own .0 → none ≡ replyReceiver t c source
@@ -142,5 +142,6 @@ module _ (t : List ℕ) (a : Arrival) (f : RrepFields) (part : List ℕ) where
     pub reply-goes-counted : (em : Emitted) → em ≡ emitted (sentTo (rrep g dependents) (hopIn x)) → em ≡ emitted (rrepOnward t a f dependents)
     reply-goes-counted em eme = eme ∙ ap emitted replied-by
 
-    pub reply-goes-written : (s v : List ℕ) → v ≡ over s 0 (frameOctets (sentTo (rrep g dependents) (hopIn x))) → v ≡ over s 0 (frameOctets (rrepOnward t a f dependents))
-    reply-goes-written s v ve = ve ∙ ap (λ (l : List Frame). over s 0 (frameOctets l)) replied-by
+    pub reply-goes-written : (s v : List ℕ) (at : ℕ) → v ≡ over s at (frameOctets (sentTo (rrep g dependents) (hopIn x)))
+        → v ≡ over s at (frameOctets (rrepOnward t a f dependents))
+    reply-goes-written s v at ve = ve ∙ ap (λ (l : List Frame). over s at (frameOctets l)) replied-by

@@ -13,18 +13,18 @@ ghost use Rattle.rules.specs.Onward.{rannOnward};
 ghost use Rattle.rules.specs.Outcome.{frameOctets};
 ghost use Rattle.calls.specs.Answers.{emitted};
 
-// If TTL is at least 2.
-pub fn send_on(output: &mut [u8], a: Arrival, p: PathInfo) -> Emitted
+// Sends the RANN on from place at of the output, if its TTL is at least 2.
+pub fn send_on(output: &mut [u8], at: usize, a: Arrival, p: PathInfo) -> Emitted
     requires { ⌜ p .metric .0 + a .link .0 ≤ 4294967294 ⌝ }
     requires { ⌜ p .hops .0 < 255 ⌝ }
-    requires { ⌜ 1560 ≤ length (now output) ⌝ }
+    requires { ⌜ at + 29 ≤ length (now output) ⌝ }
     ensures { λ r. ⌜ r ≡ emitted (rannOnward a p) ⌝ }
-    ensures { λ _. ⌜ now (output .exit) ≡ over (now (output .entry)) 0 (frameOctets (rannOnward a p)) ⌝ }
+    ensures { λ _. ⌜ now (output .exit) ≡ over (now (output .entry)) at (frameOctets (rannOnward a p)) ⌝ }
 {
     if p.ttl < 2 {
         return Emitted::nothing();
     }
     let path = crate::onward(a, p);
-    let octets = write::write_rann(output, 0, Address(list::ALL_ONES), path);
-    Emitted::one_frame(octets)
+    let end = write::write_rann(output, at, Address(list::ALL_ONES), path);
+    Emitted::one_frame(end - at)
 }

@@ -42,32 +42,40 @@ fn fields_onward(a: Arrival, f: RrepFields) -> RrepFields
     RrepFields { path, source }
 }
 
-// A RREP to this receiver, if there is one.
-fn send_to(output: &mut [u8], receiver: NextHop, f: RrepFields, part: &[u8]) -> Emitted
+// Writes a RREP from place at on, if there is a receiver.
+fn send_to(output: &mut [u8], at: usize, receiver: NextHop, f: RrepFields, part: &[u8]) -> Emitted
     requires { ⌜ length (now part) ≤ 220 ⌝ }
     requires { ⌜ length (now part) % 10 ≡ 0 ⌝ }
-    requires { ⌜ 1560 ≤ length (now output) ⌝ }
+    requires { ⌜ at + 260 ≤ length (now output) ⌝ }
     ensures { λ r. ⌜ r ≡ emitted (sentTo (rrep f (numberedIn (now (part .entry)))) (hopIn receiver)) ⌝ }
-    ensures { λ _. ⌜ now (output .exit) ≡ over (now (output .entry)) 0 (frameOctets (sentTo (rrep f (numberedIn (now (part .entry)))) (hopIn receiver))) ⌝ }
+    ensures { λ _. ⌜ now (output .exit) ≡ over (now (output .entry)) at (frameOctets (sentTo (rrep f (numberedIn (now (part .entry)))) (hopIn receiver))) ⌝ }
 {
     let NextHop::To(next) = receiver else {
         return Emitted::nothing();
     };
-    let octets = write::write_rrep(output, 0, next, f, part);
-    Emitted::one_frame(octets)
+    let end = write::write_rrep(output, at, next, f, part);
+    Emitted::one_frame(end - at)
 }
 
-pub fn send_on(output: &mut [u8], table: &[u8], a: Arrival, f: RrepFields, part: &[u8]) -> Emitted
+// Sends the RREP on from place at of the output.
+pub fn send_on(
+    output: &mut [u8],
+    at: usize,
+    table: &[u8],
+    a: Arrival,
+    f: RrepFields,
+    part: &[u8],
+) -> Emitted
     requires { ⌜ Sized (now table) ⌝ }
     requires { ⌜ f .path .metric .0 + a .link .0 ≤ 4294967294 ⌝ }
     requires { ⌜ f .path .hops .0 < 255 ⌝ }
     requires { ⌜ 1 ≤ f .path .ttl ⌝ }
     requires { ⌜ length (now part) ≤ 220 ⌝ }
     requires { ⌜ length (now part) % 10 ≡ 0 ⌝ }
-    requires { ⌜ 1560 ≤ length (now output) ⌝ }
+    requires { ⌜ at + 260 ≤ length (now output) ⌝ }
     ensures { λ r. ⌜ r ≡ emitted (rrepOnward (now (table .entry)) a f (numberedIn (now (part .entry)))) ⌝ }
-    ensures { λ _. ⌜ now (output .exit) ≡ over (now (output .entry)) 0 (frameOctets (rrepOnward (now (table .entry)) a f (numberedIn (now (part .entry))))) ⌝ }
+    ensures { λ _. ⌜ now (output .exit) ≡ over (now (output .entry)) at (frameOctets (rrepOnward (now (table .entry)) a f (numberedIn (now (part .entry))))) ⌝ }
 {
     let receiver = receiver_of(table, a.clock, f.source.address);
-    send_to(output, receiver, fields_onward(a, f), part)
+    send_to(output, at, receiver, fields_onward(a, f), part)
 }

@@ -1,5 +1,5 @@
 -- What an accepted element leaves, type by type, as the code asks it. Assumes nothing.
-use Prim.Native.Nat.{ℕ, _+_, _*_, _/_, _≤_}
+use Prim.Native.Nat.{ℕ, _+_, _-_, _*_, _/_, _≤_}
 use mathlib.Core.Path.{_≡_, sym, ap, ap₂, _∙_}
 use mathlib.Core.List.{List, [], _∷_, _++_}
 use lib.ListN.{length, length-append}
@@ -95,8 +95,8 @@ module _ (t output : List ℕ) (a : Arrival) (h : Head) (he : h ≡ headAt t) wh
       (ap (λ (k : Sent). k .emitted) so)
 
 -- the replies, and after them what goes on
-module _ (u : List ℕ) (a : Arrival) (f : RreqFields) (n : SequenceNumber) (part : List ℕ) (replied : Replied)
-    (re : replied ≡ repliedFrom 0 (allAnswered u a (f .path) n (targetsIn part))) where
+module _ (u : List ℕ) (a : Arrival) (f : RreqFields) (n : SequenceNumber) (part : List ℕ) (at : ℕ) (replied : Replied)
+    (re : replied ≡ repliedFrom at (allAnswered u a (f .path) n (targetsIn part))) where
   abbrev x : Answered
   x = allAnswered u a (f .path) n (targetsIn part)
 
@@ -106,14 +106,30 @@ module _ (u : List ℕ) (a : Arrival) (f : RreqFields) (n : SequenceNumber) (par
   all-kept : x .kept ≡ kept
   all-kept = answered-among u a (f .path) n part
 
-  place-is : replied .place ≡ 40 * length (x .replies)
-  place-is = omega (arith, ap (λ (k : Replied). k .place) re, replies-long u a (f .path) n (targetsIn part) .0)
+  pub replies-few : length part ≤ 220 → replied .frames ≤ 20
+  replies-few l =
+      omega (
+        arith,
+        ap (λ (k : Replied). k .frames) re,
+        replies-long u a (f .path) n (targetsIn part) .1,
+        each-length (targetAt part) 0 (length part / 11),
+      )
 
-  pub replies-few : length part ≤ 220 → replied .place ≤ 800
-  replies-few l = omega (arith, place-is, replies-long u a (f .path) n (targetsIn part) .1, each-length (targetAt part) 0 (length part / 11))
+  pub replies-after : at ≤ replied .place
+  replies-after = omega (arith, ap (λ (k : Replied). k .place) re)
 
-  pub replies-room : length part ≤ 220 → (out₀ out : List ℕ) → 1560 ≤ length out₀ → length out ≡ length out₀ → replied .place + 254 ≤ length out
-  replies-room l out₀ out room same-length = omega (arith, replies-few l)
+  pub replies-short : length part ≤ 220 → replied .place ≤ at + 800
+  replies-short l =
+      omega (
+        arith,
+        replies-few l,
+        ap (λ (k : Replied). k .frames) re,
+        ap (λ (k : Replied). k .place) re,
+        replies-long u a (f .path) n (targetsIn part) .0,
+      )
+
+  pub replies-room : length part ≤ 220 → (out₀ out : List ℕ) → at + 1054 ≤ length out₀ → length out ≡ length out₀ → replied .place + 254 ≤ length out
+  replies-room l out₀ out room same-length = omega (arith, replies-short l)
 
   module _ (onward : Emitted) (oe : onward ≡ emitted (rreqOnward u a f kept)) where
     -- a RREQ with so many destinations is at most so long
@@ -135,14 +151,14 @@ module _ (u : List ℕ) (a : Arrival) (f : RreqFields) (n : SequenceNumber) (par
         by (f₁ ∷ []) m = omega (arith, l, ap length (one-frame f₁), frame-length (f₁ .receiver) (f₁ .element), m .each .0)
         by (f₁ ∷ f₂ ∷ frames) m = absurd (omega (arith, m .few))
 
-    pub answer-counted : (s : Sent) → s ≡ together replied onward → s ≡ sentFor u a f x
+    pub answer-counted : (s : Sent) → s ≡ together at replied onward → s ≡ sentFor u a f x
     unfolding framesAfter
     answer-counted s se =
         let frames : List Frame = x .replies ++ rreqOnward u a f (x .kept) in
         let going : onward ≡ emitted (rreqOnward u a f (x .kept)) = oe ∙ ap (λ (k : List Target). emitted (rreqOnward u a f k)) (sym all-kept) in
-        let many : replied .place / 40 + onward .frames ≡ length frames =
-        omega (arith, place-is, ap (λ (k : Emitted). k .frames) going, length-append (x .replies) (rreqOnward u a f (x .kept))) in
-        let long : replied .place + onward .octets ≡ length (frameOctets frames) =
+        let many : replied .frames + onward .frames ≡ length frames =
+        omega (arith, ap (λ (k : Replied). k .frames) re, ap (λ (k : Emitted). k .frames) going, length-append (x .replies) (rreqOnward u a f (x .kept))) in
+        let long : replied .place - at + onward .octets ≡ length (frameOctets frames) =
         omega (
           arith,
           ap (λ (k : Replied). k .place) re,
@@ -152,11 +168,11 @@ module _ (u : List ℕ) (a : Arrival) (f : RreqFields) (n : SequenceNumber) (par
         ) in
         se ∙ rw (many, long, ap (λ (k : Replied). k .number) re)
 
-    pub answer-written : (out w v : List ℕ) → w ≡ over out 0 (frameOctets (x .replies)) → v ≡ over w (replied .place) (frameOctets (rreqOnward u a f kept))
-        → v ≡ over out 0 (frameOctets (framesAfter u a f x))
+    pub answer-written : (out w v : List ℕ) → w ≡ over out at (frameOctets (x .replies)) → v ≡ over w (replied .place) (frameOctets (rreqOnward u a f kept))
+        → v ≡ over out at (frameOctets (framesAfter u a f x))
     unfolding framesAfter
     answer-written out w v we ve =
         ve ∙ ap₂ (λ (l : List ℕ) (k : ℕ). over l k (frameOctets (rreqOnward u a f kept))) we (ap (λ (k : Replied). k .place) re)
-        ∙ sym (over-append out 0 (frameOctets (x .replies)) (frameOctets (rreqOnward u a f kept)))
-        ∙ ap (over out 0) (sym (frames-append (x .replies) (rreqOnward u a f kept)))
-        ∙ ap (λ (k : List Target). over out 0 (frameOctets (x .replies ++ rreqOnward u a f k))) (sym all-kept)
+        ∙ sym (over-append out at (frameOctets (x .replies)) (frameOctets (rreqOnward u a f kept)))
+        ∙ ap (over out at) (sym (frames-append (x .replies) (rreqOnward u a f kept)))
+        ∙ ap (λ (k : List Target). over out at (frameOctets (x .replies ++ rreqOnward u a f k))) (sym all-kept)

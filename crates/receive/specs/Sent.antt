@@ -1,6 +1,6 @@
 -- What a RREQ is answered with, while it is written. For the code's own functions: the frames are those of `rreqReceived`.
 -- Assumes nothing.
-use Prim.Native.Nat.{ℕ, _+_, _/_}
+use Prim.Native.Nat.{ℕ, _+_, _-_}
 use mathlib.Core.List.{List, _++_}
 use Rattle.element.specs.declared.RreqFields.{RreqFields}
 use Rattle.rules.specs.declared.Arrival.{Arrival}
@@ -12,12 +12,12 @@ use Rattle.calls.specs.Answers.{emitted}
 use Rattle.destinations.specs.declared.replies.Replied.{Replied}
 use Rattle.receive.specs.declared.request.Sent.{Sent}
 
--- replies, each of 40 octets, and what goes on after them
-abbrev pub together : Replied → Emitted → Sent
-together replied onward =
+-- Returns what is sent in all: the replies, which stand from place at on, and what goes on after them.
+abbrev pub together : ℕ → Replied → Emitted → Sent
+together at replied onward =
     record {
       number = replied .number;
-      emitted = record { frames = replied .place / 40 + onward .frames; octets = replied .place + onward .octets };
+      emitted = record { frames = replied .frames + onward .frames; octets = replied .place - at + onward .octets };
     }
 
 -- the replies, and after them the RREQ with the destinations that are kept

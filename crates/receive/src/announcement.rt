@@ -38,7 +38,7 @@ fn take(table: &mut [u8], output: &mut [u8], a: Arrival, p: PathInfo) -> Outcome
 {
     let head = row::read_head(table);
     steps::learn(table, a, p);
-    let emitted = announcement::send_on(output, a, p);
+    let emitted = announcement::send_on(output, 0, a, p);
     clocked::store_head(table, head, head.number, a.clock);
     Outcome::Accepted(emitted)
 }

@@ -43,7 +43,7 @@ fn take(table: &mut [u8], output: &mut [u8], a: Arrival, f: RrepFields, part: &[
 {
     let head = row::read_head(table);
     steps::learn(table, a, f.path);
-    let emitted = reply::send_on(output, table, a, f, part);
+    let emitted = reply::send_on(output, 0, table, a, f, part);
     clocked::store_head(table, head, head.number, a.clock);
     Outcome::Accepted(emitted)
 }

@@ -43,24 +43,27 @@ fn check(table: &[u8], a: Arrival, f: RreqFields, part: &[u8]) -> Answer
     path::check(table, a, f.path, faults::of_rreq(f, part))
 }
 
-// Replies, each of 40 octets, and what goes on after them.
-fn in_all(replied: Replied, onward: Emitted) -> Sent
-    requires { ⌜ replied .place ≤ 800 ⌝ }
+// Counts the replies, which stand from place at on, together with what goes on after them.
+fn in_all(at: usize, replied: Replied, onward: Emitted) -> Sent
+    requires { ⌜ replied .frames ≤ 20 ⌝ }
+    requires { ⌜ at ≤ replied .place ⌝ }
+    requires { ⌜ replied .place ≤ at + 800 ⌝ }
     requires { ⌜ onward .frames ≤ 1 ⌝ }
     requires { ⌜ onward .octets ≤ 254 ⌝ }
-    ensures { λ r. ⌜ r ≡ together replied onward ⌝ }
+    ensures { λ r. ⌜ r ≡ together at replied onward ⌝ }
 {
     let number = replied.number;
     let emitted = Emitted {
-        frames: (replied.place / 40) as u32 + onward.frames,
-        octets: replied.place as u32 + onward.octets,
+        frames: replied.frames + onward.frames,
+        octets: (replied.place - at) as u32 + onward.octets,
     };
     Sent { number, emitted }
 }
 
-// The replies to its destinations, and after them it goes on with those that are kept.
+// Writes the replies to its destinations from place at on, and after them the RREQ with those that are kept.
 fn answer(
     output: &mut [u8],
+    at: usize,
     table: &[u8],
     a: Arrival,
     f: RreqFields,
@@ -68,18 +71,18 @@ fn answer(
     part: &[u8],
 ) -> Sent
     requires { ⌜ Sized (now table) ⌝ }
-    requires { ⌜ 1560 ≤ length (now output) ⌝ }
+    requires { ⌜ at + 1054 ≤ length (now output) ⌝ }
     requires { ⌜ 11 ≤ length (now part) ⌝ }
     requires { ⌜ length (now part) ≤ 220 ⌝ }
     requires { ⌜ unicastToSeveral (f .path) (now part) ≡ false ⌝ }
     requires { ⌜ f .path .metric .0 + a .link .0 ≤ 4294967294 ⌝ }
     requires { ⌜ f .path .hops .0 < 255 ⌝ }
     ensures { λ r. ⌜ r ≡ sentFor (now (table .entry)) a f (allAnswered (now (table .entry)) a (f .path) number (targetsIn (now (part .entry)))) ⌝ }
-    ensures { λ _. ⌜ now (output .exit) ≡ over (now (output .entry)) 0 (frameOctets (framesAfter (now (table .entry)) a f (allAnswered (now (table .entry)) a (f .path) number (targetsIn (now (part .entry)))))) ⌝ }
+    ensures { λ _. ⌜ now (output .exit) ≡ over (now (output .entry)) at (frameOctets (framesAfter (now (table .entry)) a f (allAnswered (now (table .entry)) a (f .path) number (targetsIn (now (part .entry)))))) ⌝ }
 {
-    let replied = replies::write_replies(output, table, a, f.path, number, part);
+    let replied = replies::write_replies(output, at, table, a, f.path, number, part);
     let onward = request::send_on(output, replied.place, table, a, f, part);
-    in_all(replied, onward)
+    in_all(at, replied, onward)
 }
 
 // Steps 1 and 2, the replies, and it goes on.
@@ -96,7 +99,7 @@ fn take(table: &mut [u8], output: &mut [u8], a: Arrival, f: RreqFields, part: &[
 {
     let head = row::read_head(table);
     steps::learn(table, a, f.path);
-    let sent = answer(output, table, a, f, head.number, part);
+    let sent = answer(output, 0, table, a, f, head.number, part);
     let number = sent.number;
     clocked::store_head(table, head, number, a.clock);
     let emitted = sent.emitted;

@@ -16,7 +16,7 @@ ghost use Rattle.walk.specs.Answers.{decisionOf};
 ghost use Rattle.walk.specs.OnTheWay.{resumed, stoppedAt};
 ghost use Rattle.walk.specs.Pieces.{Pieces, pieces};
 
-// Answers where a point's active row leads. The address may be no point's.
+// Answers the next hop of the row that the point at this address has, if the row is active. The address may be no point's.
 fn next_from(
     tables: &[u8],
     long: usize,

@@ -12,4 +12,5 @@ reply-as-oneself-spec =
     (λ c κs. search needs)
     (λ c κs. search needs)
     (λ c. search needs)
+    (λ c. search needs)
     (λ c. (search oneself-place, search oneself-written)))

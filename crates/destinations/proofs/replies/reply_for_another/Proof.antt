@@ -15,4 +15,5 @@ reply-for-another-spec =
     (λ c κs. search needs)
     (λ c κs. search needs)
     (λ c. search needs)
+    (λ c. search needs)
     (λ c. (search another-said-place, search another-said-output)))

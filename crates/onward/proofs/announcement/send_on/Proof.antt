@@ -12,6 +12,7 @@ send-on-spec =
     (λ c. (search announcement-none, search announcement-unwritten))
     (λ c κs. search needs)
     (λ c κs. search needs)
+    (λ c. search needs)
     (λ c κs. search needs)
     (λ c. search needs)
     (λ c. (search announcement-counted, search announcement-written)))

@@ -13,6 +13,7 @@ send-to-spec =
     (λ c κs. search needs)
     (λ c. (search reply-none, search reply-unwritten))
     (λ c κs. search needs)
+    (λ c. search needs)
     (λ c κs. search reply-room)
     (λ c. search needs)
     (λ c. (search reply-counted, search reply-written)))

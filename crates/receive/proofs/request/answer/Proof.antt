@@ -1,6 +1,6 @@
 -- `receive::request::answer` meets its contract: the replies, and what goes on after them. Assumes nothing.
 use borrow.Author.Needs.{needs}
-use Rattle.receive.proofs.Taken.{replies-few, replies-room, onward-few, onward-short, answer-counted, answer-written}
+use Rattle.receive.proofs.Taken.{replies-few, replies-after, replies-short, replies-room, onward-few, onward-short, answer-counted, answer-written}
 use Rattle.receive.proofs.request.answer.Statement.{statement}
 use Rattle.receive.proofs.request.answer.Tie as tie
 
@@ -10,6 +10,6 @@ answer-spec =
     (tie.spec
     (λ c κs. search needs)
     (λ c κs. (search needs, (search (replies-room, needs), (search needs, (search needs, (search needs, (search needs, search needs)))))))
-    (λ c κs. (search replies-few, (search onward-few, search onward-short)))
+    (λ c κs. (search replies-few, (search replies-after, (search replies-short, (search onward-few, search onward-short)))))
     (λ c. search needs)
     (λ c. (search answer-counted, search answer-written)))
