@@ -34,6 +34,7 @@ use Rattle.calls.specs.declared.Emitted.{Emitted}
 use Rattle.calls.specs.Answers.{answerTo, exits}
 use Rattle.breaking.specs.Reports.{framesFor, octetsFor, begunAfter, closed}
 use Rattle.breaking.proofs.Reported.{begun-append, begun-length, closes, errors-many, errors-long}
+use Rattle.rules.proofs.Rulings.{listed}
 use Rattle.calls.proofs.Checks.{table-sized, output-long, refusal, acceptance, accepted-exit}
 use Rattle.calls.proofs.Neighbours.{same-number}
 
@@ -218,11 +219,11 @@ broken-exit t output w u v c neighbour h he lost le few we ve ue e ee =
 module _ (t output : List ℕ) (c : ℕ) (neighbour : Address) (a : Answer) (ae : a ≡ answerTo (breaking t (length output) c neighbour .checks)) where
   module _ (ok : a ≡ Accepted) where
     pub break-table-sized : Sized t
-    unfolding breaking
+    unfolding listed
     break-table-sized = table-sized t output _ a ae ok
 
     pub break-output-long : 1560 ≤ length output
-    unfolding breaking
+    unfolding listed
     break-output-long = output-long t output _ a ae ok
 
   pub break-refused : (n : ℕ) → a ≡ Refused n → exits (Outcome.Refused n) t output ≡ atExit t output (breakNeighbour t (length output) c neighbour)

@@ -3,8 +3,7 @@
 use Prim.Native.Nat.{ℕ, _≤_}
 use mathlib.Core.Path.{_≡_, refl, sym, ap, ap₂, _∙_}
 use mathlib.Core.Bool.{Bool, true, false, not, _||_, cond}
-use mathlib.Core.List.{List, [], _∷_, _++_}
-use lib.Dec.{ltb}
+use mathlib.Core.List.{List, [], _∷_, _++_, append-nil}
 use lib.ListN.{length}
 use native.Mathlib.Omega.{arith}
 use borrow.Author.Tests.{eq-eqb, ne-eqb, lt-ltb, le-ltb, ltb-false, not-false}
@@ -12,6 +11,7 @@ use Rattle.octets.specs.LittleEndian.{over}
 use Rattle.table.specs.Layout.{sized, headOctets, Sized}
 use Rattle.table.proofs.Cases.{of-size}
 use Rattle.rules.specs.Decision.{Decision, refused, accepted, Check, Ruling, judged, decide}
+use Rattle.rules.specs.Checks.{bufferChecks}
 use Rattle.rules.specs.Outcome.{Effect, frameOctets, Exit, atExit}
 use Rattle.rules.proofs.Rulings.{Passed, passed}
 use Rattle.calls.specs.declared.Outcome.{Outcome}
@@ -74,6 +74,10 @@ module _ (part : List Check) (a : Answer) (ae : a ≡ answerTo part) (checks : L
   pub passed-first : a ≡ Accepted → (r : Answer) → r ≡ answerTo checks → r ≡ answerTo (part ++ checks)
   passed-first e r h = h ∙ part-passed part checks (sym e ∙ ae)
 
+-- a part that nothing follows
+pub part-last : (part : List Check) (r : Answer) → r ≡ answerTo part → r ≡ answerTo (part ++ [])
+part-last part r e = e ∙ ap answerTo (sym (append-nil part))
+
 -- the test of a check, by that of the code
 module _ (a b : Bool) (e : a ≡ b) (v : Bool) where
   pub as-tested : a ≡ v → b ≡ v
@@ -131,12 +135,9 @@ pub passes-1 : (t : List ℕ) (a : Bool) → a ≡ sized t → not a ≡ false �
 passes-1 t a ae yes-a = of-size t a ae (not-false a yes-a)
 
 -- the first two checks of every call that has an output: both buffers are long enough for what follows
-abbrev Buffers : List ℕ → List ℕ → List Check → List Check
-Buffers t output checks = record { number = 1; applies = not (sized t) } ∷ record { number = 2; applies = ltb (length output) 1560 } ∷ checks
-
-module _ (t output : List ℕ) (checks : List Check) (a : Answer) (ae : a ≡ answerTo (Buffers t output checks)) (ok : a ≡ Accepted) where
-  first-two : Passed (Buffers t output checks)
-  first-two = answer-passed (Buffers t output checks) (sym ok ∙ ae)
+module _ (t output : List ℕ) (checks : List Check) (a : Answer) (ae : a ≡ answerTo (bufferChecks t (length output) ++ checks)) (ok : a ≡ Accepted) where
+  first-two : Passed (bufferChecks t (length output) ++ checks)
+  first-two = answer-passed (bufferChecks t (length output) ++ checks) (sym ok ∙ ae)
 
   pub table-sized : Sized t
   table-sized = of-size t (sized t) refl (not-false (sized t) (first-two .0))

@@ -1,7 +1,7 @@
--- What receive and break have in common: their checks of operands and of the state, as the code asks it. Assumes nothing.
+-- What receive and break have in common: what their checks of operands say, and the head that they store. Assumes nothing.
 use Prim.Native.Nat.{ℕ, _≤_}
 use mathlib.Core.Path.{_≡_, ap, ap₂, _∙_}
-use mathlib.Core.List.{List, _++_}
+use mathlib.Core.List.{List}
 use lib.ListN.{length}
 use Rattle.table.specs.declared.address.Address.{Address}
 use Rattle.table.specs.declared.row.Head.{Head}
@@ -9,25 +9,18 @@ use Rattle.table.specs.Row.{headWith}
 use Rattle.table.specs.Layout.{headAt, putHead, headOctets, Sized}
 use Rattle.table.specs.Table.{number}
 use Rattle.counters.specs.declared.SequenceNumber.{SequenceNumber}
-use Rattle.rules.specs.Decision.{Check}
+use Rattle.rules.specs.Checks.{operandChecks}
 use Rattle.rules.specs.Outcome.{underHead}
 use Rattle.calls.specs.declared.Answer.{Answer}
-use Rattle.calls.specs.declared.Answer.the-variants.{Accepted, Refused}
+use Rattle.calls.specs.declared.Answer.the-variants.{Accepted}
 use Rattle.calls.specs.Answers.{answerTo}
-use Rattle.calls.specs.Checks.{operandChecks}
-use Rattle.calls.proofs.Checks.{refused-first, passed-first, table-sized}
+use Rattle.calls.proofs.Checks.{table-sized}
 
--- ---- the operands, before other checks
-
-module _ (t output : List ℕ) (c : ℕ) (neighbour : Address) (a : Answer) (ae : a ≡ answerTo (operandChecks t (length output) c neighbour)) (checks : List Check) where
-  pub operands-refused : (n : ℕ) → a ≡ Refused n → Refused n ≡ answerTo (operandChecks t (length output) c neighbour ++ checks)
-  operands-refused = refused-first (operandChecks t (length output) c neighbour) a ae checks
-
-  pub operands-passed : a ≡ Accepted → (r : Answer) → r ≡ answerTo checks → r ≡ answerTo (operandChecks t (length output) c neighbour ++ checks)
-  operands-passed = passed-first (operandChecks t (length output) c neighbour) a ae checks
+-- ---- the operands
 
 pub operands-table-sized : (t output : List ℕ) (c : ℕ) (neighbour : Address) (a : Answer) → a ≡ answerTo (operandChecks t (length output) c neighbour) → a ≡ Accepted
     → Sized t
+unfolding operandChecks
 operands-table-sized t output c neighbour a = table-sized t output _ a
 
 -- ---- the head is stored

@@ -9,8 +9,8 @@ ghost use mathlib.Core.Path.{_≡_};
 ghost use lib.ListN.{length};
 ghost use Rattle.table.specs.Row.{headWith};
 ghost use Rattle.table.specs.Layout.{putHead, Sized};
+ghost use Rattle.rules.specs.Checks.{operandChecks, stateChecks};
 ghost use Rattle.calls.specs.Answers.{answerTo};
-ghost use Rattle.calls.specs.Checks.{operandChecks, stateChecks};
 
 // The refusals by these operands alone.
 pub fn check_operands(table: &[u8], output: &[u8], clock: u64, neighbour: Address) -> Answer

@@ -28,16 +28,15 @@ use Rattle.element.proofs.Written.{entries-more, target-length}
 use Rattle.rules.specs.Decision.{accepted, Check}
 use Rattle.rules.specs.Lists.{any}
 use Rattle.rules.specs.Outcome.{Exit, atExit}
-use Rattle.rules.specs.Originate.{numberedHead, ownRequest, requested, itemsFit, hasHighFlags, knownNumber, askedFor, asking, ask}
+use Rattle.rules.specs.Originate.{numberedHead, ownRequest, requested, itemsFit, hasHighFlags, knownNumber, askedFor, itemChecks, asking, ask}
 use Rattle.rules.proofs.AnyOf.{any-found, any-more}
-use Rattle.rules.proofs.Rulings.{Passed, passed-check}
+use Rattle.rules.proofs.Rulings.{listed, Passed, passed-check}
 use Rattle.calls.specs.declared.Outcome.{Outcome}
 use Rattle.calls.specs.declared.Answer.{Answer}
 use Rattle.calls.specs.declared.Answer.the-variants.{Accepted, Refused}
 use Rattle.calls.specs.declared.Emitted.{Emitted}
 use Rattle.calls.specs.Answers.{answerTo, exits}
-use Rattle.originate.specs.Checks.{itemChecks}
-use Rattle.calls.proofs.Checks.{table-sized, output-long, answer-passed, refused-first, passed-first, refusal, acceptance}
+use Rattle.calls.proofs.Checks.{table-sized, output-long, answer-passed, passed-first, refusal, acceptance}
 use Rattle.originate.proofs.Originated.{request-finished, requested-exit}
 
 -- ---- the flags of its items, of which g says whether some are above 3
@@ -114,12 +113,9 @@ pub own-named : (t : List ℕ) (h : Head) → h ≡ headAt t → (l : List Addre
 own-named t h he l b be v bv = ap (λ (k : Head). among (k .own) l) (sym he) ∙ sym be ∙ bv
 
 -- those of the items stand between others
-module _ (s : List ℕ) (a : Answer) (ae : a ≡ answerTo (itemChecks s)) (checks : List Check) where
-  pub items-refused : (n : ℕ) → a ≡ Refused n → Refused n ≡ answerTo (itemChecks s ++ checks)
-  items-refused = refused-first (itemChecks s) a ae checks
-
-  pub items-passed : a ≡ Accepted → (r : Answer) → r ≡ answerTo checks → r ≡ answerTo (itemChecks s ++ checks)
-  items-passed = passed-first (itemChecks s) a ae checks
+pub items-passed : (s : List ℕ) (a : Answer) → a ≡ answerTo (itemChecks s) → (checks : List Check) → a ≡ Accepted → (r : Answer) → r ≡ answerTo checks
+    → r ≡ answerTo (itemChecks s ++ checks)
+items-passed s = passed-first (itemChecks s)
 
 module _ (t output s : List ℕ) (lifetime : ℕ) (a : Answer) (ae : a ≡ answerTo (asking t (length output) lifetime s .checks)) where
   module _ (ok : a ≡ Accepted) where
@@ -136,7 +132,7 @@ module _ (t output s : List ℕ) (lifetime : ℕ) (a : Answer) (ae : a ≡ answe
 
     -- 1 to 20 items
     items-fit : ((eqb (length s % 7) 0 && leb 7 (length s)) ≡ true) × (leb (length s) 140 ≡ true)
-    unfolding itemsFit asking
+    unfolding itemsFit listed
     items-fit =
         and-eq-true-iff (eqb (length s % 7) 0 && leb 7 (length s)) (leb (length s) 140) .0
         (not-false (itemsFit s) (passed-check 8 (asking t (length output) lifetime s .checks) ask-passed))

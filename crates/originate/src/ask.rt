@@ -29,9 +29,8 @@ ghost use Rattle.element.specs.Octets.{writeFrame};
 ghost use Rattle.rules.specs.Decision.{accepted};
 ghost use Rattle.rules.specs.Lists.{any};
 ghost use Rattle.rules.specs.Outcome.{atExit};
-ghost use Rattle.rules.specs.Originate.{ask, askedFor, asking, hasHighFlags, itemsFit, knownNumber, ownRequest, requested};
+ghost use Rattle.rules.specs.Originate.{ask, askedFor, asking, hasHighFlags, itemChecks, itemsFit, knownNumber, ownRequest, requested};
 ghost use Rattle.calls.specs.Answers.{answerTo, exits};
-ghost use Rattle.originate.specs.Checks.{itemChecks};
 
 // 7 octets an item, 1 to 20 items.
 fn is_item_list(items: &[u8]) -> bool

@@ -16,44 +16,42 @@ use Rattle.element.specs.Entries.{numberedIn, targetsIn}
 use Rattle.element.specs.Octets.{wrongLength, otherId, misfit, readElement, fixedFields, reading, listPart}
 use Rattle.element.proofs.Readings.{announcement-element, request-element, reply-element, error-element}
 use Rattle.rules.specs.declared.Arrival.{Arrival}
-use Rattle.rules.specs.Decision.{refused}
+use Rattle.rules.specs.Decision.{refused, decide}
 use Rattle.rules.specs.Outcome.{Exit, atExit}
-use Rattle.rules.specs.Receive.{receiving, receive}
-use Rattle.rules.proofs.Rulings.{passed-check}
+use Rattle.rules.specs.Receive.{arrivalChecks, octetChecks, judging, readingOctets, receiving, receive}
+use Rattle.rules.proofs.Rulings.{listed, passed-check}
 use Rattle.calls.specs.declared.Outcome.{Outcome}
 use Rattle.calls.specs.declared.Answer.{Answer}
 use Rattle.calls.specs.declared.Answer.the-variants.{Accepted, Refused}
 use Rattle.calls.specs.Answers.{answerTo, exits}
 use Rattle.calls.proofs.Checks.{answer-passed, part-refused, part-decided, refusal, table-sized, output-long}
-use Rattle.receive.specs.Checks.{arrivalChecks}
-use Rattle.receive.specs.Judged.{judgedElement, readingOctets, judgedOctets}
 use Rattle.table.specs.Layout.{headOctets, Sized}
 
 -- ---- the first checks
 
 module _ (t output : List ℕ) (a : Arrival) (r : Answer) (re : r ≡ answerTo (arrivalChecks t (length output) a)) where
   pub arrival-refused : (s : List ℕ) (n : ℕ) → r ≡ Refused n → exits (Outcome.Refused n) t output ≡ atExit t output (receive t (length output) a s)
-  unfolding receive arrivalChecks
+  unfolding receive
   arrival-refused s n e =
       refusal t output (receiving t (length output) a s) (Refused n)
       (part-refused (arrivalChecks t (length output) a) (readingOctets t a s .checks) n (sym e ∙ re)) n refl
 
   module _ (ok : r ≡ Accepted) where
-    pub arrival-accepted : (s : List ℕ) (x : Exit) → x ≡ atExit t output (judgedOctets t a s) → x ≡ atExit t output (receive t (length output) a s)
-    unfolding receive judgedOctets arrivalChecks
+    pub arrival-accepted : (s : List ℕ) (x : Exit) → x ≡ atExit t output (decide (readingOctets t a s)) → x ≡ atExit t output (receive t (length output) a s)
+    unfolding receive
     arrival-accepted s x xe =
         xe ∙ ap (atExit t output) (part-decided (readingOctets t a s .otherwise) (arrivalChecks t (length output) a) (readingOctets t a s .checks) (sym ok ∙ re))
 
     pub arrival-table-sized : Sized t
-    unfolding arrivalChecks
+    unfolding listed
     arrival-table-sized = table-sized t output _ r re ok
 
     pub arrival-output-long : 1560 ≤ length output
-    unfolding arrivalChecks
+    unfolding listed
     arrival-output-long = output-long t output _ r re ok
 
     pub arrival-clock : a .clock ≤ 281474976710655
-    unfolding arrivalChecks
+    unfolding listed
     arrival-clock =
         ltb-false 281474976710655 (a .clock)
         (passed-check 3 (arrivalChecks t (length output) a) (answer-passed (arrivalChecks t (length output) a) (sym ok ∙ re)))
@@ -67,18 +65,18 @@ module _ (t : List ℕ) (a : Arrival) (s : List ℕ) (r : Reading) (re : r ≡ r
   never-unread (rrep f dependents) n h = let z : _≡_ {A = ℕ} 0 1 = cc in omega arith
   never-unread (rerr flags destinations) n h = let z : _≡_ {A = ℕ} 0 1 = cc in omega arith
 
-  unread : (n : ℕ) → r ≡ Unread n → refused n ≡ judgedOctets t a s
-  unfolding reading judgedOctets judgedElement
+  unread : (n : ℕ) → r ≡ Unread n → refused n ≡ decide (readingOctets t a s)
+  unfolding reading readingOctets octetChecks
   unread n e = by (wrongLength s) (otherId s) (misfit s) (sym e ∙ re)
     where
       by : (x y z : Bool) → Unread n ≡ cond x (Unread 6) (cond y (Unread 7) (cond z (Unread 8) (fixedFields (readElement s))))
-          → refused n ≡ cond x (refused 6) (cond y (refused 7) (cond z (refused 8) (judgedElement t a (readElement s))))
+          → refused n ≡ cond x (refused 6) (cond y (refused 7) (cond z (refused 8) (decide (judging t a (readElement s)))))
       by true y z h = cc
       by false true z h = cc
       by false false true h = cc
       by false false false h = absurd (never-unread (readElement s) n h)
 
-  pub read-refused : (output : List ℕ) (n : ℕ) → r ≡ Unread n → exits (Outcome.Refused n) t output ≡ atExit t output (judgedOctets t a s)
+  pub read-refused : (output : List ℕ) (n : ℕ) → r ≡ Unread n → exits (Outcome.Refused n) t output ≡ atExit t output (decide (readingOctets t a s))
   unfolding atExit
   read-refused output n e = ap (atExit t output) (unread n e)
 
@@ -89,31 +87,31 @@ module _ (t : List ℕ) (a : Arrival) (s : List ℕ) (r : Reading) (re : r ≡ r
   isUnread (Error flags) = false
   isUnread (Unread n) = true
 
-  read-so : isUnread r ≡ false → judgedElement t a (readElement s) ≡ judgedOctets t a s
-  unfolding reading judgedOctets judgedElement
+  read-so : isUnread r ≡ false → decide (judging t a (readElement s)) ≡ decide (readingOctets t a s)
+  unfolding reading readingOctets octetChecks
   read-so e = by (wrongLength s) (otherId s) (misfit s) re
     where
       by : (x y z : Bool) → r ≡ cond x (Unread 6) (cond y (Unread 7) (cond z (Unread 8) (fixedFields (readElement s))))
-          → judgedElement t a (readElement s) ≡ cond x (refused 6) (cond y (refused 7) (cond z (refused 8) (judgedElement t a (readElement s))))
+          → decide (judging t a (readElement s)) ≡ cond x (refused 6) (cond y (refused 7) (cond z (refused 8) (decide (judging t a (readElement s)))))
       by true y z h = absurd (false≢true (sym e ∙ ap isUnread h))
       by false true z h = absurd (false≢true (sym e ∙ ap isUnread h))
       by false false true h = absurd (false≢true (sym e ∙ ap isUnread h))
       by false false false h = refl
 
   module _ (output : List ℕ) (x : Exit) where
-    read-as : (q : Reading) → r ≡ q → isUnread q ≡ false → (e : Element) → readElement s ≡ e → x ≡ atExit t output (judgedElement t a e) → x ≡ atExit t output (judgedOctets t a s)
+    read-as : (q : Reading) → r ≡ q → isUnread q ≡ false → (e : Element) → readElement s ≡ e → x ≡ atExit t output (decide (judging t a e)) → x ≡ atExit t output (decide (readingOctets t a s))
     read-as q rq so e ee xe =
-        xe ∙ ap (λ (y : Element). atExit t output (judgedElement t a y)) (sym ee) ∙ ap (atExit t output) (read-so (ap isUnread rq ∙ so))
+        xe ∙ ap (λ (y : Element). atExit t output (decide (judging t a y))) (sym ee) ∙ ap (atExit t output) (read-so (ap isUnread rq ∙ so))
 
-    pub rann-read : (p : PathInfo) → r ≡ Announcement p → x ≡ atExit t output (judgedElement t a (rann p)) → x ≡ atExit t output (judgedOctets t a s)
+    pub rann-read : (p : PathInfo) → r ≡ Announcement p → x ≡ atExit t output (decide (judging t a (rann p))) → x ≡ atExit t output (decide (readingOctets t a s))
     rann-read p e = read-as (Announcement p) e refl (rann p) (announcement-element s r re p e)
 
     module _ (part : List ℕ) (pe : part ≡ listPart s) where
-      pub rreq-read : (f : RreqFields) → r ≡ Request f → x ≡ atExit t output (judgedElement t a (rreq f (targetsIn part))) → x ≡ atExit t output (judgedOctets t a s)
+      pub rreq-read : (f : RreqFields) → r ≡ Request f → x ≡ atExit t output (decide (judging t a (rreq f (targetsIn part)))) → x ≡ atExit t output (decide (readingOctets t a s))
       rreq-read f e = read-as (Request f) e refl (rreq f (targetsIn part)) (request-element s r re f e part pe)
 
-      pub rrep-read : (f : RrepFields) → r ≡ Reply f → x ≡ atExit t output (judgedElement t a (rrep f (numberedIn part))) → x ≡ atExit t output (judgedOctets t a s)
+      pub rrep-read : (f : RrepFields) → r ≡ Reply f → x ≡ atExit t output (decide (judging t a (rrep f (numberedIn part)))) → x ≡ atExit t output (decide (readingOctets t a s))
       rrep-read f e = read-as (Reply f) e refl (rrep f (numberedIn part)) (reply-element s r re f e part pe)
 
-      pub rerr-read : (flags : ℕ) → r ≡ Error flags → x ≡ atExit t output (judgedElement t a (rerr flags (numberedIn part))) → x ≡ atExit t output (judgedOctets t a s)
+      pub rerr-read : (flags : ℕ) → r ≡ Error flags → x ≡ atExit t output (decide (judging t a (rerr flags (numberedIn part)))) → x ≡ atExit t output (decide (readingOctets t a s))
       rerr-read flags e = read-as (Error flags) e refl (rerr flags (numberedIn part)) (error-element s r re flags e part pe)

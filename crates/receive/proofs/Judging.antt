@@ -10,21 +10,22 @@ use native.Mathlib.Omega.{arith}
 use borrow.Author.Tests.{ltb-false, eqb-false, not-false}
 use Rattle.table.specs.declared.address.Address.{Address}
 use Rattle.element.specs.declared.PathInfo.{PathInfo}
+use Rattle.element.specs.declared.NumberedAddress.{NumberedAddress}
 use Rattle.element.specs.declared.RreqFields.{RreqFields}
 use Rattle.element.specs.declared.RrepFields.{RrepFields}
-use Rattle.element.specs.declared.list.ListKind.the-variants.{Targets}
+use Rattle.element.specs.declared.list.ListKind.the-variants.{Targets, NumberedAddresses}
 use Rattle.element.specs.Element.{Element, rann, rreq, rrep, rerr}
 use Rattle.element.specs.Entries.{numberedIn, targetsIn}
-use Rattle.element.specs.Lists.{entriesIn, allOnes, among, twice, onesBesideOthers}
+use Rattle.element.specs.Lists.{entriesIn, addressesIn, allOnes, anyForbidden, among, twice, onesBesideOthers}
 use Rattle.element.proofs.Scans.{addresses-many, target-addresses, numbered-addresses}
 use Rattle.rules.specs.declared.Arrival.{Arrival}
-use Rattle.rules.specs.Decision.{accepted}
+use Rattle.rules.specs.Decision.{accepted, decide}
 use Rattle.rules.specs.Errors.{matches}
 use Rattle.element.specs.Flags.{unicast}
 use Rattle.rules.specs.Lists.{any, has}
 use Rattle.rules.specs.Outcome.{Exit, atExit}
 use Rattle.rules.specs.Receive.{pathOf, targetAddresses, hasBadAddress, hasBadList, severalOrAll, isLowTtlReply, matchesNothing, received, judging}
-use Rattle.rules.proofs.Rulings.{Passed, passed-check}
+use Rattle.rules.proofs.Rulings.{listed, Passed, passed-check}
 use Rattle.calls.specs.declared.Outcome.{Outcome}
 use Rattle.calls.specs.declared.Answer.{Answer}
 use Rattle.calls.specs.declared.Answer.the-variants.{Accepted, Refused}
@@ -32,47 +33,44 @@ use Rattle.calls.specs.Answers.{answerTo, exits}
 use Rattle.calls.proofs.Checks.{answer-passed, refusal, acceptance}
 use Rattle.onward.specs.Sent.{unicastToSeveral}
 use Rattle.receive.specs.declared.faults.Faults.{Faults}
-use Rattle.receive.specs.Checks.{faultsOf, pathChecks, errorChecks}
-use Rattle.receive.specs.Judged.{elementChecks, judgedElement}
+use Rattle.receive.specs.Checks.{faultsOf, pathChecks}
 
 -- ---- the parts are the checks of an element
 
-module _ (t : List ℕ) (a : Arrival) (r : Answer) where
-  -- a RANN, a RREQ or a RREP: nothing of its path is skipped, and 26 is
-  module _ (x : Faults) where
-    pub rann-checked : (p : PathInfo) → x ≡ faultsOf (rann p) → r ≡ answerTo (pathChecks x t a p) → r ≡ answerTo (elementChecks t a (rann p))
-    unfolding answerTo pathChecks faultsOf elementChecks matchesNothing
-    rann-checked p xe re = re ∙ ap (λ (y : Faults). answerTo (pathChecks y t a p)) xe
+-- with a path: nothing of it is skipped, and 26 is
+pub path-checked : (t : List ℕ) (a : Arrival) (r : Answer) (e : Element) (p : PathInfo) → pathOf e ≡ some p → matchesNothing t a e ≡ false
+    → (x : Faults) → x ≡ faultsOf e → r ≡ answerTo (pathChecks x t a p) → r ≡ answerTo (judging t a e .checks)
+unfolding judging pathChecks faultsOf
+path-checked t a r e p pe unmatched x xe re =
+    re ∙ ap (λ (y : Faults). answerTo (pathChecks y t a p)) xe ∙ rw (pe, unmatched)
 
-    pub rreq-checked : (f : RreqFields) (part : List ℕ) → x ≡ faultsOf (rreq f (targetsIn part)) → r ≡ answerTo (pathChecks x t a (f .path))
-        → r ≡ answerTo (elementChecks t a (rreq f (targetsIn part)))
-    unfolding answerTo pathChecks faultsOf elementChecks matchesNothing
-    rreq-checked f part xe re = re ∙ ap (λ (y : Faults). answerTo (pathChecks y t a (f .path))) xe
+-- a RREP's dependents play no part
+pub dependents-aside : (f : RrepFields) (x : Faults) → x ≡ faultsOf (rrep f []) → (dependents : List NumberedAddress) → x ≡ faultsOf (rrep f dependents)
+unfolding faultsOf hasBadAddress hasBadList isLowTtlReply
+dependents-aside f x e dependents = e
 
-    pub rrep-checked : (f : RrepFields) (part : List ℕ) → x ≡ faultsOf (rrep f []) → r ≡ answerTo (pathChecks x t a (f .path))
-        → r ≡ answerTo (elementChecks t a (rrep f (numberedIn part)))
-    unfolding answerTo pathChecks faultsOf elementChecks matchesNothing hasBadAddress hasBadList isLowTtlReply
-    rrep-checked f part xe re = re ∙ ap (λ (y : Faults). answerTo (pathChecks y t a (f .path))) xe
+-- of a RERR: the tests of its list
+module _ (flags : ℕ) (part : List ℕ) (b v : Bool) where
+  pub error-address : b ≡ anyForbidden NumberedAddresses (addressesIn NumberedAddresses part) → b ≡ v → hasBadAddress (rerr flags (numberedIn part)) ≡ v
+  unfolding hasBadAddress
+  error-address be bv = rw (numbered-addresses part) (sym be ∙ bv)
 
-  -- a RERR: 11 to 14, 24, 25 and 27 are skipped
-  pub rerr-checked : (flags : ℕ) (part : List ℕ) → r ≡ answerTo (errorChecks t a part) → r ≡ answerTo (elementChecks t a (rerr flags (numberedIn part)))
-  unfolding answerTo errorChecks elementChecks matchesNothing hasBadAddress hasBadList isLowTtlReply
-  rerr-checked flags part re = rw (numbered-addresses part) re
+  pub error-list : b ≡ twice (addressesIn NumberedAddresses part) → b ≡ v → hasBadList (rerr flags (numberedIn part)) ≡ v
+  unfolding hasBadList
+  error-list be bv = rw (numbered-addresses part) (sym be ∙ bv)
 
 -- ---- what the answer says
 
-module _ (t : List ℕ) (a : Arrival) (e : Element) (r : Answer) (re : r ≡ answerTo (elementChecks t a e)) where
-  pub element-refused : (output : List ℕ) (n : ℕ) → r ≡ Refused n → exits (Outcome.Refused n) t output ≡ atExit t output (judgedElement t a e)
-  unfolding elementChecks judgedElement
+module _ (t : List ℕ) (a : Arrival) (e : Element) (r : Answer) (re : r ≡ answerTo (judging t a e .checks)) where
+  pub element-refused : (output : List ℕ) (n : ℕ) → r ≡ Refused n → exits (Outcome.Refused n) t output ≡ atExit t output (decide (judging t a e))
   element-refused output = refusal t output (judging t a e) r re
 
   module _ (ok : r ≡ Accepted) where
-    pub element-accepted : (output : List ℕ) (x : Exit) → x ≡ atExit t output (accepted (received t a e)) → x ≡ atExit t output (judgedElement t a e)
-    unfolding elementChecks judgedElement
+    pub element-accepted : (output : List ℕ) (x : Exit) → x ≡ atExit t output (accepted (received t a e)) → x ≡ atExit t output (decide (judging t a e))
+    unfolding judging
     element-accepted output = acceptance t output (judging t a e) r re ok
 
     none-applied : Passed (judging t a e .checks)
-    unfolding elementChecks
     none-applied = answer-passed (judging t a e .checks) (sym ok ∙ re)
 
     module _ (p : PathInfo) (pe : pathOf e ≡ some p) where
@@ -81,31 +79,33 @@ module _ (t : List ℕ) (a : Arrival) (e : Element) (r : Answer) (re : r ≡ ans
       of-path test passes = ap (has test) (sym pe) ∙ passes
 
       pub metric-small : p .metric .0 + a .link .0 ≤ 4294967294
+      unfolding listed
       metric-small =
           ltb-false 4294967294 (p .metric .0 + a .link .0)
           (of-path (λ q. ltb 4294967294 (q .metric .0 + a .link .0)) (passed-check 13 (judging t a e .checks) none-applied))
 
       pub hops-small : p .hops .0 < 256 → p .hops .0 < 255
+      unfolding listed
       hops-small l =
           let other = eqb-false (p .hops .0) 255 (of-path (λ q. eqb (q .hops .0) 255) (passed-check 12 (judging t a e .checks) none-applied)) in
           omega (arith, l, other)
 
 -- a RREP has TTL left, an error names a match, a unicast RREQ has one destination
 module _ (t : List ℕ) (a : Arrival) (r : Answer) (ok : r ≡ Accepted) where
-  pub ttl-left : (f : RrepFields) (part : List ℕ) → r ≡ answerTo (elementChecks t a (rrep f (numberedIn part))) → 2 ≤ f .path .ttl
-  unfolding isLowTtlReply
+  pub ttl-left : (f : RrepFields) (part : List ℕ) → r ≡ answerTo (judging t a (rrep f (numberedIn part)) .checks) → 2 ≤ f .path .ttl
+  unfolding listed isLowTtlReply
   ttl-left f part re =
       ltb-false (f .path .ttl) 2 (passed-check 14 (judging t a (rrep f (numberedIn part)) .checks) (none-applied t a (rrep f (numberedIn part)) r re ok))
 
-  pub some-match : (flags : ℕ) (part : List ℕ) → r ≡ answerTo (elementChecks t a (rerr flags (numberedIn part)))
+  pub some-match : (flags : ℕ) (part : List ℕ) → r ≡ answerTo (judging t a (rerr flags (numberedIn part)) .checks)
       → any (matches t (a .clock) (a .transmitter)) (numberedIn part) ≡ true
-  unfolding matchesNothing
+  unfolding listed matchesNothing
   some-match flags part re =
       not-false (any (matches t (a .clock) (a .transmitter)) (numberedIn part))
       (passed-check 26 (judging t a (rerr flags (numberedIn part)) .checks) (none-applied t a (rerr flags (numberedIn part)) r re ok))
 
-  pub one-destination : (f : RreqFields) (part : List ℕ) → r ≡ answerTo (elementChecks t a (rreq f (targetsIn part))) → unicastToSeveral (f .path) part ≡ false
-  unfolding hasBadList severalOrAll unicastToSeveral entriesIn
+  pub one-destination : (f : RreqFields) (part : List ℕ) → r ≡ answerTo (judging t a (rreq f (targetsIn part)) .checks) → unicastToSeveral (f .path) part ≡ false
+  unfolding listed hasBadList severalOrAll unicastToSeveral entriesIn
   one-destination f part re =
       let addresses : List Address = targetAddresses (targetsIn part) in
       let good = passed-check 10 (judging t a (rreq f (targetsIn part)) .checks) (none-applied t a (rreq f (targetsIn part)) r re ok) in

@@ -13,16 +13,15 @@ ghost use mathlib.Core.Path.{_≡_};
 ghost use Prim.Native.Nat.{_+_, _<_, _≤_};
 ghost use lib.ListN.{length};
 ghost use Rattle.element.specs.Element.{rann};
-ghost use Rattle.rules.specs.Decision.{accepted};
+ghost use Rattle.rules.specs.Decision.{accepted, decide};
 ghost use Rattle.rules.specs.Outcome.{atExit};
-ghost use Rattle.rules.specs.Receive.{received};
+ghost use Rattle.rules.specs.Receive.{judging, received};
 ghost use Rattle.calls.specs.Answers.{answerTo, exits};
-ghost use Rattle.receive.specs.Judged.{elementChecks, judgedElement};
 ghost use Rattle.table.specs.Layout.{Sized};
 
 fn check(table: &[u8], a: Arrival, p: PathInfo) -> Answer
     requires { ⌜ Sized (now table) ⌝ }
-    ensures { λ r. ⌜ r ≡ answerTo (elementChecks (now (table .entry)) a (rann p)) ⌝ }
+    ensures { λ r. ⌜ r ≡ answerTo (judging (now (table .entry)) a (rann p) .checks) ⌝ }
 {
     path::check(table, a, p, faults::of_rann(p))
 }
@@ -47,7 +46,7 @@ pub fn receive(table: &mut [u8], output: &mut [u8], a: Arrival, p: PathInfo) -> 
     requires { ⌜ Sized (now table) ⌝ }
     requires { ⌜ 1560 ≤ length (now output) ⌝ }
     requires { ⌜ a .clock ≤ 281474976710655 ⌝ }
-    ensures { λ r. ⌜ exits r (now (table .exit)) (now (output .exit)) ≡ atExit (now (table .entry)) (now (output .entry)) (judgedElement (now (table .entry)) a (rann p)) ⌝ }
+    ensures { λ r. ⌜ exits r (now (table .exit)) (now (output .exit)) ≡ atExit (now (table .entry)) (now (output .entry)) (decide (judging (now (table .entry)) a (rann p))) ⌝ }
 {
     match check(table, a, p) {
         Answer::Accepted => take(table, output, a, p),

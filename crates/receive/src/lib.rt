@@ -15,11 +15,10 @@ use rules::Arrival;
 ghost use mathlib.Core.Path.{_≡_};
 ghost use Prim.Native.Nat.{_≤_};
 ghost use lib.ListN.{length};
+ghost use Rattle.rules.specs.Decision.{decide};
 ghost use Rattle.rules.specs.Outcome.{atExit};
-ghost use Rattle.rules.specs.Receive.{receive};
+ghost use Rattle.rules.specs.Receive.{arrivalChecks, readingOctets, receive};
 ghost use Rattle.calls.specs.Answers.{answerTo, exits};
-ghost use Rattle.receive.specs.Checks.{arrivalChecks};
-ghost use Rattle.receive.specs.Judged.{judgedOctets};
 ghost use Rattle.table.specs.Layout.{Sized};
 
 // The refusals 1 to 5.
@@ -40,7 +39,7 @@ fn receive_element(table: &mut [u8], output: &mut [u8], a: Arrival, element: &[u
     requires { ⌜ Sized (now table) ⌝ }
     requires { ⌜ 1560 ≤ length (now output) ⌝ }
     requires { ⌜ a .clock ≤ 281474976710655 ⌝ }
-    ensures { λ r. ⌜ exits r (now (table .exit)) (now (output .exit)) ≡ atExit (now (table .entry)) (now (output .entry)) (judgedOctets (now (table .entry)) a (now (element .entry))) ⌝ }
+    ensures { λ r. ⌜ exits r (now (table .exit)) (now (output .exit)) ≡ atExit (now (table .entry)) (now (output .entry)) (decide (readingOctets (now (table .entry)) a (now (element .entry)))) ⌝ }
 {
     match read::read(element) {
         Reading::Announcement(p) => announcement::receive(table, output, a, p),

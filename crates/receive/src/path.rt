@@ -8,12 +8,13 @@ use learn::stale;
 use rules::Arrival;
 use table::row;
 ghost use mathlib.Core.Path.{_≡_};
-ghost use mathlib.Core.List.{_++_};
+ghost use mathlib.Core.Bool.{false};
+ghost use mathlib.Core.Option.{some};
 ghost use lib.Dec.{ltb};
 ghost use Rattle.rules.specs.Learn.{metricHere};
+ghost use Rattle.rules.specs.Receive.{fieldChecks, rowChecks};
 ghost use Rattle.calls.specs.Answers.{answerTo};
-ghost use Rattle.calls.specs.Checks.{stateChecks};
-ghost use Rattle.receive.specs.Checks.{fieldChecks, pathChecks, rowChecks};
+ghost use Rattle.receive.specs.Checks.{pathChecks, pathStateChecks};
 ghost use Rattle.table.specs.Layout.{Sized};
 
 // Received metric + link metric above 4,294,967,294.
@@ -25,7 +26,7 @@ fn is_too_far(a: Arrival, p: PathInfo) -> bool
 
 // By the element alone: 9 to 14.
 fn check_fields(a: Arrival, p: PathInfo, faults: Faults) -> Answer
-    ensures { λ r. ⌜ r ≡ answerTo (fieldChecks faults a p) ⌝ }
+    ensures { λ r. ⌜ r ≡ answerTo (fieldChecks (faults .address) (faults .list) (faults .ttl) a (some p)) ⌝ }
 {
     if faults.address {
         return Answer::Refused(9);
@@ -51,7 +52,7 @@ fn check_fields(a: Arrival, p: PathInfo, faults: Faults) -> Answer
 // By the rows: 24, 25 and 27.
 fn check_rows(table: &[u8], a: Arrival, p: PathInfo) -> Answer
     requires { ⌜ Sized (now table) ⌝ }
-    ensures { λ r. ⌜ r ≡ answerTo (rowChecks (now (table .entry)) a p) ⌝ }
+    ensures { λ r. ⌜ r ≡ answerTo (rowChecks (now (table .entry)) a false (some p)) ⌝ }
 {
     if p.subject.0 == row::read_head(table).own.0 {
         return Answer::Refused(24);
@@ -68,7 +69,7 @@ fn check_rows(table: &[u8], a: Arrival, p: PathInfo) -> Answer
 // By the state: 21 to 25 and 27.
 fn check_state(table: &[u8], a: Arrival, p: PathInfo) -> Answer
     requires { ⌜ Sized (now table) ⌝ }
-    ensures { λ r. ⌜ r ≡ answerTo (stateChecks (now (table .entry)) (a .clock) (a .transmitter) ++ rowChecks (now (table .entry)) a p) ⌝ }
+    ensures { λ r. ⌜ r ≡ answerTo (pathStateChecks (now (table .entry)) a p) ⌝ }
 {
     if let Answer::Refused(n) = clocked::check_state(table, a.clock, a.transmitter) {
         return Answer::Refused(n);

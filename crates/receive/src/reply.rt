@@ -14,17 +14,16 @@ ghost use Prim.Native.Nat.{_+_, _%_, _<_, _≤_};
 ghost use lib.ListN.{length};
 ghost use Rattle.element.specs.Element.{rrep};
 ghost use Rattle.element.specs.Entries.{numberedIn};
-ghost use Rattle.rules.specs.Decision.{accepted};
+ghost use Rattle.rules.specs.Decision.{accepted, decide};
 ghost use Rattle.rules.specs.Outcome.{atExit};
-ghost use Rattle.rules.specs.Receive.{received};
+ghost use Rattle.rules.specs.Receive.{judging, received};
 ghost use Rattle.calls.specs.Answers.{answerTo, exits};
-ghost use Rattle.receive.specs.Judged.{elementChecks, judgedElement};
 ghost use Rattle.table.specs.Layout.{Sized};
 
 // Dependents play no part; the contract names the element.
 fn check(table: &[u8], a: Arrival, f: RrepFields, part: &[u8]) -> Answer
     requires { ⌜ Sized (now table) ⌝ }
-    ensures { λ r. ⌜ r ≡ answerTo (elementChecks (now (table .entry)) a (rrep f (numberedIn (now (part .entry))))) ⌝ }
+    ensures { λ r. ⌜ r ≡ answerTo (judging (now (table .entry)) a (rrep f (numberedIn (now (part .entry)))) .checks) ⌝ }
 {
     path::check(table, a, f.path, faults::of_rrep(f))
 }
@@ -60,7 +59,7 @@ pub fn receive(
     requires { ⌜ a .clock ≤ 281474976710655 ⌝ }
     requires { ⌜ length (now part) ≤ 220 ⌝ }
     requires { ⌜ length (now part) % 10 ≡ 0 ⌝ }
-    ensures { λ r. ⌜ exits r (now (table .exit)) (now (output .exit)) ≡ atExit (now (table .entry)) (now (output .entry)) (judgedElement (now (table .entry)) a (rrep f (numberedIn (now (part .entry))))) ⌝ }
+    ensures { λ r. ⌜ exits r (now (table .exit)) (now (output .exit)) ≡ atExit (now (table .entry)) (now (output .entry)) (decide (judging (now (table .entry)) a (rrep f (numberedIn (now (part .entry)))))) ⌝ }
 {
     match check(table, a, f, part) {
         Answer::Accepted => take(table, output, a, f, part),

@@ -20,13 +20,12 @@ ghost use lib.ListN.{length};
 ghost use Rattle.octets.specs.LittleEndian.{over};
 ghost use Rattle.element.specs.Element.{rreq};
 ghost use Rattle.element.specs.Entries.{targetsIn};
-ghost use Rattle.rules.specs.Decision.{accepted};
+ghost use Rattle.rules.specs.Decision.{accepted, decide};
 ghost use Rattle.rules.specs.Destinations.{allAnswered};
 ghost use Rattle.rules.specs.Outcome.{atExit, frameOctets};
-ghost use Rattle.rules.specs.Receive.{received};
+ghost use Rattle.rules.specs.Receive.{judging, received};
 ghost use Rattle.calls.specs.Answers.{answerTo, exits};
 ghost use Rattle.onward.specs.Sent.{unicastToSeveral};
-ghost use Rattle.receive.specs.Judged.{elementChecks, judgedElement};
 ghost use Rattle.receive.specs.Sent.{framesAfter, sentFor, together};
 ghost use Rattle.table.specs.Layout.{Sized};
 
@@ -38,7 +37,7 @@ pub struct Sent {
 
 fn check(table: &[u8], a: Arrival, f: RreqFields, part: &[u8]) -> Answer
     requires { ⌜ Sized (now table) ⌝ }
-    ensures { λ r. ⌜ r ≡ answerTo (elementChecks (now (table .entry)) a (rreq f (targetsIn (now (part .entry))))) ⌝ }
+    ensures { λ r. ⌜ r ≡ answerTo (judging (now (table .entry)) a (rreq f (targetsIn (now (part .entry)))) .checks) ⌝ }
 {
     path::check(table, a, f.path, faults::of_rreq(f, part))
 }
@@ -118,7 +117,7 @@ pub fn receive(
     requires { ⌜ a .clock ≤ 281474976710655 ⌝ }
     requires { ⌜ 11 ≤ length (now part) ⌝ }
     requires { ⌜ length (now part) ≤ 220 ⌝ }
-    ensures { λ r. ⌜ exits r (now (table .exit)) (now (output .exit)) ≡ atExit (now (table .entry)) (now (output .entry)) (judgedElement (now (table .entry)) a (rreq f (targetsIn (now (part .entry))))) ⌝ }
+    ensures { λ r. ⌜ exits r (now (table .exit)) (now (output .exit)) ≡ atExit (now (table .entry)) (now (output .entry)) (decide (judging (now (table .entry)) a (rreq f (targetsIn (now (part .entry)))))) ⌝ }
 {
     match check(table, a, f, part) {
         Answer::Accepted => take(table, output, a, f, part),

@@ -23,8 +23,8 @@ use Rattle.rules.specs.Decision.{Check}
 use Rattle.rules.specs.Lists.{has}
 use Rattle.rules.specs.declared.Arrival.{Arrival}
 use Rattle.rules.specs.Learn.{metricHere}
-use Rattle.rules.specs.Receive.{pathOf, ofPath, targetAddresses, hasBadAddress, isStale, matchesNothing, rowsNeeded, receiving}
-use Rattle.rules.proofs.Rulings.{Passed, passed-check}
+use Rattle.rules.specs.Receive.{pathOf, targetAddresses, hasBadAddress, isStale, matchesNothing, rowsNeeded, receiving}
+use Rattle.rules.proofs.Rulings.{listed, Passed, passed-check}
 use Rattle.rules.proofs.Tables.{Whole, whole}
 use Rattle.rules.proofs.Learning.{PathFits, Heard}
 
@@ -78,7 +78,7 @@ unfolding isOther
 other-of a x i n = rw (i, n)
 
 -- a test of an element's path that does not apply
-path-test : (test : PathInfo → Bool) (e : Element) → ofPath test e ≡ false → (p : PathInfo) → pathOf e ≡ some p → test p ≡ false
+path-test : (test : PathInfo → Bool) (e : Element) → has test (pathOf e) ≡ false → (p : PathInfo) → pathOf e ≡ some p → test p ≡ false
 path-test test e h p is = ap (has test) (sym is) ∙ h
 
 module _ (t : List ℕ) (room : ℕ) (a : Arrival) (s : List ℕ) (octets : Octets t) (transmitter-fits : a .transmitter .0 < 256 ^ 6)
@@ -87,15 +87,19 @@ module _ (t : List ℕ) (room : ℕ) (a : Arrival) (s : List ℕ) (octets : Octe
   checks = receiving t room a s .checks
 
   t-whole : Whole t
+  unfolding listed
   t-whole = whole t octets (passed-check 1 checks h) (passed-check 21 checks h)
 
   element-fits : Fits (readElement s)
+  unfolding listed
   element-fits = read-fits s s-octets (passed-check 6 checks h) (passed-check 7 checks h) (passed-check 8 checks h)
 
   clock-fits : a .clock ≤ 2 ^ 48 - 1
+  unfolding listed
   clock-fits = ltb-false (2 ^ 48 - 1) (a .clock) (passed-check 3 checks h)
 
   path-heard : (p : PathInfo) → pathOf (readElement s) ≡ some p → Heard t a p
+  unfolding listed
   path-heard p is =
       let fits : PathFits p = path-fits (readElement s) element-fits p is in
       let own-subject = path-test (λ (q : PathInfo). same (q .subject) (own t)) (readElement s) (passed-check 24 checks h) p is in
@@ -117,5 +121,6 @@ module _ (t : List ℕ) (room : ℕ) (a : Arrival) (s : List ℕ) (octets : Octe
       }
 
   pub accepted-element : Accepted t a (readElement s)
+  unfolding listed
   accepted-element =
       record { whole = t-whole; clock = clock-fits; fits = element-fits; heard = path-heard; matched = passed-check 26 checks h }

@@ -46,7 +46,7 @@ use Rattle.rules.specs.Receive.{matchesNothing, rannReceived, rrepReceiv
 use Rattle.rules.specs.Originate.{numberedHead, ownPath, announced, requested, itemsFit, knownNumber, askedFor, asking, ask, announcing, announce, isRootFlags, allWithDOAndRF, requestingAsRoot, rootRequest}
 use Rattle.rules.specs.Break.{brokenOff, breaking, breakNeighbour}
 use Rattle.rules.specs.Calls.{Call, receives, makes, asks, announces, requestsAsRoot, breaks, outcome, OperandsFit}
-use Rattle.rules.proofs.Rulings.{passed, passed-check}
+use Rattle.rules.proofs.Rulings.{listed, passed, passed-check}
 use Rattle.rules.proofs.Branches.{cond-cases}
 use Rattle.rules.proofs.Alls.{all-append, all-map, all-those, those-fewer, those-some}
 use Rattle.rules.proofs.Tables.{Whole, whole, Keeps, Leaves, own-fits, number-fits, request-fits, clock-small, head-leaves}
@@ -217,13 +217,13 @@ root-flags-small flags e = by (ltb flags 6) refl
 
 module _ (t : List ℕ) (octets : Octets t) (room : ℕ) where
   receive-kept : (a : Arrival) (s : List ℕ) → a .transmitter .0 < 256 ^ 6 → Octets s → (e : Effect) → receive t room a s ≡ accepted e → Kept t e
-  unfolding receive
+  unfolding listed receive
   receive-kept a s fits o e is =
       let p = passed (receiving t room a s) e is in
       rw (← p .1) (received-kept t a (readElement s) (accepted-element t room a s octets fits o (p .0)))
 
   ask-kept : (lifetime : ℕ) (s : List ℕ) → lifetime < 256 ^ 4 → Octets s → (e : Effect) → ask t room lifetime s ≡ accepted e → Kept t e
-  unfolding asking ask
+  unfolding listed ask
   ask-kept lifetime s l o e is =
       let p = passed (asking t room lifetime s) e is in
       let checks : List Check = asking t room lifetime s .checks in
@@ -252,7 +252,7 @@ module _ (t : List ℕ) (octets : Octets t) (room : ℕ) where
       ((omega arith, (omega arith, (omega arith, tt))), tt) (omega arith) (omega arith))
 
   break-kept : (c : ℕ) (neighbour : Address) (e : Effect) → breakNeighbour t room c neighbour ≡ accepted e → Kept t e
-  unfolding breaking breakNeighbour brokenOff
+  unfolding listed breakNeighbour brokenOff
   break-kept c neighbour e is =
       let p = passed (breaking t room c neighbour) e is in
       let checks : List Check = breaking t room c neighbour .checks in

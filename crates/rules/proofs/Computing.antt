@@ -24,10 +24,11 @@ use Rattle.rules.specs.Destinations.{reply, answeredNumber, answersFor, 
 use Rattle.rules.specs.Onward.{onward, rannOnward, rreqOnward, rrepOnward}
 use Rattle.rules.specs.Errors.{isLostBy, matches, numberBeside, isMatch, erredWith, erred, broken, brokenEntry, brokenEntries, errorAt, errorsFor}
 use Rattle.rules.specs.Receive.{hasBadAddress, severalOrAll, hasBadList, isLowTtlReply, isStaleFor, isStale, matchesNothing, rowsNeeded, rannReceived, rrepReceived, rreqReceived, rerrReceived, received, receive}
-use Rattle.rules.specs.Originate.{numberedHead, ownPath, announced, requested, itemsFit, knownNumber, askedFor, asking, ask, announce, isRootFlags, rootRequest}
-use Rattle.rules.specs.Break.{brokenOff, breaking, breakNeighbour}
+use Rattle.rules.specs.Originate.{numberedHead, ownPath, announced, requested, itemsFit, knownNumber, askedFor, ask, announce, isRootFlags, rootRequest}
+use Rattle.rules.specs.Break.{brokenOff, breakNeighbour}
 use Rattle.rules.specs.Calls.{outcome}
 use Rattle.rules.specs.Walk.{tableAt, sideBySide, hasLaterClock, rowOfPoint, leadsTo, follow, walk}
+use Rattle.rules.proofs.Rulings.{listed}
 
 unfoldable pub computing : Unit {0}
 unfolding flatMap numberOctets numberAt over withNumber fieldsAt withFields fieldOctets
@@ -43,7 +44,7 @@ unfolding flatMap numberOctets numberAt over withNumber fieldsAt withFields fiel
     onward rannOnward rreqOnward rrepOnward
     isThrough isLostBy matches numberBeside isMatch erredWith erred broken brokenEntry brokenEntries errorAt errorsFor
     hasBadAddress severalOrAll hasBadList isLowTtlReply isStaleFor isStale matchesNothing rowsNeeded
-    rannReceived rrepReceived rreqReceived rerrReceived received receive
-    numberedHead ownPath announced requested itemsFit knownNumber askedFor asking ask announce isRootFlags rootRequest
-    brokenOff breaking breakNeighbour outcome tableAt sideBySide hasLaterClock rowOfPoint leadsTo follow walk
+    rannReceived rrepReceived rreqReceived rerrReceived received listed receive
+    numberedHead ownPath announced requested itemsFit knownNumber askedFor ask announce isRootFlags rootRequest
+    brokenOff breakNeighbour outcome tableAt sideBySide hasLaterClock rowOfPoint leadsTo follow walk
 computing = tt

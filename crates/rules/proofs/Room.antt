@@ -38,7 +38,7 @@ use Rattle.rules.specs.Originate.{announced, requested, asking, ask, ann
 use Rattle.rules.specs.Break.{brokenOff, breaking, breakNeighbour}
 use Rattle.rules.specs.Calls.{Call, receives, makes, asks, announces, requestsAsRoot, breaks, outcome, OperandsFit}
 use Rattle.rules.proofs.Branches.{cond-cases}
-use Rattle.rules.proofs.Rulings.{passed, passed-check}
+use Rattle.rules.proofs.Rulings.{listed, passed, passed-check}
 use Rattle.rules.proofs.Alls.{all-after, all-implies, flat-fewer}
 use Rattle.rules.proofs.Emitting.{Each, Emits, rann-emitted, rreq-emitted, rrep-emitted, replies-emitted, errors-emitted}
 use Rattle.rules.proofs.FrameOctets.{frames-append}
@@ -141,7 +141,7 @@ module _ (t : List ℕ) (octets : Octets t) (room : ℕ) where
       few-frames n l (e .frames) (subst (λ (x : Effect). length (x .frames) ≤ n) same-effect few) (call-kept t octets room call fit e is .frames)
 
   pub call-room : (call : Call) → OperandsFit call → (e : Effect) → outcome t room call ≡ accepted e → length (frameOctets (e .frames)) ≤ 1560
-  unfolding outcome receive asking ask announce rootRequest breaking breakNeighbour announced requested brokenOff
+  unfolding listed outcome receive ask announce rootRequest breakNeighbour announced requested brokenOff
   call-room (receives a s) fit e is =
       let p = passed (receiving t room a s) e is in
       let frames = call-kept t octets room (receives a s) fit e is .frames in

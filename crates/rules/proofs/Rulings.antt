@@ -6,7 +6,16 @@ use Prim.Native.Nat.{ℕ}
 use native.Mathlib.Omega.{arith}
 use lib.Dec.{eqb}
 use Rattle.rules.specs.Decision.{refused, accepted, Check, Ruling, judged, decide}
+use Rattle.rules.specs.Checks.{operandChecks, stateChecks}
+use Rattle.rules.specs.Receive.{arrivalChecks, octetChecks, fieldChecks, judging, readingOctets}
+use Rattle.rules.specs.Originate.{itemChecks, asking}
+use Rattle.rules.specs.Break.{breaking}
 use Rattle.rules.proofs.Branches.{cond-cases}
+
+-- What unfolds for the checks of a call to be a written list: to unfold `listed` is to unfold all that its line names.
+unfoldable pub listed : Unit {0}
+unfolding operandChecks stateChecks arrivalChecks octetChecks fieldChecks judging readingOctets itemChecks asking breaking
+listed = tt
 
 -- no check applies
 abbrev pub Passed : List Check → Type 0

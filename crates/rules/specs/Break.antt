@@ -1,12 +1,10 @@
 -- Report a broken neighbour. Assumes nothing.
-use Prim.Native.Nat.{ℕ, _-_, _^_}
-use mathlib.Core.Bool.{not}
+use Prim.Native.Nat.{ℕ}
 use mathlib.Core.List.{List}
 use Rattle.table.specs.declared.address.Address.{Address}
-use Rattle.table.specs.Address.{individual, same}
-use Rattle.table.specs.Layout.{sized}
-use Rattle.table.specs.Table.{own, number, clock, isTable, changeWhere}
-use Rattle.rules.specs.Decision.{Decision, Ruling, decide, refuse_when_, _above_, _below_, accept, _>>_}
+use Rattle.table.specs.Table.{number, changeWhere}
+use Rattle.rules.specs.Decision.{Decision, Ruling, decide, accept, _>>_}
+use Rattle.rules.specs.Checks.{operandChecks, stateChecks}
 use Rattle.rules.specs.Outcome.{Effect, underHead}
 use Rattle.table.specs.Row.{isThrough}
 use Rattle.rules.specs.Errors.{broken, brokenEntries, errorsFor}
@@ -21,13 +19,10 @@ brokenOff t c neighbour =
 
 unfoldable pub breaking : List ℕ → ℕ → ℕ → Address → Ruling Effect
 breaking t room c neighbour = do
-  refuse 1 when not (sized t)
-  refuse 2 when room below 1560
-  refuse 3 when c above 2 ^ 48 - 1
-  refuse 4 when not (individual neighbour)
-  refuse 21 when not (isTable t)
-  refuse 22 when c below clock t
-  refuse 23 when same neighbour (own t)
+  -- 1 to 4
+  operandChecks t room c neighbour
+  -- 21 to 23
+  stateChecks t c neighbour
   accept (brokenOff t c neighbour)
 
 unfoldable pub breakNeighbour : List ℕ → ℕ → ℕ → Address → Decision Effect

@@ -1,7 +1,7 @@
 -- What a call comes to: a refusal by its number, or what it makes of what it was lent. Assumes nothing.
 use Prim.Native.Nat.{ℕ}
 use mathlib.Core.Bool.{Bool, cond}
-use mathlib.Core.List.{List, [], _∷_}
+use mathlib.Core.List.{List, [], _∷_, _++_}
 use lib.Dec.{ltb}
 
 pub data Decision (A : Type 0) : Type 0 where
@@ -18,10 +18,16 @@ pub record Ruling (A : Type 0) : Type 0 where
   pub checks : List Check
   pub otherwise : A
 
--- A ruling is written as a `do` block: a line `refuse n when test` for each check, and `accept` with the outcome.
+-- A ruling is written as a `do` block: a line `refuse n when test` for each check, or the name of several, and `accept` with
+-- the outcome.
 infix 6 refuse_when_
-abbrev pub refuse_when_ : ℕ → Bool → Check
-refuse_when_ n b = record { number = n; applies = b }
+abbrev pub refuse_when_ : ℕ → Bool → List Check
+refuse_when_ n b = record { number = n; applies = b } ∷ []
+
+-- checks that have a name of their own are joined by `then`
+infixr 5 _then_
+abbrev pub _then_ : List Check → List Check → List Check
+_then_ checks others = checks ++ others
 
 -- the comparisons of the checks, in words
 infix 45 _above_
@@ -35,8 +41,8 @@ _below_ x bound = ltb x bound
 abbrev pub accept : {A : Type 0} → A → Ruling A
 accept a = record { checks = []; otherwise = a }
 
-abbrev pub _>>_ : {A : Type 0} → Check → Ruling A → Ruling A
-_>>_ k r = record { checks = k ∷ r .checks; otherwise = r .otherwise }
+abbrev pub _>>_ : {A : Type 0} → List Check → Ruling A → Ruling A
+_>>_ checks r = record { checks = checks ++ r .checks; otherwise = r .otherwise }
 
 -- the first check that applies refuses the call
 abbrev pub judged : {A : Type 0} → List Check → A → Decision A

@@ -1,4 +1,5 @@
 pub mod Decision
+pub mod Checks
 pub mod Lists
 pub mod Outcome
 pub mod Fresh

@@ -12,7 +12,7 @@ use Rattle.counters.specs.Numbering.{advancedFor}
 use Rattle.table.specs.declared.row.Head.{Head}
 use Rattle.table.specs.declared.row.Row.{Row}
 use Rattle.table.specs.Row.{headWith}
-use Rattle.table.specs.Layout.{sized, headAt, putHead}
+use Rattle.table.specs.Layout.{headAt, putHead}
 use Rattle.table.specs.Table.{own, isTable, rowFor}
 use Rattle.element.specs.declared.Item.{Item}
 use Rattle.element.specs.declared.PathInfo.{PathInfo}
@@ -22,7 +22,8 @@ use Rattle.element.specs.declared.list.ListKind.the-variants.{Items}
 use Rattle.element.specs.Element.{rann, rreq}
 use Rattle.element.specs.Entries.{itemsIn}
 use Rattle.element.specs.Lists.{addressesIn, allOnes, anyForbidden, among, twice}
-use Rattle.rules.specs.Decision.{Decision, Ruling, decide, refuse_when_, _above_, _below_, accept, _>>_}
+use Rattle.rules.specs.Decision.{Decision, Check, Ruling, decide, refuse_when_, _then_, _above_, accept, _>>_}
+use Rattle.rules.specs.Checks.{bufferChecks}
 use Rattle.rules.specs.Lists.{any}
 use Rattle.rules.specs.Outcome.{Effect}
 use Rattle.rules.specs.Onward.{toAll}
@@ -81,13 +82,19 @@ knownNumber (some r) = cond (eqb (r .known) 1) (r .number) (record { 0 = 0 })
 unfoldable pub askedFor : List ℕ → Item → Target
 askedFor t i = record { flags = i .flags; address = i .address; number = knownNumber (rowFor t (i .address)) }
 
+-- of the items alone
+unfoldable pub itemChecks : List ℕ → List Check
+itemChecks items =
+    refuse 8 when not (itemsFit items)
+    then refuse 9 when anyForbidden Items (addressesIn Items items)
+    then refuse 10 when twice (addressesIn Items items) || any hasHighFlags (itemsIn items)
+
 unfoldable pub asking : List ℕ → ℕ → ℕ → List ℕ → Ruling Effect
 asking t room lifetime items = do
-  refuse 1 when not (sized t)
-  refuse 2 when room below 1560
-  refuse 8 when not (itemsFit items)
-  refuse 9 when anyForbidden Items (addressesIn Items items)
-  refuse 10 when twice (addressesIn Items items) || any hasHighFlags (itemsIn items)
+  -- 1 and 2
+  bufferChecks t room
+  -- 8 to 10
+  itemChecks items
   refuse 11 when eqb lifetime 0
   refuse 21 when not (isTable t)
   refuse 24 when among (own t) (addressesIn Items items)
@@ -101,8 +108,8 @@ ask t room lifetime items = decide (asking t room lifetime items)
 -- what both are refused for
 abbrev pub originating : {A : Type 0} → List ℕ → ℕ → (barred : Bool) → (lifetime : ℕ) → A → Ruling A
 originating t room barred lifetime a = do
-  refuse 1 when not (sized t)
-  refuse 2 when room below 1560
+  -- 1 and 2
+  bufferChecks t room
   refuse 10 when barred
   refuse 11 when eqb lifetime 0
   refuse 21 when not (isTable t)

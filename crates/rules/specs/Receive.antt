@@ -9,8 +9,7 @@ use Rattle.counters.specs.Numbers.{older}
 use Rattle.table.specs.declared.address.Address.{Address}
 use Rattle.table.specs.declared.row.Row.{Row}
 use Rattle.table.specs.Address.{individual, same}
-use Rattle.table.specs.Layout.{sized}
-use Rattle.table.specs.Table.{own, number, clock, isTable, rowFor, newRows, freeRows, changeWhere}
+use Rattle.table.specs.Table.{own, number, rowFor, newRows, freeRows, changeWhere}
 use Rattle.element.specs.declared.PathInfo.{PathInfo}
 use Rattle.element.specs.declared.NumberedAddress.{NumberedAddress}
 use Rattle.element.specs.declared.Target.{Target}
@@ -20,7 +19,8 @@ use Rattle.element.specs.declared.list.ListKind.the-variants.{Targets, Numbered
 use Rattle.element.specs.Element.{Element, rann, rreq, rrep, rerr}
 use Rattle.element.specs.Octets.{wrongLength, otherId, misfit, readElement}
 use Rattle.element.specs.Lists.{allOnes, anyForbidden, among, twice, onesBesideOthers}
-use Rattle.rules.specs.Decision.{Decision, Ruling, decide, refuse_when_, _above_, _below_, accept, _>>_}
+use Rattle.rules.specs.Decision.{Decision, Check, Ruling, decide, refuse_when_, _then_, _above_, accept, _>>_}
+use Rattle.rules.specs.Checks.{operandChecks, stateChecks}
 use Rattle.rules.specs.Lists.{any, those, has}
 use Rattle.element.specs.Flags.{unicast}
 use Rattle.rules.specs.Outcome.{Effect, underHead}
@@ -32,17 +32,28 @@ use Rattle.rules.specs.Errors.{matches, isMatch, erred}
 
 -- ---- what a RANN, a RREQ and a RREP have in common
 
+-- a RERR lacks these fields, and the checks of them are skipped
 abbrev pub pathOf : Element → Option PathInfo
 pathOf (rann p) = some p
 pathOf (rreq f targets) = some (f .path)
 pathOf (rrep f dependents) = some (f .path)
 pathOf (rerr flags destinations) = none
 
--- a test of these fields; a RERR lacks them, and the check is skipped
-abbrev pub ofPath : (PathInfo → Bool) → Element → Bool
-ofPath test e = has test (pathOf e)
-
 -- ---- turned away by the input
+
+-- of how an element came in, with an output of `room` octets
+unfoldable pub arrivalChecks : List ℕ → ℕ → Arrival → List Check
+arrivalChecks t room a =
+    -- 1 to 4
+    operandChecks t room (a .clock) (a .transmitter)
+    then refuse 5 when eqb (a .link .0) 0
+
+-- of the octets as an element
+unfoldable pub octetChecks : List ℕ → List Check
+octetChecks octets =
+    refuse 6 when wrongLength octets
+    then refuse 7 when otherId octets
+    then refuse 8 when misfit octets
 
 abbrev pub targetAddresses : List Target → List Address
 targetAddresses targets = map (λ (q : Target). q .address) targets
@@ -79,6 +90,16 @@ isLowTtlReply (rreq f targets) = false
 isLowTtlReply (rrep f dependents) = ltb (f .path .ttl) 2
 isLowTtlReply (rerr flags destinations) = false
 
+-- of an element's own fields: 9, 10 and 14 as its type decides them, the others by its path
+unfoldable pub fieldChecks : (badAddress badList lowTtl : Bool) → Arrival → Option PathInfo → List Check
+fieldChecks badAddress badList lowTtl a path =
+    refuse 9 when badAddress
+    then refuse 10 when badList
+    then refuse 11 when has (λ p. eqb (p .lifetime) 0) path
+    then refuse 12 when has (λ p. eqb (p .hops .0) 255) path
+    then refuse 13 when has (λ p. metricHere a p .0 above 2 ^ 32 - 2) path
+    then refuse 14 when lowTtl
+
 -- ---- turned away by the state
 
 -- a known number, and the received one is older, or equal with received metric + link metric not smaller than the row's
@@ -102,6 +123,14 @@ matchesNothing t a (rerr flags destinations) = not (any (matches t (a .clock) (a
 unfoldable pub rowsNeeded : List ℕ → Arrival → PathInfo → ℕ
 rowsNeeded t a p =
     newRows (rowFor t (p .subject)) + cond (same (a .transmitter) (p .subject)) 0 (newRows (rowFor t (a .transmitter)))
+
+-- of the rows: 26 as the element's type decides it, the others by its path
+abbrev pub rowChecks : List ℕ → Arrival → (unmatched : Bool) → Option PathInfo → List Check
+rowChecks t a unmatched path =
+    refuse 24 when has (λ p. same (p .subject) (own t)) path
+    then refuse 25 when has (isStale t a) path
+    then refuse 26 when unmatched
+    then refuse 27 when has (λ p. rowsNeeded t a p above freeRows t) path
 
 -- ---- what an accepted element does: the clock is stored, whatever the type
 
@@ -144,35 +173,29 @@ module _ (t : List ℕ) (a : Arrival) where
 -- ---- the call
 
 -- an element e that was read, of a table t; a is how it came in
-abbrev pub judging : List ℕ → Arrival → Element → Ruling Effect
+unfoldable pub judging : List ℕ → Arrival → Element → Ruling Effect
 judging t a e = do
-  refuse 9 when hasBadAddress e
-  refuse 10 when hasBadList e
-  refuse 11 when ofPath (λ p. eqb (p .lifetime) 0) e
-  refuse 12 when ofPath (λ p. eqb (p .hops .0) 255) e
-  refuse 13 when ofPath (λ p. metricHere a p .0 above 2 ^ 32 - 2) e
-  refuse 14 when isLowTtlReply e
-  refuse 21 when not (isTable t)
-  refuse 22 when a .clock below clock t
-  refuse 23 when same (a .transmitter) (own t)
-  refuse 24 when ofPath (λ p. same (p .subject) (own t)) e
-  refuse 25 when ofPath (isStale t a) e
-  refuse 26 when matchesNothing t a e
-  refuse 27 when ofPath (λ p. rowsNeeded t a p above freeRows t) e
+  -- 9 to 14
+  fieldChecks (hasBadAddress e) (hasBadList e) (isLowTtlReply e) a (pathOf e)
+  -- 21 to 23
+  stateChecks t (a .clock) (a .transmitter)
+  -- 24 to 27
+  rowChecks t a (matchesNothing t a e) (pathOf e)
   accept (received t a e)
 
--- the octets of an element, with an output of `room` octets
+-- the octets of an element, after how it came in
+unfoldable pub readingOctets : List ℕ → Arrival → List ℕ → Ruling Effect
+readingOctets t a octets = do
+  -- 6 to 8
+  octetChecks octets
+  judging t a (readElement octets)
+
+-- the octets of an element and how it came in, with an output of `room` octets
 abbrev pub receiving : List ℕ → ℕ → Arrival → List ℕ → Ruling Effect
 receiving t room a octets = do
-  refuse 1 when not (sized t)
-  refuse 2 when room below 1560
-  refuse 3 when a .clock above 2 ^ 48 - 1
-  refuse 4 when not (individual (a .transmitter))
-  refuse 5 when eqb (a .link .0) 0
-  refuse 6 when wrongLength octets
-  refuse 7 when otherId octets
-  refuse 8 when misfit octets
-  judging t a (readElement octets)
+  -- 1 to 5
+  arrivalChecks t room a
+  readingOctets t a octets
 
 unfoldable pub receive : List ℕ → ℕ → Arrival → List ℕ → Decision Effect
 receive t room a octets = decide (receiving t room a octets)

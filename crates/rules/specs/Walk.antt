@@ -13,7 +13,7 @@ use Rattle.table.specs.Layout.{sized}
 use Rattle.table.specs.Table.{clock, isTable, rowFor, activeNext}
 use Rattle.element.specs.Entries.{each}
 use Rattle.element.specs.Lists.{among, twice}
-use Rattle.rules.specs.Decision.{Decision, refused, accepted, Ruling, decide, refuse_when_, _above_, _below_, accept, _>>_}
+use Rattle.rules.specs.Decision.{Decision, refused, accepted, Check, Ruling, decide, refuse_when_, _then_, _above_, _below_, accept, _>>_}
 use Rattle.rules.specs.Lists.{any}
 
 -- ---- 1 to 16 tables of one length, side by side
@@ -87,14 +87,20 @@ walkedAtExit (accepted w) = w
 
 -- ---- the call
 
+-- of the tables, at the clock c
+abbrev pub tableChecks : List (List ℕ) → ℕ → List Check
+tableChecks tables c =
+    refuse 21 when any (λ (t : List ℕ). not (isTable t)) tables
+    then refuse 22 when any (hasLaterClock c) tables
+
 abbrev pub walking : List ℕ → ℕ → ℕ → Address → Address → Ruling Walked
 walking octets count c start destination = do
   refuse 1 when not (sideBySide octets count)
   refuse 3 when c above 2 ^ 48 - 1
   refuse 9 when not (individual destination)
   refuse 10 when not (among start (points (tablesIn octets count))) || twice (points (tablesIn octets count))
-  refuse 21 when any (λ (t : List ℕ). not (isTable t)) (tablesIn octets count)
-  refuse 22 when any (hasLaterClock c) (tablesIn octets count)
+  -- 21 and 22
+  tableChecks (tablesIn octets count) c
   accept (follow (tablesIn octets count) c destination count start 0)
 
 unfoldable pub walk : List ℕ → ℕ → ℕ → Address → Address → Decision Walked

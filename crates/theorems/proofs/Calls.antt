@@ -32,7 +32,7 @@ use Rattle.rules.specs.Receive.{pathOf, rannReceived, rrepReceived, rreqReceive
 use Rattle.rules.specs.Originate.{numberedHead, ownPath, announced, requested, asking, ask, announcing, announce, requestingAsRoot, rootRequest}
 use Rattle.rules.specs.Break.{brokenOff, breaking, breakNeighbour}
 use Rattle.rules.specs.Calls.{Call, receives, makes, asks, announces, requestsAsRoot, breaks, outcome, OperandsFit}
-use Rattle.rules.proofs.Rulings.{passed}
+use Rattle.rules.proofs.Rulings.{listed, passed}
 use Rattle.rules.proofs.Alls.{all-append}
 use Rattle.rules.proofs.AsGood.{InWindow, Falls, stays, break-falls, error-falls}
 use Rattle.rules.proofs.Learning.{Heard, learnt-keeps}
@@ -171,7 +171,7 @@ module _ (d : Address) (base : ℕ) (small : base < 2 ^ 32) (log : List Sent) (t
   module _ (room : ℕ) where
     call-sound : (call : Call) → OperandsFit call → FromLog log call → (e : Effect) → outcome t room call ≡ accepted e
         → Near base (rowFor (e .table) d) → Sound d base log t e
-    unfolding outcome receive asking ask announce rootRequest breaking breakNeighbour
+    unfolding listed outcome receive ask announce rootRequest breakNeighbour
     call-sound (receives a octets′) fit from e is =
         let p = passed (receiving t room a octets′) e is in
         subst (λ (x : Effect). Near base (rowFor (x .table) d) → Sound d base log t x) (p .1)

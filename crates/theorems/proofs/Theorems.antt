@@ -11,7 +11,8 @@ use Rattle.element.specs.Octets.{writeElement}
 use Rattle.element.proofs.ReadBack.{Fits, read-back, passes-6, passes-7, passes-8}
 use Rattle.rules.specs.Outcome.{Frame}
 use Rattle.rules.specs.Receive.{isStale, receive}
-use Rattle.rules.specs.Break.{brokenOff, breaking, breakNeighbour}
+use Rattle.rules.specs.Break.{brokenOff, breakNeighbour}
+use Rattle.rules.proofs.Rulings.{listed}
 use Rattle.rules.specs.Calls.{receives, makes, asks, announces, requestsAsRoot, breaks, outcome}
 use Rattle.rules.proofs.Alls.{all-implies}
 use Rattle.rules.proofs.CallsKeep.{Kept, call-kept}
@@ -70,7 +71,7 @@ pub sharp : Sharp
 sharp = wrong-rules-loop
 
 pub else-the-rules : ElseTheRules
-unfolding ruledBy outcome receive isStale breaking breakNeighbour brokenOff
+unfolding listed ruledBy outcome receive isStale breakNeighbour brokenOff
 else-the-rules t room (receives a s) = refl
 else-the-rules t room (makes (asks lifetime items)) = refl
 else-the-rules t room (makes (announces flags lifetime)) = refl

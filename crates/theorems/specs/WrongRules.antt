@@ -11,11 +11,11 @@ use Rattle.table.specs.Table.{number, rowFor, changeWhere}
 use Rattle.element.specs.declared.PathInfo.{PathInfo}
 use Rattle.element.specs.Element.{Element, rann, rreq, rrep, rerr}
 use Rattle.element.specs.Octets.{readElement}
-use Rattle.rules.specs.Decision.{Check, Ruling, decide, refuse_when_}
+use Rattle.rules.specs.Decision.{Check, Ruling, decide}
 use Rattle.rules.specs.Lists.{has}
 use Rattle.rules.specs.Outcome.{Effect, underHead}
 use Rattle.rules.specs.declared.Arrival.{Arrival}
-use Rattle.rules.specs.Receive.{ofPath, isStaleFor, receiving}
+use Rattle.rules.specs.Receive.{pathOf, isStaleFor, receiving}
 use Rattle.rules.specs.Break.{brokenOff, breaking}
 use Rattle.rules.specs.Calls.{receives, makes, asks, announces, requestsAsRoot, breaks, outcome}
 use Rattle.theorems.specs.Mesh.{Rules}
@@ -25,7 +25,7 @@ use Rattle.theorems.specs.Mesh.{Rules}
 -- the check of this number gets another test; the others stay
 abbrev pub withCheck : {A : Type 0} → ℕ → Bool → Ruling A → Ruling A
 withCheck n test r =
-    record { checks = map (λ (k : Check). cond (eqb (k .number) n) (refuse n when test) k) (r .checks); otherwise = r .otherwise }
+    record { checks = map (λ (k : Check). cond (eqb (k .number) n) (record { number = n; applies = test }) k) (r .checks); otherwise = r .otherwise }
 
 -- another outcome where no check applies
 abbrev pub withOutcome : {A : Type 0} → A → Ruling A → Ruling A
@@ -44,7 +44,7 @@ ruledBy receive break t room (makes (breaks c neighbour)) = decide (break t room
 abbrev pub receivingBy : (Element → Arrival → PathInfo → Row → Bool) → List ℕ → ℕ → Arrival → List ℕ → Ruling Effect
 receivingBy stale t room a s =
     let e : Element = readElement s in
-    withCheck 25 (ofPath (λ p. has (stale e a p) (rowFor t (p .subject))) e) (receiving t room a s)
+    withCheck 25 (has (λ p. has (stale e a p) (rowFor t (p .subject))) (pathOf e)) (receiving t room a s)
 
 abbrev pub with25 : (Element → Arrival → PathInfo → Row → Bool) → Rules
 with25 stale = ruledBy (receivingBy stale) breaking

@@ -2,17 +2,13 @@
 -- of what a walk is. Assumes nothing.
 use Prim.Native.Nat.{ℕ, _*_, _≤_}
 use mathlib.Core.Path.{_≡_}
-use mathlib.Core.Bool.{not}
-use mathlib.Core.List.{List, [], _∷_}
+use mathlib.Core.List.{List}
 use lib.ListN.{length}
 use Rattle.table.specs.declared.address.Address.{Address}
 use Rattle.table.specs.Address.{addressOf}
 use Rattle.table.specs.Layout.{headOctets, mostRows, place}
-use Rattle.table.specs.Table.{isTable}
 use Rattle.element.specs.Entries.{each}
-use Rattle.rules.specs.Decision.{Check, refuse_when_}
-use Rattle.rules.specs.Lists.{any}
-use Rattle.rules.specs.Walk.{hasLaterClock, tableAt}
+use Rattle.rules.specs.Walk.{tableAt}
 
 -- 1 to 16 pieces of this length, which a table may have
 pub record Pieces (s : List ℕ) (long count : ℕ) : Type 0 where
@@ -28,8 +24,3 @@ pieces s long count = each (tableAt s long) 0 count
 -- the own address of piece i
 abbrev pub pointAt : List ℕ → ℕ → ℕ → Address
 pointAt s long i = addressOf (tableAt s long i)
-
--- the checks that look at the state
-abbrev pub piecesChecks : List ℕ → ℕ → ℕ → ℕ → List Check
-piecesChecks s long count c =
-    (refuse 21 when any (λ (t : List ℕ). not (isTable t)) (pieces s long count)) ∷ (refuse 22 when any (hasLaterClock c) (pieces s long count)) ∷ []

@@ -8,10 +8,10 @@ use pieces::table_at;
 use table::address::Address;
 use table::legal;
 ghost use mathlib.Core.Path.{_≡_};
-ghost use Rattle.rules.specs.Walk.{sideBySide, walk, walkedAtExit, walking};
+ghost use Rattle.rules.specs.Walk.{sideBySide, tableChecks, walk, walkedAtExit, walking};
 ghost use Rattle.calls.specs.Answers.{answerTo};
 ghost use Rattle.walk.specs.Answers.{decisionOf, numbersOf};
-ghost use Rattle.walk.specs.Pieces.{Pieces, piecesChecks};
+ghost use Rattle.walk.specs.Pieces.{Pieces, pieces};
 
 // How a walk ends, with the hops walked, or a refusal.
 pub enum Ending {
@@ -68,7 +68,7 @@ fn are_side_by_side(tables: &[u8], count: usize) -> bool
 // The refusals by the state.
 fn check_state(tables: &[u8], long: usize, count: usize, clock: u64) -> Answer
     requires { ⌜ Pieces (now tables) long count ⌝ }
-    ensures { λ r. ⌜ r ≡ answerTo (piecesChecks (now (tables .entry)) long count clock) ⌝ }
+    ensures { λ r. ⌜ r ≡ answerTo (tableChecks (pieces (now (tables .entry)) long count) clock) ⌝ }
 {
     if pieces::has_non_table(tables, long, count) {
         return Answer::Refused(21);

@@ -1,8 +1,7 @@
 -- `receive::check_arrival` meets its contract: the checks of the operands, then of the link. Assumes nothing.
 use borrow.Author.Needs.{needs}
-use Rattle.receive.specs.Checks.{arrivalChecks}
-use Rattle.calls.proofs.Checks.{checking}
-use Rattle.calls.proofs.Neighbours.{operands-refused, operands-passed}
+use Rattle.rules.specs.Receive.{arrivalChecks}
+use Rattle.calls.proofs.Checks.{checking, refused-first, passed-first}
 use Rattle.receive.proofs.check_arrival.Statement.{statement}
 use Rattle.receive.proofs.check_arrival.Tie as tie
 
@@ -13,7 +12,7 @@ check-arrival-spec =
     (tie.spec
     (λ c κs. search needs)
     (λ c. search needs)
-    (λ c. search operands-refused)
+    (λ c. search refused-first)
     (λ c. search needs)
-    (λ c. search (checking, operands-passed) depth 40)
-    (λ c. search (checking, operands-passed) depth 40))
+    (λ c. search (checking, passed-first) depth 40)
+    (λ c. search (checking, passed-first) depth 40))

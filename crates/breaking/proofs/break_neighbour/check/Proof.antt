@@ -1,7 +1,8 @@
 -- `breaking::break_neighbour::check` meets its contract: the checks of the operands, then of the state. Assumes nothing.
 use borrow.Author.Needs.{needs}
 use Rattle.rules.specs.Break.{breaking}
-use Rattle.calls.proofs.Neighbours.{operands-refused, operands-passed, operands-table-sized}
+use Rattle.calls.proofs.Checks.{refused-first, passed-first, part-last}
+use Rattle.calls.proofs.Neighbours.{operands-table-sized}
 use Rattle.breaking.proofs.break_neighbour.check.Statement.{statement}
 use Rattle.breaking.proofs.break_neighbour.check.Tie as tie
 
@@ -12,7 +13,7 @@ check-spec =
     (tie.spec
     (λ c κs. search needs)
     (λ c. search needs)
-    (λ c. search operands-refused)
+    (λ c. search refused-first)
     (λ c. search needs)
     (λ c κs. search operands-table-sized)
-    (λ c. search operands-passed))
+    (λ c. search (passed-first, part-last)))

@@ -1,11 +1,13 @@
 -- `calls::clocked::check_state` meets its contract: one check of the list after another. Assumes nothing.
 use borrow.Author.Needs.{needs}
+use Rattle.rules.specs.Checks.{stateChecks}
 use Rattle.table.proofs.ByHead.{by-head}
 use Rattle.calls.proofs.Checks.{checking}
 use Rattle.calls.proofs.clocked.check_state.Statement.{statement}
 use Rattle.calls.proofs.clocked.check_state.Tie as tie
 
 pub check-state-spec : {M : Type 1} → statement M
+unfolding stateChecks
 check-state-spec =
     tie.close
     (tie.spec

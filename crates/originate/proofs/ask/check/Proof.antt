@@ -1,8 +1,8 @@
 -- `originate::ask::check` meets its contract: one check of the list after another. Assumes nothing.
 use borrow.Author.Needs.{needs}
-use Rattle.calls.proofs.Checks.{passes-1, checking}
+use Rattle.calls.proofs.Checks.{passes-1, checking, refused-first}
 use Rattle.rules.specs.Originate.{asking}
-use Rattle.originate.proofs.Asked.{items-refused, items-passed, own-named}
+use Rattle.originate.proofs.Asked.{items-passed, own-named}
 use Rattle.originate.proofs.ask.check.Statement.{statement}
 use Rattle.originate.proofs.ask.check.Tie as tie
 
@@ -16,7 +16,7 @@ check-spec =
     (λ c. search checking depth 40)
     (λ c κs. search needs)
     (λ c. search needs)
-    (λ c. search (checking, items-refused) depth 40)
+    (λ c. search (checking, refused-first) depth 40)
     (λ c. search needs)
     (λ c. search (checking, items-passed) depth 40)
     (λ c κs. search passes-1)

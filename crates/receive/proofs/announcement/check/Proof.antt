@@ -1,13 +1,15 @@
 -- `receive::announcement::check` meets its contract: by its faults and its path. Assumes nothing.
 use borrow.Author.Needs.{needs}
-use Rattle.receive.proofs.Judging.{rann-checked}
+use Rattle.rules.specs.Receive.{matchesNothing}
+use Rattle.receive.proofs.Judging.{path-checked}
 use Rattle.receive.proofs.announcement.check.Statement.{statement}
 use Rattle.receive.proofs.announcement.check.Tie as tie
 
 pub check-spec : {M : Type 1} → statement M
+unfolding matchesNothing
 check-spec =
     tie.close
     (tie.spec
     (λ c κs. search needs)
     (λ c κs. search needs)
-    (λ c. search rann-checked))
+    (λ c. search path-checked))

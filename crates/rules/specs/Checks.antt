@@ -1,0 +1,29 @@
+-- Checks that several calls have in common. Assumes nothing.
+use Prim.Native.Nat.{ℕ, _-_, _^_}
+use mathlib.Core.Bool.{not}
+use mathlib.Core.List.{List}
+use Rattle.table.specs.declared.address.Address.{Address}
+use Rattle.table.specs.Address.{individual, same}
+use Rattle.table.specs.Layout.{sized}
+use Rattle.table.specs.Table.{own, clock, isTable}
+use Rattle.rules.specs.Decision.{Check, refuse_when_, _then_, _above_, _below_}
+
+-- of a call with an output of `room` octets
+abbrev pub bufferChecks : List ℕ → ℕ → List Check
+bufferChecks t room =
+    refuse 1 when not (sized t)
+    then refuse 2 when room below 1560
+
+-- of a call with an output, a clock c and a neighbour
+unfoldable pub operandChecks : List ℕ → ℕ → ℕ → Address → List Check
+operandChecks t room c neighbour =
+    bufferChecks t room
+    then refuse 3 when c above 2 ^ 48 - 1
+    then refuse 4 when not (individual neighbour)
+
+-- of a clock c and of a neighbour, by the state
+unfoldable pub stateChecks : List ℕ → ℕ → Address → List Check
+stateChecks t c neighbour =
+    refuse 21 when not (isTable t)
+    then refuse 22 when c below clock t
+    then refuse 23 when same neighbour (own t)
