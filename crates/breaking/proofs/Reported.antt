@@ -13,28 +13,36 @@ use borrow.Author.Tests.{eqb-true, eqb-false, eq-eqb, ne-eqb, ltb-true, ltb-fals
 use Rattle.octets.specs.LittleEndian.{over}
 use Rattle.octets.proofs.OctetLists.{over-append, over-again}
 use Rattle.element.specs.declared.Kind.the-variants.{Rerr}
-use Rattle.element.specs.declared.NumberedAddress.{NumberedAddress}
-use Rattle.element.specs.Element.{rerr}
-use Rattle.element.specs.Entries.{each, numberedOctets}
+use Rattle.element.specs.declared.LostDestination.{LostDestination}
+use Rattle.element.specs.Element.{rerr, rerrNumbers}
+use Rattle.element.specs.Entries.{each, lostOctets}
 use Rattle.element.specs.Lists.{allOnes}
 use Rattle.element.specs.Octets.{frameStart, writeFrame}
 use Rattle.element.proofs.Sizes.{start-length}
 use Rattle.element.proofs.Scans.{each-length}
-use Rattle.element.proofs.ListParts.{addresses-length}
-use Rattle.element.proofs.Written.{frame-parts, numbered-length}
+use Rattle.element.proofs.ListParts.{losses-length}
+use Rattle.element.proofs.Written.{frame-parts, lost-length}
 use Rattle.rules.specs.Outcome.{Frame, frameOctets}
-use Rattle.rules.specs.Errors.{errorAt, errorsFor}
-use Rattle.breaking.specs.Reports.{framesFor, octetsFor, errorStart, begunBefore, begunAfter, closed}
+use Rattle.rules.specs.Errors.{ownError, errorAt, errorsTaken, errorsFor}
+use Rattle.breaking.specs.Reports.{octetsFor, errorStart, begunBefore, begunAfter, closed}
 
 -- ---- as the functions ask it
 
 start-long : (n : ℕ) → length (errorStart n) ≡ 10
 unfolding errorStart
-start-long n = start-length allOnes (rerr 0 []) n
+start-long n = start-length allOnes (rerr ownError []) n
 
-pub begin-writes : (s t : List ℕ) (at n : ℕ) → t ≡ over s at (frameStart allOnes Rerr n (0 ∷ [])) → t ≡ over s at (errorStart n)
+pub begin-writes : (s t : List ℕ) (at n : ℕ) → t ≡ over s at (frameStart allOnes Rerr n (rerrNumbers ownError)) → t ≡ over s at (errorStart n)
 unfolding errorStart
 begin-writes s t at n e = e
+
+before-long : (k : ℕ) → octetsFor k + length (begunBefore k) + 10 ≡ octetsFor (suc k)
+unfolding begunBefore
+before-long k = by (eqb (k % 25) 0) refl
+  where
+    by : (b : Bool) → eqb (k % 25) 0 ≡ b → octetsFor k + length (cond b (errorStart 25) []) + 10 ≡ octetsFor (suc k)
+    by true e = omega (arith, start-long 25, eqb-true (k % 25) 0 e)
+    by false e = let apart = eqb-false (k % 25) 0 e in omega arith
 
 module _ (k : ℕ) where
   before-none : (k % 25 ≡ 0 → ⊥) → begunBefore k ≡ []
@@ -45,181 +53,168 @@ module _ (k : ℕ) where
   unfolding begunBefore
   before-one e = rw (eq-eqb (k % 25) 0 e)
 
-  pub next-there : (k % 25 ≡ 0 → ⊥) → (at : ℕ) → at ≡ octetsFor k → at ≡ octetsFor k + length (begunBefore k)
-  next-there e at ae = rw (before-none e) (ae ∙ sym (add-zero (octetsFor k)))
+  -- after those from a place on, which take n octets
+  module _ (from n : ℕ) (ne : n ≡ octetsFor k) where
+    pub next-there : (k % 25 ≡ 0 → ⊥) → from + n ≡ from + octetsFor k + length (begunBefore k)
+    next-there e = rw (before-none e) (omega arith)
 
-  pub next-same : (k % 25 ≡ 0 → ⊥) → (s : List ℕ) → s ≡ over s (octetsFor k) (begunBefore k)
+    module _ (e : k % 25 ≡ 0) where
+      pub next-begun : (at : ℕ) → at ≡ from + n + 10 → at ≡ from + octetsFor k + length (begunBefore k)
+      next-begun at ae = rw (before-one e) (omega (arith, start-long 25))
+
+      pub next-starts : (s t : List ℕ) → t ≡ over s (from + n) (errorStart 25) → t ≡ over s (from + octetsFor k) (begunBefore k)
+      next-starts s t te = rw (before-one e, ← ne) te
+
+  pub next-same : (k % 25 ≡ 0 → ⊥) → (s : List ℕ) (at : ℕ) → s ≡ over s at (begunBefore k)
   unfolding over
-  next-same e s = rw (before-none e)
+  next-same e s at = rw (before-none e)
 
-  module _ (e : k % 25 ≡ 0) (end : ℕ) (ee : end ≡ octetsFor k) where
-    pub next-begun : (at : ℕ) → at ≡ end + 10 → at ≡ octetsFor k + length (begunBefore k)
-    next-begun at ae = rw (before-one e) (omega (arith, start-long 25))
+  module _ (from at : ℕ) (ae : at ≡ from + octetsFor k + length (begunBefore k)) where
+    pub next-fits : (s t : List ℕ) → from + octetsFor (k + 1) ≤ length s → length t ≡ length s → at + 10 ≤ length t
+    next-fits s t l same-length = omega (arith, before-long k)
 
-    pub next-starts : (s t : List ℕ) → t ≡ over s end (errorStart 25) → t ≡ over s (octetsFor k) (begunBefore k)
-    next-starts s t te = rw (before-one e, ← ee) te
-
-  before-short : length (begunBefore k) ≤ 10
-  unfolding begunBefore
-  before-short = by (eqb (k % 25) 0)
-    where
-      by : (b : Bool) → length (cond b (errorStart 25) []) ≤ 10
-      by true = omega (arith, start-long 25)
-      by false = omega arith
-
-  module _ (at : ℕ) (ae : at ≡ octetsFor k + length (begunBefore k)) where
-    pub next-fits : (s t : List ℕ) → octetsFor k + 20 ≤ length s → length t ≡ length s → at + 10 ≤ length t
-    next-fits s t l same-length = omega (arith, before-short)
-
-    pub entry-added : (s t u : List ℕ) (x : NumberedAddress) → t ≡ over s (octetsFor k) (begunBefore k) → u ≡ over t at (numberedOctets x)
-        → u ≡ over s (octetsFor k) (begunAfter k (x ∷ []))
+    pub entry-added : (s t u : List ℕ) (x : LostDestination) → t ≡ over s (from + octetsFor k) (begunBefore k) → u ≡ over t at (lostOctets x)
+        → u ≡ over s (from + octetsFor k) (begunAfter k (x ∷ []))
     unfolding begunAfter
     entry-added s t u x te ue =
-        ue ∙ ap₂ (λ (l : List ℕ) (p : ℕ). over l p (numberedOctets x)) te ae
-        ∙ sym (over-append s (octetsFor k) (begunBefore k) (numberedOctets x))
-        ∙ ap (λ (l : List ℕ). over s (octetsFor k) (begunBefore k ++ l)) (sym (append-nil (numberedOctets x)))
+        ue ∙ ap₂ (λ (l : List ℕ) (p : ℕ). over l p (lostOctets x)) te ae
+        ∙ sym (over-append s (from + octetsFor k) (begunBefore k) (lostOctets x))
+        ∙ ap (λ (l : List ℕ). over s (from + octetsFor k) (begunBefore k ++ l)) (sym (append-nil (lostOctets x)))
 
-pub close-none : (s : List ℕ) (k n : ℕ) → n ≡ k % 25 → n ≡ 0 → s ≡ closed s 0 k
-unfolding closed
-close-none s k n ne e = rw (eq-eqb (k % 25) 0 (sym ne ∙ e))
+module _ (s : List ℕ) (at k n : ℕ) (ne : n ≡ k % 25) where
+  pub close-none : n ≡ 0 → s ≡ closed s at k
+  unfolding closed
+  close-none e = rw (eq-eqb (k % 25) 0 (sym ne ∙ e))
 
-pub close-last : (s t : List ℕ) (k n : ℕ) → n ≡ k % 25 → (n ≡ 0 → ⊥) → t ≡ over s (260 * (k / 25)) (errorStart n) → t ≡ closed s 0 k
-unfolding closed
-close-last s t k n ne e te = rw (ne-eqb (k % 25) 0 (λ q. e (ne ∙ q)), zero-add (260 * (k / 25)), ← ne) te
+  pub close-last : (n ≡ 0 → ⊥) → (t : List ℕ) → t ≡ over s (at + 260 * (k / 25)) (errorStart n) → t ≡ closed s at k
+  unfolding closed
+  close-last e t te = rw (ne-eqb (k % 25) 0 (λ q. e (ne ∙ q)), ← ne) te
 
 -- ---- destinations one after another
 
-begun-cons : (k : ℕ) (x : NumberedAddress) (l : List NumberedAddress) → begunAfter k (x ∷ l) ≡ begunBefore k ++ (numberedOctets x ++ begunAfter (suc k) l)
+begun-cons : (k : ℕ) (x : LostDestination) (l : List LostDestination) → begunAfter k (x ∷ l) ≡ begunBefore k ++ (lostOctets x ++ begunAfter (suc k) l)
 unfolding begunAfter
 begun-cons k x l = refl
 
-pub begun-append : (k : ℕ) (l l′ : List NumberedAddress) → begunAfter k (l ++ l′) ≡ begunAfter k l ++ begunAfter (k + length l) l′
+pub begun-append : (k : ℕ) (l l′ : List LostDestination) → begunAfter k (l ++ l′) ≡ begunAfter k l ++ begunAfter (k + length l) l′
 unfolding begunAfter
 begun-append k [] l′ = ap (λ (j : ℕ). begunAfter j l′) (sym (add-zero k))
 begun-append k (x ∷ l) l′ =
     let place : suc k + length l ≡ k + suc (length l) = omega arith in
-    ap (λ (m : List ℕ). begunBefore k ++ (numberedOctets x ++ m)) (begun-append (suc k) l l′ ∙ ap (λ (j : ℕ). begunAfter (suc k) l ++ begunAfter j l′) place)
-    ∙ ap (λ (m : List ℕ). begunBefore k ++ m) (sym (append-assoc (numberedOctets x) (begunAfter (suc k) l) (begunAfter (k + suc (length l)) l′)))
-    ∙ sym (append-assoc (begunBefore k) (numberedOctets x ++ begunAfter (suc k) l) (begunAfter (k + suc (length l)) l′))
-
-before-long : (k : ℕ) → octetsFor k + length (begunBefore k) + 10 ≡ octetsFor (suc k)
-unfolding begunBefore
-before-long k = by (eqb (k % 25) 0) refl
-  where
-    by : (b : Bool) → eqb (k % 25) 0 ≡ b → octetsFor k + length (cond b (errorStart 25) []) + 10 ≡ octetsFor (suc k)
-    by true e = omega (arith, start-long 25, eqb-true (k % 25) 0 e)
-    by false e = let apart = eqb-false (k % 25) 0 e in omega arith
+    ap (λ (m : List ℕ). begunBefore k ++ (lostOctets x ++ m)) (begun-append (suc k) l l′ ∙ ap (λ (j : ℕ). begunAfter (suc k) l ++ begunAfter j l′) place)
+    ∙ ap (λ (m : List ℕ). begunBefore k ++ m) (sym (append-assoc (lostOctets x) (begunAfter (suc k) l) (begunAfter (k + suc (length l)) l′)))
+    ∙ sym (append-assoc (begunBefore k) (lostOctets x ++ begunAfter (suc k) l) (begunAfter (k + suc (length l)) l′))
 
 -- they take ten octets each, and ten more where a RERR is begun
-pub begun-length : (k : ℕ) (l : List NumberedAddress) → octetsFor k + length (begunAfter k l) ≡ octetsFor (k + length l)
+pub begun-length : (k : ℕ) (l : List LostDestination) → octetsFor k + length (begunAfter k l) ≡ octetsFor (k + length l)
 unfolding begunAfter
 begun-length k [] = omega arith
 begun-length k (x ∷ l) =
     omega (
       arith,
-      length-append (begunBefore k) (numberedOctets x ++ begunAfter (suc k) l),
-      length-append (numberedOctets x) (begunAfter (suc k) l),
-      numbered-length x,
+      length-append (begunBefore k) (lostOctets x ++ begunAfter (suc k) l),
+      length-append (lostOctets x) (begunAfter (suc k) l),
+      lost-length x,
       before-long k,
       begun-length (suc k) l,
     )
 
 -- after 25 more it goes on as before
-begun-shift : (k : ℕ) (l : List NumberedAddress) → begunAfter (k + 25) l ≡ begunAfter k l
+begun-shift : (k : ℕ) (l : List LostDestination) → begunAfter (k + 25) l ≡ begunAfter k l
 unfolding begunAfter begunBefore
 begun-shift k [] = refl
 begun-shift k (x ∷ l) =
     let again : (k + 25) % 25 ≡ k % 25 = omega arith in
     let next : suc (k + 25) ≡ suc k + 25 = omega arith in
-    ap₂ (λ (r : ℕ) (m : List ℕ). cond (eqb r 0) (errorStart 25) [] ++ (numberedOctets x ++ m)) again
+    ap₂ (λ (r : ℕ) (m : List ℕ). cond (eqb r 0) (errorStart 25) [] ++ (lostOctets x ++ m)) again
     (ap (λ (j : ℕ). begunAfter j l) next ∙ begun-shift (suc k) l)
 
 -- inside a RERR nothing is begun
-begun-inside : (k : ℕ) (l : List NumberedAddress) → 1 ≤ k → k + length l ≤ 25 → begunAfter k l ≡ flatMap numberedOctets l
+begun-inside : (k : ℕ) (l : List LostDestination) → 1 ≤ k → k + length l ≤ 25 → begunAfter k l ≡ flatMap lostOctets l
 unfolding begunAfter flatMap
 begun-inside k [] one few = refl
 begun-inside k (x ∷ l) one few =
-    ap₂ (λ (b m : List ℕ). b ++ (numberedOctets x ++ m)) (before-none k (λ e. omega arith)) (begun-inside (suc k) l (omega arith) (omega arith))
+    ap₂ (λ (b m : List ℕ). b ++ (lostOctets x ++ m)) (before-none k (λ e. omega arith)) (begun-inside (suc k) l (omega arith) (omega arith))
 
-begun-first : (l : List NumberedAddress) → 1 ≤ length l → length l ≤ 25 → begunAfter 0 l ≡ errorStart 25 ++ flatMap numberedOctets l
+begun-first : (l : List LostDestination) → 1 ≤ length l → length l ≤ 25 → begunAfter 0 l ≡ errorStart 25 ++ flatMap lostOctets l
 unfolding flatMap
 begun-first [] one few = absurd (omega arith)
 begun-first (x ∷ l) one few =
-    begun-cons 0 x l ∙ ap₂ (λ (b m : List ℕ). b ++ (numberedOctets x ++ m)) (before-one 0 refl) (begun-inside 1 l (omega arith) (omega arith))
+    begun-cons 0 x l ∙ ap₂ (λ (b m : List ℕ). b ++ (lostOctets x ++ m)) (before-one 0 refl) (begun-inside 1 l (omega arith) (omega arith))
 
 -- ---- the frames that the rules say
 
-error-parts : (l : List NumberedAddress) → writeFrame allOnes (rerr 0 l) ≡ errorStart (length l) ++ flatMap numberedOctets l
+error-parts : (l : List LostDestination) → writeFrame allOnes (rerr ownError l) ≡ errorStart (length l) ++ flatMap lostOctets l
 unfolding errorStart
-error-parts l = frame-parts allOnes (rerr 0 l)
+error-parts l = frame-parts allOnes (rerr ownError l)
 
-error-later : (entries : List NumberedAddress) (i : ℕ) → errorAt entries (suc i) ≡ errorAt (drop 25 entries) i
+error-later : (entries : List LostDestination) (i : ℕ) → errorAt entries (suc i) ≡ errorAt (drop 25 entries) i
 unfolding errorAt
 error-later entries i =
     let place : 25 * suc i ≡ 25 + 25 * i = omega arith in
-    ap (λ (l : List NumberedAddress). record { receiver = allOnes; element = rerr 0 (take 25 l) })
+    ap (λ (l : List LostDestination). record { receiver = allOnes; element = rerr ownError (take 25 l) })
     (ap (λ (k : ℕ). drop k entries) place ∙ sym (drop-drop (25 * i) 25 entries))
 
-errors-later : (entries : List NumberedAddress) (i n : ℕ) → each (errorAt entries) (suc i) n ≡ each (errorAt (drop 25 entries)) i n
+errors-later : (entries : List LostDestination) (i n : ℕ) → each (errorAt entries) (suc i) n ≡ each (errorAt (drop 25 entries)) i n
 unfolding each
 errors-later entries i zero = refl
 errors-later entries i (suc n) = ap₂ _∷_ (error-later entries i) (errors-later entries (suc i) n)
 
 -- the first 25, and those for the rest
-errors-next : (entries : List NumberedAddress) → 1 ≤ length entries → errorsFor entries ≡ errorAt entries 0 ∷ errorsFor (drop 25 entries)
+errors-next : (entries : List LostDestination) → 1 ≤ length entries → errorsFor entries ≡ errorAt entries 0 ∷ errorsFor (drop 25 entries)
 unfolding errorsFor each
 errors-next entries one =
-    ap (each (errorAt entries) 0) many ∙ ap (λ (l : List Frame). errorAt entries 0 ∷ l) (errors-later entries 0 (framesFor (length (drop 25 entries))))
+    ap (each (errorAt entries) 0) many ∙ ap (λ (l : List Frame). errorAt entries 0 ∷ l) (errors-later entries 0 (errorsTaken (length (drop 25 entries))))
   where
-    many : framesFor (length entries) ≡ suc (framesFor (length (drop 25 entries)))
+    many : errorsTaken (length entries) ≡ suc (errorsTaken (length (drop 25 entries)))
     many = omega (arith, length-drop 25 entries)
 
 errors-none : errorsFor [] ≡ []
 unfolding errorsFor each
 errors-none = refl
 
-errors-octets : (entries : List NumberedAddress) → 1 ≤ length entries
+errors-octets : (entries : List LostDestination) → 1 ≤ length entries
     → frameOctets (errorsFor entries)
-    ≡ (errorStart (length (take 25 entries)) ++ flatMap numberedOctets (take 25 entries)) ++ frameOctets (errorsFor (drop 25 entries))
+    ≡ (errorStart (length (take 25 entries)) ++ flatMap lostOctets (take 25 entries)) ++ frameOctets (errorsFor (drop 25 entries))
 unfolding frameOctets flatMap errorAt
 errors-octets entries one =
     ap frameOctets (errors-next entries one) ∙ ap (λ (l : List ℕ). l ++ frameOctets (errorsFor (drop 25 entries))) (error-parts (take 25 entries))
 
 -- what holds of no entries, and of some where it holds of those after the first 25, holds of all
-by-25 : (P : List NumberedAddress → Type 0) → P [] → ((l : List NumberedAddress) → 1 ≤ length l → P (drop 25 l) → P l)
-    → (n : ℕ) (l : List NumberedAddress) → length l ≤ 25 * n → P l
+by-25 : (P : List LostDestination → Type 0) → P [] → ((l : List LostDestination) → 1 ≤ length l → P (drop 25 l) → P l)
+    → (n : ℕ) (l : List LostDestination) → length l ≤ 25 * n → P l
 by-25 P none more zero l few = empty l (omega arith)
   where
-    empty : (l : List NumberedAddress) → length l ≤ 0 → P l
+    empty : (l : List LostDestination) → length l ≤ 0 → P l
     empty [] z = none
     empty (x ∷ l) z = absurd (omega arith)
 by-25 P none more (suc n) l few = split l (by-25 P none more n (drop 25 l) (omega (arith, length-drop 25 l)))
   where
-    split : (l : List NumberedAddress) → P (drop 25 l) → P l
+    split : (l : List LostDestination) → P (drop 25 l) → P l
     split [] h = none
     split (x ∷ l) h = more (x ∷ l) (omega arith) h
 
-pub errors-many : (entries : List NumberedAddress) → length (errorsFor entries) ≡ framesFor (length entries)
+pub errors-many : (entries : List LostDestination) → length (errorsFor entries) ≡ errorsTaken (length entries)
 unfolding errorsFor
-errors-many entries = each-length (errorAt entries) 0 (framesFor (length entries))
+errors-many entries = each-length (errorAt entries) 0 (errorsTaken (length entries))
 
-pub errors-long : (n : ℕ) (entries : List NumberedAddress) → length entries ≤ 25 * n → length (frameOctets (errorsFor entries)) ≡ octetsFor (length entries)
+pub errors-long : (n : ℕ) (entries : List LostDestination) → length entries ≤ 25 * n → length (frameOctets (errorsFor entries)) ≡ octetsFor (length entries)
 unfolding frameOctets flatMap
 errors-long =
     by-25 (λ l. length (frameOctets (errorsFor l)) ≡ octetsFor (length l))
     (ap (λ (frames : List Frame). length (frameOctets frames)) errors-none) more
   where
-    more : (l : List NumberedAddress) → 1 ≤ length l → length (frameOctets (errorsFor (drop 25 l))) ≡ octetsFor (length (drop 25 l))
+    more : (l : List LostDestination) → 1 ≤ length l → length (frameOctets (errorsFor (drop 25 l))) ≡ octetsFor (length (drop 25 l))
         → length (frameOctets (errorsFor l)) ≡ octetsFor (length l)
     more l one rest =
-        let first : List NumberedAddress = take 25 l in
+        let first : List LostDestination = take 25 l in
         omega (
           arith,
           ap length (errors-octets l one),
-          length-append (errorStart (length first) ++ flatMap numberedOctets first) (frameOctets (errorsFor (drop 25 l))),
-          length-append (errorStart (length first)) (flatMap numberedOctets first),
+          length-append (errorStart (length first) ++ flatMap lostOctets first) (frameOctets (errorsFor (drop 25 l))),
+          length-append (errorStart (length first)) (flatMap lostOctets first),
           start-long (length first),
-          addresses-length first,
+          losses-length first,
           length-take 25 l,
           length-drop 25 l,
           rest,
@@ -227,11 +222,11 @@ errors-long =
 
 -- ---- closed, they are those frames
 
-abbrev Closes : List NumberedAddress → Type 0
+abbrev Closes : List LostDestination → Type 0
 Closes entries = (s : List ℕ) (at : ℕ) → closed (over s at (begunAfter 0 entries)) at (length entries) ≡ over s at (frameOctets (errorsFor entries))
 
 -- in a RERR that is not full the count is set
-closes-last : (entries : List NumberedAddress) → 1 ≤ length entries → length entries < 25 → Closes entries
+closes-last : (entries : List LostDestination) → 1 ≤ length entries → length entries < 25 → Closes entries
 unfolding closed frameOctets flatMap
 closes-last entries one few s at =
     let n : ℕ = length entries in
@@ -244,11 +239,11 @@ closes-last entries one few s at =
     ap (λ (b : Bool). cond b begun (over begun (at + 260 * (n / 25)) (errorStart (n % 25)))) (ne-eqb (n % 25) 0 (λ e. omega arith))
     ∙ ap₂ (λ (p k : ℕ). over begun p (errorStart k)) place count
     ∙ ap (λ (l : List ℕ). over (over s at l) at (errorStart n)) (begun-first entries one (omega arith))
-    ∙ over-again s at (errorStart 25) (errorStart n) (flatMap numberedOctets entries) (start-long 25 ∙ sym (start-long n))
+    ∙ over-again s at (errorStart 25) (errorStart n) (flatMap lostOctets entries) (start-long 25 ∙ sym (start-long n))
     ∙ ap (over s at) (sym (errors-octets entries one
-    ∙ ap₂ (λ (l r : List NumberedAddress). (errorStart (length l) ++ flatMap numberedOctets l) ++ frameOctets (errorsFor r)) whole none
-    ∙ ap (λ (frames : List Frame). (errorStart n ++ flatMap numberedOctets entries) ++ frameOctets frames) errors-none
-    ∙ append-nil (errorStart n ++ flatMap numberedOctets entries)))
+    ∙ ap₂ (λ (l r : List LostDestination). (errorStart (length l) ++ flatMap lostOctets l) ++ frameOctets (errorsFor r)) whole none
+    ∙ ap (λ (frames : List Frame). (errorStart n ++ flatMap lostOctets entries) ++ frameOctets frames) errors-none
+    ∙ append-nil (errorStart n ++ flatMap lostOctets entries)))
 
 closed-later : (s : List ℕ) (at k j : ℕ) → k ≡ j + 25 → closed s at k ≡ closed s (at + 260) j
 unfolding closed
@@ -258,14 +253,14 @@ closed-later s at k j e =
     ap₂ (λ (r p : ℕ). cond (eqb r 0) s (over s p (errorStart r))) count place
 
 -- a full one stands as it was begun
-closes-full : (entries : List NumberedAddress) → 25 ≤ length entries → Closes (drop 25 entries) → Closes entries
+closes-full : (entries : List LostDestination) → 25 ≤ length entries → Closes (drop 25 entries) → Closes entries
 closes-full entries many rest-closes s at =
-    let first : List NumberedAddress = take 25 entries in
-    let rest : List NumberedAddress = drop 25 entries in
-    let full : List ℕ = errorStart 25 ++ flatMap numberedOctets first in
+    let first : List LostDestination = take 25 entries in
+    let rest : List LostDestination = drop 25 entries in
+    let full : List ℕ = errorStart 25 ++ flatMap lostOctets first in
     let long : length first ≡ 25 = omega (arith, length-take 25 entries) in
     let after : 0 + length first ≡ 0 + 25 = omega arith in
-    let size : length full ≡ 260 = omega (arith, length-append (errorStart 25) (flatMap numberedOctets first), start-long 25, addresses-length first) in
+    let size : length full ≡ 260 = omega (arith, length-append (errorStart 25) (flatMap lostOctets first), start-long 25, losses-length first) in
     let begun : begunAfter 0 entries ≡ full ++ begunAfter 0 rest =
     ap (begunAfter 0) (sym (take-append-drop 25 entries)) ∙ begun-append 0 first rest
     ∙ ap₂ _++_ (begun-first first (omega arith) (omega arith)) (ap (λ (k : ℕ). begunAfter k rest) after ∙ begun-shift 0 rest) in
@@ -277,14 +272,14 @@ closes-full entries many rest-closes s at =
     ∙ ap (λ (k : ℕ). over (over s at full) (at + k) (frameOctets (errorsFor rest))) (sym size)
     ∙ sym (over-append s at full (frameOctets (errorsFor rest)))
     ∙ ap (over s at) (sym (errors-octets entries (omega arith)
-    ∙ ap (λ (k : ℕ). (errorStart k ++ flatMap numberedOctets first) ++ frameOctets (errorsFor rest)) long))
+    ∙ ap (λ (k : ℕ). (errorStart k ++ flatMap lostOctets first) ++ frameOctets (errorsFor rest)) long))
 
-pub closes : (n : ℕ) (entries : List NumberedAddress) → length entries ≤ 25 * n → (s : List ℕ) (at : ℕ)
+pub closes : (n : ℕ) (entries : List LostDestination) → length entries ≤ 25 * n → (s : List ℕ) (at : ℕ)
     → closed (over s at (begunAfter 0 entries)) at (length entries) ≡ over s at (frameOctets (errorsFor entries))
 unfolding closed begunAfter frameOctets flatMap
 closes = by-25 Closes (λ s at. ap (λ (frames : List Frame). over s at (frameOctets frames)) (sym errors-none)) more
   where
-    more : (l : List NumberedAddress) → 1 ≤ length l → Closes (drop 25 l) → Closes l
+    more : (l : List LostDestination) → 1 ≤ length l → Closes (drop 25 l) → Closes l
     more l one rest-closes = by (ltb (length l) 25) refl
       where
         by : (b : Bool) → ltb (length l) 25 ≡ b → Closes l

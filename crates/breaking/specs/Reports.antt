@@ -6,31 +6,33 @@ use mathlib.Core.List.{List, [], _∷_, _++_}
 use lib.Dec.{eqb}
 use Rattle.octets.specs.LittleEndian.{over}
 use Rattle.element.specs.declared.Kind.the-variants.{Rerr}
-use Rattle.element.specs.declared.NumberedAddress.{NumberedAddress}
-use Rattle.element.specs.Entries.{numberedOctets}
+use Rattle.element.specs.declared.LostDestination.{LostDestination}
+use Rattle.element.specs.declared.list.ListKind.the-variants.{LostDestinations}
+use Rattle.element.specs.Element.{rerrNumbers}
+use Rattle.element.specs.Entries.{lostOctets}
 use Rattle.element.specs.Lists.{allOnes}
-use Rattle.element.specs.Octets.{frameStart}
+use Rattle.element.specs.Layout.{most, sizeOf}
+use Rattle.element.specs.Octets.{frameStart, startOctets}
+use Rattle.rules.specs.Errors.{errorsTaken, ownError}
 
--- how many RERRs and how many octets k destinations take
-abbrev pub framesFor : ℕ → ℕ
-framesFor k = (k + 24) / 25
-
+-- how many octets k destinations take
 abbrev pub octetsFor : ℕ → ℕ
-octetsFor k = 10 * k + 10 * framesFor k
+octetsFor k = sizeOf LostDestinations * k + startOctets Rerr * errorsTaken k
 
 -- the start of a RERR of n destinations
 unfoldable pub errorStart : ℕ → List ℕ
-errorStart n = frameStart allOnes Rerr n (0 ∷ [])
+errorStart n = frameStart allOnes Rerr n (rerrNumbers ownError)
 
 -- what is begun before a destination that comes after k others
 unfoldable pub begunBefore : ℕ → List ℕ
-begunBefore k = cond (eqb (k % 25) 0) (errorStart 25) []
+begunBefore k = cond (eqb (k % most Rerr) 0) (errorStart (most Rerr)) []
 
 -- destinations after k others, before the last RERR has its count
-unfoldable pub begunAfter : ℕ → List NumberedAddress → List ℕ
+unfoldable pub begunAfter : ℕ → List LostDestination → List ℕ
 begunAfter k [] = []
-begunAfter k (x ∷ entries) = begunBefore k ++ (numberedOctets x ++ begunAfter (suc k) entries)
+begunAfter k (x ∷ entries) = begunBefore k ++ (lostOctets x ++ begunAfter (suc k) entries)
 
 -- the output s, in which the errors for k destinations stand from place at on, with the count of the last
 unfoldable pub closed : List ℕ → ℕ → ℕ → List ℕ
-closed s at k = cond (eqb (k % 25) 0) s (over s (at + 260 * (k / 25)) (errorStart (k % 25)))
+closed s at k =
+    cond (eqb (k % most Rerr) 0) s (over s (at + octetsFor (most Rerr) * (k / most Rerr)) (errorStart (k % most Rerr)))

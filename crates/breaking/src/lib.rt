@@ -1,3 +1,5 @@
-// Report a broken neighbour: the rows that are lost, and the errors that name them.
+// Report a broken neighbour: the errors that name the rows that are lost, and the rows.
 pub mod break_neighbour;
 mod errors;
+mod report;
+mod rows;

@@ -22,6 +22,8 @@ ghost use lib.ListN.{length};
 ghost use Rattle.octets.specs.LittleEndian.{over};
 ghost use Rattle.table.specs.Table.{own, rowFor};
 ghost use Rattle.table.specs.Layout.{Sized};
+ghost use Rattle.element.specs.Layout.{PartOf};
+ghost use Rattle.element.specs.declared.Kind.{Kind};
 ghost use Rattle.element.specs.Element.{rrep};
 ghost use Rattle.element.specs.Entries.{targetsIn};
 ghost use Rattle.rules.specs.Destinations.{allAnswered, answered, answeredNumber, forAnother, ownReply, replyFields};
@@ -195,12 +197,12 @@ pub fn write_replies(
     part: &[u8],
 ) -> Replied
     requires { ⌜ Sized (now table) ⌝ }
-    requires { ⌜ length (now part) ≤ 220 ⌝ }
+    requires { ⌜ PartOf Kind.Rreq (now part) ⌝ }
     requires { ⌜ at + 800 ≤ length (now output) ⌝ }
     ensures { λ r. ⌜ r ≡ repliedFrom at (allAnswered (now (table .entry)) a p number (targetsIn (now (part .entry)))) ⌝ }
     ensures { λ _. ⌜ now (output .exit) ≡ over (now (output .entry)) at (frameOctets (allAnswered (now (table .entry)) a p number (targetsIn (now (part .entry))) .replies)) ⌝ }
 {
-    let n = part.len() / 11;
+    let n = part.len() / list::TARGET;
     let mut replied = Replied {
         number,
         frames: 0,

@@ -16,10 +16,11 @@ use Rattle.element.specs.declared.Kind.the-variants.{Rann, Rreq, Rrep, R
 use Rattle.element.specs.declared.PathInfo.{PathInfo}
 use Rattle.element.specs.declared.RreqFields.{RreqFields}
 use Rattle.element.specs.declared.RrepFields.{RrepFields}
+use Rattle.element.specs.declared.RerrFields.{RerrFields}
 use Rattle.element.specs.declared.read.Reading.{Reading}
 use Rattle.element.specs.declared.read.Reading.the-variants.{Announcement, Request, Reply, Error, Refused}
 use Rattle.element.specs.Layout.{known, kindWith, fits, idOf, lengthWith, countOk}
-use Rattle.element.specs.Octets.{kindIn, countAs, wrongLength, otherId, misfit, pathFrom, rreqFrom, rrepFrom, fieldsAs, fixedFields, readAs, readElement, reading, listPart}
+use Rattle.element.specs.Octets.{kindIn, countAs, wrongLength, otherId, misfit, pathFrom, rerrFrom, rreqFrom, rrepFrom, rerrFrom, fieldsAs, fixedFields, readAs, readElement, reading, listPart}
 use Rattle.table.proofs.Cases.{both}
 use Rattle.element.proofs.Lengths.{least-length}
 
@@ -151,8 +152,8 @@ module _ (s : List ℕ) (k : Kind) (h : 2 + lengthWith k 0 ≤ length s) where
   pub rrep-there : k ≡ Rrep → 34 ≤ length s
   rrep-there e = rw e at h
 
-  pub rerr-there : k ≡ Rerr → 2 + 1 ≤ length s
-  rerr-there e = let l = rw e at h in omega arith
+  pub rerr-there : k ≡ Rerr → 4 ≤ length s
+  rerr-there e = rw e at h
 
 module _ (s : List ℕ) where
   pub path-read : (at : ℕ) {a b c d e f g : ℕ}
@@ -176,9 +177,9 @@ module _ (s : List ℕ) where
     unfolding readAs
     rrep-fields ke f e = rw (ke, e) refl
 
-    pub rerr-flags : k ≡ Rerr → (x : ℕ) → x ≡ numberAt 1 s 2 → Error x ≡ fixedFields (readAs k s)
-    unfolding readAs fieldsAt
-    rerr-flags ke x e = rw (ke, e) refl
+    pub rerr-fields : k ≡ Rerr → (f : RerrFields) → f ≡ rerrFrom (fieldsAs Rerr s) → Error f ≡ fixedFields (readAs k s)
+    unfolding readAs
+    rerr-fields ke f e = rw (ke, e) refl
 
 -- ---- the list part
 

@@ -4,31 +4,18 @@ use mathlib.Core.Path.{_≡_}
 use mathlib.Core.Bool.{true}
 use lib.Dec.{leb}
 use native.Mathlib.Omega.{arith}
-use borrow.Author.Tests.{leb-true, eqb-true}
+use borrow.Author.Tests.{leb-true}
 use Rattle.table.proofs.Cases.{both}
 use Rattle.element.specs.declared.Kind.{Kind}
 use Rattle.element.specs.declared.Kind.the-variants.{Rann, Rreq, Rrep, Rerr}
-use Rattle.element.specs.Layout.{idOf, lengthWith, countOk}
+use Rattle.element.specs.Layout.{idOf, lengthWith, fewest, most, countOk}
 
 -- ---- how many entries, and how long with these
 
-abbrev pub fewest : Kind → ℕ
-fewest Rann = 0
-fewest Rreq = 1
-fewest Rrep = 0
-fewest Rerr = 1
-
-abbrev pub most : Kind → ℕ
-most Rann = 0
-most Rreq = 20
-most Rrep = 22
-most Rerr = 25
-
 pub count-range : (k : Kind) (n : ℕ) → countOk k n ≡ true → (fewest k ≤ n) × (n ≤ most k)
-count-range Rann n e = let z = eqb-true n 0 e in (omega arith, omega arith)
-count-range Rreq n e = let b = both (leb 1 n) (leb n 20) e in (leb-true 1 n (b .0), leb-true n 20 (b .1))
-count-range Rrep n e = (omega arith, leb-true n 22 e)
-count-range Rerr n e = let b = both (leb 1 n) (leb n 25) e in (leb-true 1 n (b .0), leb-true n 25 (b .1))
+count-range k n e =
+    let b = both (leb (fewest k) n) (leb n (most k)) e in
+    (leb-true (fewest k) n (b .0), leb-true n (most k) (b .1))
 
 abbrev pub shortest : Kind → ℕ
 shortest Rann = 21

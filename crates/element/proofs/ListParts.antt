@@ -1,4 +1,4 @@
--- Entries as octets one after another: read back from these, and made again of what is read. Once for both kinds of
+-- Entries as octets one after another: read back from these, and made again of what is read. Once for all kinds of
 -- entry. Assumes nothing.
 use Prim.Native.Nat.{ℕ, zero, suc, _+_, _*_, _≤_}
 use mathlib.Core.Path.{_≡_, refl, sym, ap, ap₂, _∙_}
@@ -10,11 +10,12 @@ use native.Mathlib.Nat.{zero-add, add-zero, add-suc, suc-add, mul-zero, mul-suc,
 use Rattle.octets.specs.LittleEndian.{fieldsAt, fieldOctets, total, Octets}
 use Rattle.octets.proofs.Laws.{FitFields}
 use Rattle.octets.proofs.OctetLists.{length-field-octets, fields-read, fields-made, octets-nil, octets-append, octets-of-fields}
+use Rattle.element.specs.declared.LostDestination.{LostDestination}
 use Rattle.element.specs.declared.NumberedAddress.{NumberedAddress}
 use Rattle.element.specs.declared.Target.{Target}
-use Rattle.element.specs.Element.{numberedNumbers, targetNumbers}
-use Rattle.element.specs.Layout.{numberedWidths, targetWidths}
-use Rattle.element.specs.Entries.{each, All, numberedFrom, numberedAt, numberedList, numberedOctets, targetFrom, targetAt, targetList, targetOctets}
+use Rattle.element.specs.Element.{lostNumbers, numberedNumbers, targetNumbers}
+use Rattle.element.specs.Layout.{lostWidths, numberedWidths, targetWidths}
+use Rattle.element.specs.Entries.{each, All, lostFrom, lostAt, lostList, lostOctets, numberedFrom, numberedAt, numberedList, numberedOctets, targetFrom, targetAt, targetList, targetOctets}
 
 module _ {A : Type 0} (size : ℕ) (ws : List ℕ) (from : List ℕ → A) (numbers : A → List ℕ)
     (wide : total ws ≡ size) (as-many : (x : A) → length ws ≡ length (numbers x)) where
@@ -70,13 +71,16 @@ module _ {A : Type 0} (size : ℕ) (ws : List ℕ) (from : List ℕ → A) (numb
         ∙ ap (λ (k : ℕ). drop k part) (mul-suc size i) ∙ sym (drop-drop size (size * i) part) in
         ap₂ _++_ first rest ∙ take-append-drop size (drop (size * i) part)
 
--- ---- the two kinds
+-- ---- kind by kind
 
 abbrev pub FitsTarget : Target → Type 0
 FitsTarget t = FitFields targetWidths (targetNumbers t)
 
 abbrev pub FitsNumbered : NumberedAddress → Type 0
 FitsNumbered a = FitFields numberedWidths (numberedNumbers a)
+
+abbrev pub FitsLost : LostDestination → Type 0
+FitsLost m = FitFields lostWidths (lostNumbers m)
 
 pub targets-length : (ts : List Target) → length (flatMap targetOctets ts) ≡ 11 * length ts
 unfolding targetOctets total
@@ -109,3 +113,19 @@ addresses-read l f = entries-read 10 numberedWidths numberedFrom numberedNumbers
 pub addresses-made : (part : List ℕ) (n : ℕ) → Octets part → length part ≡ 10 * n → flatMap numberedOctets (numberedList n part) ≡ part
 unfolding numberedOctets numberedAt fieldsAt total
 addresses-made part n o e = entries-made 10 numberedWidths numberedFrom numberedNumbers refl (λ a. refl) part o (λ at. refl) n 0 (rw zero-add e)
+
+pub losses-length : (l : List LostDestination) → length (flatMap lostOctets l) ≡ 10 * length l
+unfolding lostOctets total
+losses-length l = entries-length 10 lostWidths lostFrom lostNumbers refl (λ m. refl) l
+
+pub losses-octets : (l : List LostDestination) → Octets (flatMap lostOctets l)
+unfolding lostOctets total
+losses-octets l = entries-octets 10 lostWidths lostFrom lostNumbers refl (λ m. refl) l
+
+pub losses-read : (l : List LostDestination) → All FitsLost l → lostList (length l) (flatMap lostOctets l) ≡ l
+unfolding lostOctets lostAt total
+losses-read l f = entries-read 10 lostWidths lostFrom lostNumbers refl (λ m. refl) (λ m. refl) [] l 0 refl f
+
+pub losses-made : (part : List ℕ) (n : ℕ) → Octets part → length part ≡ 10 * n → flatMap lostOctets (lostList n part) ≡ part
+unfolding lostOctets lostAt fieldsAt total
+losses-made part n o e = entries-made 10 lostWidths lostFrom lostNumbers refl (λ m. refl) part o (λ at. refl) n 0 (rw zero-add e)

@@ -14,12 +14,12 @@ use Rattle.octets.proofs.OctetLists.{fields-read, fields-made, octets-nil, octe
 use Rattle.element.specs.declared.Kind.{Kind}
 use Rattle.element.specs.declared.Kind.the-variants.{Rann, Rreq, Rrep, Rerr}
 use Rattle.element.specs.Element.{Element, rann, rreq, rrep, rerr, kindOf, countOf, fieldNumbers}
-use Rattle.element.specs.Layout.{idOf, known, kindWith, lengthWith, countOk, fits, fieldWidths, numberedWidths, targetWidths}
-use Rattle.element.specs.Entries.{All, each, numberedAt, targetAt}
+use Rattle.element.specs.Layout.{idOf, known, kindWith, lengthWith, countOk, fits, fieldWidths, lostWidths, numberedWidths, targetWidths}
+use Rattle.element.specs.Entries.{All, each, lostAt, numberedAt, targetAt}
 use Rattle.element.specs.Octets.{kindIn, countAs, wrongLength, otherId, misfit, fieldsAs, listAs, listPart, elementAs, readAs, readElement, fixedFields, reading, countPart, fixedOctets, listOctets, writeElement}
 use Rattle.element.proofs.Lengths.{least-length, id-octet, length-octet, count-octet}
 use Rattle.element.proofs.Scans.{each-length}
-use Rattle.element.proofs.ListParts.{FitsTarget, FitsNumbered, targets-octets, targets-read, targets-made, addresses-octets, addresses-read, addresses-made}
+use Rattle.element.proofs.ListParts.{FitsTarget, FitsNumbered, FitsLost, targets-octets, targets-read, targets-made, addresses-octets, addresses-read, addresses-made, losses-octets, losses-read, losses-made}
 use Rattle.element.proofs.Sizes.{fixed-length, element-length}
 use Rattle.element.proofs.Readings.{Passed, passed}
 
@@ -29,7 +29,7 @@ abbrev pub EntriesFit : Element → Type 0
 EntriesFit (rann p) = Unit {0}
 EntriesFit (rreq f targets) = All FitsTarget targets
 EntriesFit (rrep f dependents) = All FitsNumbered dependents
-EntriesFit (rerr flags destinations) = All FitsNumbered destinations
+EntriesFit (rerr f destinations) = All FitsLost destinations
 
 -- the fields and the entries fit their widths, and there are as many entries as there may be
 pub record Fits (e : Element) : Type 0 where
@@ -60,14 +60,14 @@ unfolding writeElement fixedOctets fieldOctets numberOctets
 count-there (rann p) = refl
 count-there (rreq f targets) = refl
 count-there (rrep f dependents) = refl
-count-there (rerr flags destinations) = refl
+count-there (rerr f destinations) = refl
 
 kind-there : (e : Element) → kindIn (writeElement e) ≡ kindOf e
 unfolding writeElement fixedOctets kindWith
 kind-there (rann p) = refl
 kind-there (rreq f targets) = refl
 kind-there (rrep f dependents) = refl
-kind-there (rerr flags destinations) = refl
+kind-there (rerr f destinations) = refl
 
 -- ---- what is written is read back
 
@@ -75,7 +75,7 @@ made : (e : Element) → EntriesFit e → elementAs (kindOf e) (fieldNumbers e) 
 made (rann p) f = refl
 made (rreq g targets) f = ap (rreq g) (targets-read targets f)
 made (rrep g dependents) f = ap (rrep g) (addresses-read dependents f)
-made (rerr flags destinations) f = ap (rerr flags) (addresses-read destinations f)
+made (rerr g destinations) f = ap (rerr g) (losses-read destinations f)
 
 pub read-back : (e : Element) → Fits e → readElement (writeElement e) ≡ e
 unfolding readElement readAs
@@ -134,7 +134,7 @@ list-octets : (e : Element) → Octets (listOctets e)
 list-octets (rann p) = octets-nil
 list-octets (rreq f targets) = targets-octets targets
 list-octets (rrep f dependents) = addresses-octets dependents
-list-octets (rerr flags destinations) = addresses-octets destinations
+list-octets (rerr f destinations) = losses-octets destinations
 
 count-octets : (k : Kind) (n : ℕ) → n < 256 → Octets (countPart k n)
 count-octets Rann n l = octets-nil
@@ -186,7 +186,7 @@ unfolding readAs
 count-read Rann s = refl
 count-read Rreq s = each-length (targetAt (drop 28 s)) 0 (getD s 27 0)
 count-read Rrep s = each-length (numberedAt (drop 34 s)) 0 (getD s 33 0)
-count-read Rerr s = each-length (numberedAt (drop 4 s)) 0 (getD s 3 0)
+count-read Rerr s = each-length (lostAt (drop 4 s)) 0 (getD s 3 0)
 
 numbers-read : (k : Kind) (s : List ℕ) → fieldNumbers (readAs k s) ≡ fieldsAs k s
 unfolding readAs fieldsAt
@@ -200,7 +200,7 @@ unfolding readAs
 list-read Rann s o e = let end : length s ≤ 23 = omega arith in sym (drop-of-length-le s end)
 list-read Rreq s o e = targets-made (drop 28 s) (getD s 27 0) (octets-drop 28 s o) (rw length-drop (omega arith))
 list-read Rrep s o e = addresses-made (drop 34 s) (getD s 33 0) (octets-drop 34 s o) (rw length-drop (omega arith))
-list-read Rerr s o e = addresses-made (drop 4 s) (getD s 3 0) (octets-drop 4 s o) (rw length-drop (omega arith))
+list-read Rerr s o e = losses-made (drop 4 s) (getD s 3 0) (octets-drop 4 s o) (rw length-drop (omega arith))
 
 fields-room : (k : Kind) → 2 + 0 + total (fieldWidths k) ≤ 2 + lengthWith k 0
 unfolding total
@@ -236,12 +236,16 @@ numbered-fits : (part : List ℕ) → Octets part → (i : ℕ) → FitsNumbered
 unfolding numberedAt fieldsAt
 numbered-fits part o i = fields-fit numberedWidths part (10 * i) 0 o
 
+lost-fits : (part : List ℕ) → Octets part → (i : ℕ) → FitsLost (lostAt part i)
+unfolding lostAt fieldsAt
+lost-fits part o i = fields-fit lostWidths part (10 * i) 0 o
+
 entries-fit : (k : Kind) (s : List ℕ) → Octets s → EntriesFit (readAs k s)
 unfolding readAs
 entries-fit Rann s o = tt
 entries-fit Rreq s o = all-each FitsTarget (targetAt (drop 28 s)) (target-fits (drop 28 s) (octets-drop 28 s o)) 0 (getD s 27 0)
 entries-fit Rrep s o = all-each FitsNumbered (numberedAt (drop 34 s)) (numbered-fits (drop 34 s) (octets-drop 34 s o)) 0 (getD s 33 0)
-entries-fit Rerr s o = all-each FitsNumbered (numberedAt (drop 4 s)) (numbered-fits (drop 4 s) (octets-drop 4 s o)) 0 (getD s 3 0)
+entries-fit Rerr s o = all-each FitsLost (lostAt (drop 4 s)) (lost-fits (drop 4 s) (octets-drop 4 s o)) 0 (getD s 3 0)
 
 fit-as : (s : List ℕ) (k : Kind) → Octets s → Passed s k → Fits (readAs k s)
 fit-as s k o p =

@@ -13,14 +13,15 @@ use Rattle.element.specs.declared.Kind.the-variants.{Rann, Rreq, Rrep, R
 use Rattle.element.specs.declared.PathInfo.{PathInfo}
 use Rattle.element.specs.declared.RreqFields.{RreqFields}
 use Rattle.element.specs.declared.RrepFields.{RrepFields}
+use Rattle.element.specs.declared.RerrFields.{RerrFields}
 use Rattle.element.specs.declared.read.Reading.{Reading}
 use Rattle.element.specs.declared.read.Reading.the-variants.{Announcement, Request, Reply, Error, Refused}
 use Rattle.element.specs.Element.{rann, rreq, rrep, rerr}
-use Rattle.element.specs.Layout.{idOf, known, lengthWith, countOk, fits}
-use Rattle.element.specs.Entries.{numberedIn, targetsIn}
+use Rattle.element.specs.Layout.{idOf, known, lengthWith, fewest, most, countOk, fits, entrySize, PartOf}
+use Rattle.element.specs.Entries.{lostIn, numberedIn, targetsIn}
 use Rattle.element.specs.Octets.{kindIn, countAs, wrongLength, otherId, misfit, fieldsAs, listAs, elementAs, readAs, readElement, fixedFields, reading, listPart}
 use Rattle.table.proofs.Cases.{both}
-use Rattle.element.proofs.Lengths.{least-length, fewest, most, count-range}
+use Rattle.element.proofs.Lengths.{least-length, count-range}
 use Rattle.element.proofs.Cases.{known-is, length-right}
 
 -- ---- octets that pass 6, 7 and 8
@@ -52,7 +53,7 @@ abbrev isRefused : Reading → Bool
 isRefused (Announcement p) = false
 isRefused (Request f) = false
 isRefused (Reply f) = false
-isRefused (Error flags) = false
+isRefused (Error f) = false
 isRefused (Refused n) = true
 
 -- the type of what was read; of a refusal any
@@ -60,7 +61,7 @@ abbrev kindRead : Reading → Kind
 kindRead (Announcement p) = Rann
 kindRead (Request f) = Rreq
 kindRead (Reply f) = Rrep
-kindRead (Error flags) = Rerr
+kindRead (Error f) = Rerr
 kindRead (Refused n) = Rann
 
 record Accepted (s : List ℕ) (k : Kind) (r : Reading) : Type 0 where
@@ -103,18 +104,17 @@ length-nil (x ∷ l) e = absurd (omega arith)
 
 -- ---- as callers ask it: r is the answer for s, and part its list part
 
--- octets of an entry; a RANN has none
-abbrev entrySize : Kind → ℕ
-entrySize Rann = 1
-entrySize Rreq = 11
-entrySize Rrep = 10
-entrySize Rerr = 10
-
 by-entries : (k : Kind) (n long : ℕ) → countOk k n ≡ true → long + lengthWith k 0 ≡ lengthWith k n → (long ≡ entrySize k * n) × (n ≡ long / entrySize k)
 by-entries Rann n long c e = let r = count-range Rann n c in (omega arith, omega arith)
 by-entries Rreq n long c e = (omega arith, omega arith)
 by-entries Rrep n long c e = (omega arith, omega arith)
 by-entries Rerr n long c e = (omega arith, omega arith)
+
+of-kind : (k : Kind) (n : ℕ) (part : List ℕ) → countOk k n ≡ true → length part ≡ entrySize k * n → PartOf k part
+of-kind Rann n part c e = let r = count-range Rann n c in record { whole = omega arith; some = omega arith; short = omega arith }
+of-kind Rreq n part c e = let r = count-range Rreq n c in record { whole = omega arith; some = omega arith; short = omega arith }
+of-kind Rrep n part c e = let r = count-range Rrep n c in record { whole = omega arith; some = omega arith; short = omega arith }
+of-kind Rerr n part c e = let r = count-range Rerr n c in record { whole = omega arith; some = omega arith; short = omega arith }
 
 module _ (s : List ℕ) (r : Reading) (re : r ≡ reading s) (q : Reading) (e : r ≡ q) (no-refusal : isRefused q ≡ false) where
   read-so : Accepted s (kindRead q) r
@@ -130,8 +130,8 @@ module _ (s : List ℕ) (r : Reading) (re : r ≡ reading s) (q : Reading) (e : 
         by-entries (kindRead q) (countAs (kindRead q) s) (length part) (read-so .passes .count)
         (rw (part-is, length-drop) (omega (arith, read-so .passes .size, least-length (kindRead q) (countAs (kindRead q) s))))
 
-    entries-range : (fewest (kindRead q) ≤ countAs (kindRead q) s) × (countAs (kindRead q) s ≤ most (kindRead q))
-    entries-range = count-range (kindRead q) (countAs (kindRead q) s) (read-so .passes .count)
+    pub part-of : PartOf (kindRead q) part
+    part-of = of-kind (kindRead q) (countAs (kindRead q) s) part (read-so .passes .count) (entries .0)
 
     -- the element that was read, by its list part
     element-is : readElement s ≡ elementAs (kindRead q) (fieldsAs (kindRead q) s) (length part / entrySize (kindRead q)) part
@@ -158,14 +158,8 @@ module _ (s : List ℕ) (r : Reading) (re : r ≡ reading s) where
 
   module _ (f : RreqFields) (e : r ≡ Request f) where
     module _ (part : List ℕ) (pe : part ≡ listPart s) where
-      pub request-whole : length part % 11 ≡ 0
-      request-whole = omega (arith, entries s r re (Request f) e refl part pe)
-
-      pub request-some : 11 ≤ length part
-      request-some = omega (arith, entries s r re (Request f) e refl part pe, entries-range s r re (Request f) e refl part pe)
-
-      pub request-short : length part ≤ 220
-      request-short = omega (arith, entries s r re (Request f) e refl part pe, entries-range s r re (Request f) e refl part pe)
+      pub request-part : PartOf Rreq part
+      request-part = part-of s r re (Request f) e refl part pe
 
       pub request-element : readElement s ≡ rreq f (targetsIn part)
       unfolding readAs
@@ -175,11 +169,8 @@ module _ (s : List ℕ) (r : Reading) (re : r ≡ reading s) where
 
   module _ (f : RrepFields) (e : r ≡ Reply f) where
     module _ (part : List ℕ) (pe : part ≡ listPart s) where
-      pub reply-whole : length part % 10 ≡ 0
-      reply-whole = omega (arith, entries s r re (Reply f) e refl part pe)
-
-      pub reply-short : length part ≤ 220
-      reply-short = omega (arith, entries s r re (Reply f) e refl part pe, entries-range s r re (Reply f) e refl part pe)
+      pub reply-part : PartOf Rrep part
+      reply-part = part-of s r re (Reply f) e refl part pe
 
       pub reply-element : readElement s ≡ rrep f (numberedIn part)
       unfolding readAs
@@ -187,19 +178,13 @@ module _ (s : List ℕ) (r : Reading) (re : r ≡ reading s) where
           let same = fields-are s r re (Reply f) e refl in
           element-is s r re (Reply f) e refl part pe ∙ ap (λ (g : RrepFields). rrep g (numberedIn part)) (cc)
 
-  module _ (flags : ℕ) (e : r ≡ Error flags) where
+  module _ (f : RerrFields) (e : r ≡ Error f) where
     module _ (part : List ℕ) (pe : part ≡ listPart s) where
-      pub error-whole : length part % 10 ≡ 0
-      error-whole = omega (arith, entries s r re (Error flags) e refl part pe)
+      pub error-part : PartOf Rerr part
+      error-part = part-of s r re (Error f) e refl part pe
 
-      pub error-some : 10 ≤ length part
-      error-some = omega (arith, entries s r re (Error flags) e refl part pe, entries-range s r re (Error flags) e refl part pe)
-
-      pub error-short : length part ≤ 250
-      error-short = omega (arith, entries s r re (Error flags) e refl part pe, entries-range s r re (Error flags) e refl part pe)
-
-      pub error-element : readElement s ≡ rerr flags (numberedIn part)
+      pub error-element : readElement s ≡ rerr f (lostIn part)
       unfolding readAs
       error-element =
-          let same = fields-are s r re (Error flags) e refl in
-          element-is s r re (Error flags) e refl part pe ∙ ap (λ (x : ℕ). rerr x (numberedIn part)) (cc)
+          let same = fields-are s r re (Error f) e refl in
+          element-is s r re (Error f) e refl part pe ∙ ap (λ (g : RerrFields). rerr g (lostIn part)) (cc)

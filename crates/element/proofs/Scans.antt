@@ -12,12 +12,14 @@ use Rattle.octets.specs.LittleEndian.{numberAt, fieldsAt}
 use Rattle.table.specs.declared.address.Address.{Address}
 use Rattle.table.specs.Address.{same}
 use Rattle.element.specs.declared.list.ListKind.{ListKind}
-use Rattle.element.specs.declared.list.ListKind.the-variants.{Targets, NumberedAddresses, Items}
+use Rattle.element.specs.declared.list.ListKind.the-variants.{Targets, Dependents, LostDestinations, Items}
 use Rattle.element.specs.declared.Item.{Item}
+use Rattle.element.specs.declared.LostDestination.{LostDestination}
 use Rattle.element.specs.declared.NumberedAddress.{NumberedAddress}
 use Rattle.element.specs.declared.Target.{Target}
-use Rattle.element.specs.Entries.{each, itemFrom, itemAt, numberedFrom, numberedAt, numberedIn, targetFrom, targetAt, targetsIn}
-use Rattle.element.specs.Lists.{addressIn, entriesIn, addressesFrom, addressesIn, allOnes, allowed, anyForbidden, among, twice, onesBesideOthers}
+use Rattle.element.specs.Entries.{each, entriesIn, itemFrom, itemAt, lostFrom, lostAt, lostIn, numberedFrom, numberedAt, targetFrom, targetAt, targetsIn}
+use Rattle.element.specs.Layout.{sizeOf}
+use Rattle.element.specs.Lists.{addressIn, addressesFrom, addressesIn, allOnes, allowed, anyForbidden, among, twice, onesBesideOthers}
 
 -- ---- entries one after another
 
@@ -52,7 +54,7 @@ map-each g f i (suc n) = ap (λ (l : List _). g (f i) ∷ l) (map-each g f (suc 
 
 -- the addresses of a list part are those of its entries
 pub target-addresses : (part : List ℕ) → map (λ (t : Target). t .address) (targetsIn part) ≡ addressesIn Targets part
-unfolding addressesFrom entriesIn
+unfolding addressesFrom
 target-addresses part =
     map-each (λ (t : Target). t .address) (targetAt part) 0 (length part / 11) ∙ ap (each (addressIn Targets part) 0) (sym (sub-zero (length part / 11)))
 
@@ -61,11 +63,11 @@ pub addresses-many : (k : ListKind) (part : List ℕ) → length (addressesIn k 
 unfolding addressesFrom
 addresses-many k part = each-length (addressIn k part) 0 (entriesIn k part - 0) ∙ sub-zero (entriesIn k part)
 
-pub numbered-addresses : (part : List ℕ) → map (λ (a : NumberedAddress). a .address) (numberedIn part) ≡ addressesIn NumberedAddresses part
-unfolding addressesFrom entriesIn
-numbered-addresses part =
-    map-each (λ (a : NumberedAddress). a .address) (numberedAt part) 0 (length part / 10)
-    ∙ ap (each (addressIn NumberedAddresses part) 0) (sym (sub-zero (length part / 10)))
+pub lost-addresses : (part : List ℕ) → map (λ (m : LostDestination). m .address) (lostIn part) ≡ addressesIn LostDestinations part
+unfolding addressesFrom
+lost-addresses part =
+    map-each (λ (m : LostDestination). m .address) (lostAt part) 0 (length part / 10)
+    ∙ ap (each (addressIn LostDestinations part) 0) (sym (sub-zero (length part / 10)))
 
 -- ---- an entry by its octets
 
@@ -79,28 +81,35 @@ module _ (part : List ℕ) (i : ℕ) where
   unfolding numberedAt fieldsAt
   numbered-read p₁ p₂ = cc (add-zero (10 * i))
 
+  pub lost-read : {a b : ℕ} → a ≡ numberAt 6 part (10 * i) → b ≡ numberAt 4 part (10 * i + 6) → lostFrom (a ∷ b ∷ []) ≡ lostAt part i
+  unfolding lostAt fieldsAt
+  lost-read p₁ p₂ = cc (add-zero (10 * i))
+
   pub item-read : {a b : ℕ} → a ≡ numberAt 1 part (7 * i) → b ≡ numberAt 6 part (7 * i + 1) → itemFrom (a ∷ b ∷ []) ≡ itemAt part i
   unfolding itemAt fieldsAt
   item-read p₁ p₂ = cc (add-zero (7 * i))
 
   module _ (k : ListKind) (l : i < entriesIn k part) where
     pub target-within : k ≡ Targets → 11 * (i + 1) ≤ length part
-    unfolding entriesIn
     target-within e = let h = rw e at l in omega arith
 
-    pub numbered-within : k ≡ NumberedAddresses → 10 * (i + 1) ≤ length part
-    unfolding entriesIn
+    pub numbered-within : k ≡ Dependents → 10 * (i + 1) ≤ length part
     numbered-within e = let h = rw e at l in omega arith
 
+    pub lost-within : k ≡ LostDestinations → 10 * (i + 1) ≤ length part
+    lost-within e = let h = rw e at l in omega arith
+
     pub item-within : k ≡ Items → 7 * (i + 1) ≤ length part
-    unfolding entriesIn
     item-within e = let h = rw e at l in omega arith
 
     pub target-address : k ≡ Targets → (t : Target) → t ≡ targetAt part i → t .address ≡ addressIn k part i
     target-address ke t e = rw (ke, e)
 
-    pub numbered-address : k ≡ NumberedAddresses → (a : NumberedAddress) → a ≡ numberedAt part i → a .address ≡ addressIn k part i
+    pub numbered-address : k ≡ Dependents → (a : NumberedAddress) → a ≡ numberedAt part i → a .address ≡ addressIn k part i
     numbered-address ke a e = rw (ke, e)
+
+    pub lost-address : k ≡ LostDestinations → (m : LostDestination) → m ≡ lostAt part i → m .address ≡ addressIn k part i
+    lost-address ke m e = rw (ke, e)
 
     pub item-address : k ≡ Items → (a : Item) → a ≡ itemAt part i → a .address ≡ addressIn k part i
     item-address ke a e = rw (ke, e)
@@ -227,17 +236,7 @@ module _ (k : ListKind) (part : List ℕ) where
       let long : length (each (addressIn k part) 0 (entriesIn k part - 0)) ≡ n = each-length (addressIn k part) 0 (entriesIn k part - 0) ∙ sub-zero (entriesIn k part) ∙ sym ne in
       cc
 
-module _ (k : ListKind) (part : List ℕ) (n : ℕ) (ne : n ≡ length part / 11) where
-  pub targets-many : k ≡ Targets → n ≡ entriesIn k part
-  unfolding entriesIn
-  targets-many e = rw e ne
-
-module _ (k : ListKind) (part : List ℕ) (n : ℕ) (ne : n ≡ length part / 10) where
-  pub numbered-many : k ≡ NumberedAddresses → n ≡ entriesIn k part
-  unfolding entriesIn
-  numbered-many e = rw e ne
-
-module _ (k : ListKind) (part : List ℕ) (n : ℕ) (ne : n ≡ length part / 7) where
-  pub items-many : k ≡ Items → n ≡ entriesIn k part
-  unfolding entriesIn
-  items-many e = rw e ne
+-- how many entries, by the kind that a branch has found
+module _ (k j : ListKind) (ke : k ≡ j) (part : List ℕ) (n : ℕ) where
+  pub entries-many : n ≡ length part / sizeOf j → n ≡ entriesIn k part
+  entries-many e = rw ke e

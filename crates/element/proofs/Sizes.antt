@@ -11,13 +11,13 @@ use Rattle.element.specs.declared.Kind.the-variants.{Rann, Rreq, Rrep, R
 use Rattle.element.specs.Element.{Element, rann, rreq, rrep, rerr, kindOf, countOf, fieldNumbers}
 use Rattle.element.specs.Layout.{lengthWith, fieldWidths}
 use Rattle.element.specs.Octets.{countPart, fixedOctets, listOctets, writeElement, frameStart, writeFrame}
-use Rattle.element.proofs.ListParts.{targets-length, addresses-length}
+use Rattle.element.proofs.ListParts.{targets-length, addresses-length, losses-length}
 
 pub as-many : (e : Element) → length (fieldWidths (kindOf e)) ≡ length (fieldNumbers e)
 as-many (rann p) = refl
 as-many (rreq f targets) = refl
 as-many (rrep f dependents) = refl
-as-many (rerr flags destinations) = refl
+as-many (rerr f destinations) = refl
 
 -- the fixed part has as many octets as an element without entries
 fixed-width : (k : Kind) (n : ℕ) → 2 + (total (fieldWidths k) + length (countPart k n)) ≡ 2 + lengthWith k 0
@@ -51,7 +51,7 @@ list-length : (e : Element) → 2 + lengthWith (kindOf e) 0 + length (listOctets
 list-length (rann p) = refl
 list-length (rreq f targets) = omega (arith, targets-length targets)
 list-length (rrep f dependents) = omega (arith, addresses-length dependents)
-list-length (rerr flags destinations) = omega (arith, addresses-length destinations)
+list-length (rerr f destinations) = omega (arith, losses-length destinations)
 
 -- an element has as many octets as its Length says, and two
 pub element-length : (e : Element) → length (writeElement e) ≡ 2 + lengthWith (kindOf e) (countOf e)

@@ -11,13 +11,14 @@ use Rattle.table.specs.declared.address.Address.{Address}
 use Rattle.element.specs.declared.Kind.{Kind}
 use Rattle.element.specs.declared.Kind.the-variants.{Rann, Rreq, Rrep, Rerr}
 use Rattle.element.specs.declared.PathInfo.{PathInfo}
-use Rattle.element.specs.declared.NumberedAddress.{NumberedAddress}
+use Rattle.element.specs.declared.LostDestination.{LostDestination}
 use Rattle.element.specs.declared.Target.{Target}
 use Rattle.element.specs.declared.RreqFields.{RreqFields}
 use Rattle.element.specs.declared.RrepFields.{RrepFields}
-use Rattle.element.specs.Element.{Element, rann, rreq, rrep, rerr, kindOf, countOf, rannNumbers, rreqNumbers, rrepNumbers, fieldNumbers, numberedNumbers, targetNumbers}
-use Rattle.element.specs.Layout.{idOf, lengthWith, fieldWidths, numberedWidths, targetWidths}
-use Rattle.element.specs.Entries.{each, numberedAt, numberedIn, numberedOctets, targetAt, targetOctets, targetsIn}
+use Rattle.element.specs.declared.RerrFields.{RerrFields}
+use Rattle.element.specs.Element.{Element, rann, rreq, rrep, rerr, kindOf, countOf, rannNumbers, rreqNumbers, rrepNumbers, rerrNumbers, fieldNumbers, lostNumbers, targetNumbers}
+use Rattle.element.specs.Layout.{idOf, lengthWith, fieldWidths, lostWidths, targetWidths, PartOf}
+use Rattle.element.specs.Entries.{each, lostAt, lostIn, lostOctets, numberedAt, numberedIn, targetAt, targetOctets, targetsIn}
 use Rattle.element.specs.Octets.{countPart, fixedNumbers, fixedOctets, listOctets, writeElement, frameStart, writeFrame}
 use Rattle.element.proofs.Lengths.{id-octet}
 use Rattle.element.proofs.Sizes.{start-length}
@@ -85,18 +86,18 @@ module _ (to : Address) (s t ys : List ℕ) (at : ℕ) where
       → t ≡ over s at (numberOctets 6 (to .0) ++ fieldOctets (1 ∷ 1 ∷ 1 ∷ 1 ∷ 1 ∷ 6 ∷ 4 ∷ 4 ∷ 4 ∷ 6 ∷ 4 ∷ 1 ∷ []) ys) → t ≡ over s at (frameStart to Rrep n (rrepNumbers f))
   rrep-started f n l ye te = started to Rrep n (rrepNumbers f) refl (omega arith) (omega arith) s t ys at ye te
 
-  pub rerr-started : (flags n : ℕ) → n ≤ 25 → ys ≡ fixedNumbers Rerr n (flags ∷ [])
-      → t ≡ over s at (numberOctets 6 (to .0) ++ fieldOctets (1 ∷ 1 ∷ 1 ∷ 1 ∷ []) ys) → t ≡ over s at (frameStart to Rerr n (flags ∷ []))
-  rerr-started flags n l ye te = started to Rerr n (flags ∷ []) refl (omega arith) (omega arith) s t ys at ye te
+  pub rerr-started : (f : RerrFields) (n : ℕ) → n ≤ 25 → ys ≡ fixedNumbers Rerr n (rerrNumbers f)
+      → t ≡ over s at (numberOctets 6 (to .0) ++ fieldOctets (1 ∷ 1 ∷ 1 ∷ 1 ∷ []) ys) → t ≡ over s at (frameStart to Rerr n (rerrNumbers f))
+  rerr-started f n l ye te = started to Rerr n (rerrNumbers f) refl (omega arith) (omega arith) s t ys at ye te
 
 module _ (s t ys : List ℕ) (at : ℕ) where
   pub target-written : (x : Target) → ys ≡ targetNumbers x → t ≡ withFields targetWidths s at 0 ys → t ≡ over s at (targetOctets x)
   unfolding targetOctets
   target-written x ye te = rw (te, ye, fields-over, add-zero at) refl
 
-  pub numbered-written : (x : NumberedAddress) → ys ≡ numberedNumbers x → t ≡ withFields numberedWidths s at 0 ys → t ≡ over s at (numberedOctets x)
-  unfolding numberedOctets
-  numbered-written x ye te = rw (te, ye, fields-over, add-zero at) refl
+  pub lost-written : (x : LostDestination) → ys ≡ lostNumbers x → t ≡ withFields lostWidths s at 0 ys → t ≡ over s at (lostOctets x)
+  unfolding lostOctets
+  lost-written x ye te = rw (te, ye, fields-over, add-zero at) refl
 
 -- ---- a list after the start
 
@@ -133,22 +134,25 @@ module _ (to : Address) (s t u : List ℕ) (at at′ : ℕ) where
     addresses-counted : n ≡ length part / 10 → n ≡ length (numberedIn part)
     addresses-counted e = e ∙ sym (each-length (numberedAt part) 0 (length part / 10))
 
+    losses-counted : n ≡ length part / 10 → n ≡ length (lostIn part)
+    losses-counted e = e ∙ sym (each-length (lostAt part) 0 (length part / 10))
+
     module _ (f : RreqFields) (ne : n ≡ length part / 11) (te : t ≡ over s at (frameStart to Rreq n (rreqNumbers f))) (ae : at′ ≡ at + 34) where
       pub rreq-listed : u ≡ over t at′ (flatMap targetOctets (targetsIn part)) → u ≡ over s at (writeFrame to (rreq f (targetsIn part)))
       rreq-listed = finished (rreq f (targetsIn part)) n (targets-counted ne) te ae
 
-      pub rreq-written : Octets part → length part % 11 ≡ 0 → u ≡ over t at′ part → u ≡ over s at (writeFrame to (rreq f (targetsIn part)))
+      pub rreq-written : Octets part → PartOf Rreq part → u ≡ over t at′ part → u ≡ over s at (writeFrame to (rreq f (targetsIn part)))
       rreq-written octets whole ue = rreq-listed (ue ∙ ap (over t at′) (sym (targets-made part (length part / 11) octets (omega arith))))
 
     pub rrep-written : (f : RrepFields) → n ≡ length part / 10 → t ≡ over s at (frameStart to Rrep n (rrepNumbers f)) → at′ ≡ at + 40
-        → Octets part → length part % 10 ≡ 0 → u ≡ over t at′ part → u ≡ over s at (writeFrame to (rrep f (numberedIn part)))
+        → Octets part → PartOf Rrep part → u ≡ over t at′ part → u ≡ over s at (writeFrame to (rrep f (numberedIn part)))
     rrep-written f ne te ae octets whole ue =
         finished (rrep f (numberedIn part)) n (addresses-counted ne) te ae
         (ue ∙ ap (over t at′) (sym (addresses-made part (length part / 10) octets (omega arith))))
 
-    pub rerr-listed : (flags : ℕ) → n ≡ length part / 10 → t ≡ over s at (frameStart to Rerr n (flags ∷ [])) → at′ ≡ at + 10
-        → u ≡ over t at′ (flatMap numberedOctets (numberedIn part)) → u ≡ over s at (writeFrame to (rerr flags (numberedIn part)))
-    rerr-listed flags ne te ae = finished (rerr flags (numberedIn part)) n (addresses-counted ne) te ae
+    pub rerr-listed : (f : RerrFields) → n ≡ length part / 10 → t ≡ over s at (frameStart to Rerr n (rerrNumbers f)) → at′ ≡ at + 10
+        → u ≡ over t at′ (flatMap lostOctets (lostIn part)) → u ≡ over s at (writeFrame to (rerr f (lostIn part)))
+    rerr-listed f ne te ae = finished (rerr f (lostIn part)) n (losses-counted ne) te ae
 
 -- ---- entries one by one, by what is left to write: g is the whole
 
@@ -156,9 +160,9 @@ pub target-length : (x : Target) → length (targetOctets x) ≡ 11
 unfolding targetOctets total
 target-length x = length-field-octets targetWidths (targetNumbers x) refl
 
-pub numbered-length : (x : NumberedAddress) → length (numberedOctets x) ≡ 10
-unfolding numberedOctets total
-numbered-length x = length-field-octets numberedWidths (numberedNumbers x) refl
+pub lost-length : (x : LostDestination) → length (lostOctets x) ≡ 10
+unfolding lostOctets total
+lost-length x = length-field-octets lostWidths (lostNumbers x) refl
 
 module _ {A : Type 0} (write : A → List ℕ) (entry : ℕ → A) (n : ℕ) where
   pub entries-start : (s : List ℕ) (at : ℕ) → over s at (flatMap write (each entry 0 (n - 0))) ≡ over s at (flatMap write (each entry 0 n))

@@ -1,11 +1,15 @@
 -- 'Element octets' of document 01: for each type the ID, the Length with N entries, how many there may be, and the widths
--- of the fields. Assumes nothing.
-use Prim.Native.Nat.{ℕ, _+_, _*_}
+-- of the fields; for each kind of list the octets of an entry. Assumes nothing.
+use Prim.Native.Nat.{ℕ, _+_, _*_, _%_, _≤_}
+use mathlib.Core.Path.{_≡_}
 use mathlib.Core.Bool.{Bool, _&&_, _||_, cond}
 use mathlib.Core.List.{List, [], _∷_}
 use lib.Dec.{eqb, leb}
+use lib.ListN.{length}
 use Rattle.element.specs.declared.Kind.{Kind}
 use Rattle.element.specs.declared.Kind.the-variants.{Rann, Rreq, Rrep, Rerr}
+use Rattle.element.specs.declared.list.ListKind.{ListKind}
+use Rattle.element.specs.declared.list.ListKind.the-variants.{Targets, Dependents, LostDestinations, Items}
 
 abbrev pub idOf : Kind → ℕ
 idOf Rann = 126
@@ -29,15 +33,46 @@ lengthWith Rrep n = 32 + 10 * n
 lengthWith Rerr n = 2 + 10 * n
 
 -- how many entries there may be; a RANN has no list
+abbrev pub fewest : Kind → ℕ
+fewest Rann = 0
+fewest Rreq = 1
+fewest Rrep = 0
+fewest Rerr = 1
+
+abbrev pub most : Kind → ℕ
+most Rann = 0
+most Rreq = 20
+most Rrep = 22
+most Rerr = 25
+
 abbrev pub countOk : Kind → ℕ → Bool
-countOk Rann n = eqb n 0
-countOk Rreq n = leb 1 n && leb n 20
-countOk Rrep n = leb n 22
-countOk Rerr n = leb 1 n && leb n 25
+countOk k n = leb (fewest k) n && leb n (most k)
 
 -- a Length fits type and count
 unfoldable pub fits : Kind → ℕ → ℕ → Bool
 fits k long n = eqb long (lengthWith k n) && countOk k n
+
+-- ---- lists
+
+-- octets of an entry
+abbrev pub sizeOf : ListKind → ℕ
+sizeOf Targets = 11
+sizeOf Dependents = 10
+sizeOf LostDestinations = 10
+sizeOf Items = 7
+
+-- of an entry of this type's list (1 for a RANN, whose empty list part then has 0 / 1 entries)
+abbrev pub entrySize : Kind → ℕ
+entrySize Rann = 1
+entrySize Rreq = sizeOf Targets
+entrySize Rrep = sizeOf Dependents
+entrySize Rerr = sizeOf LostDestinations
+
+-- what functions know of the list part of an element of this type: whole entries, and as many as there may be
+pub record PartOf (k : Kind) (part : List ℕ) : Type 0 where
+  pub whole : length part % entrySize k ≡ 0
+  pub some : fewest k * entrySize k ≤ length part
+  pub short : length part ≤ most k * entrySize k
 
 -- ---- widths
 
@@ -52,7 +87,7 @@ fieldWidths Rrep = 1 ∷ 1 ∷ 1 ∷ 6 ∷ 4 ∷ 4 ∷ 4 ∷ 6 ∷ 4 ∷ []
 -- flags
 fieldWidths Rerr = 1 ∷ []
 
--- flags, destination, number
+-- a destination of a RREQ: flags, address, number
 abbrev pub targetWidths : List ℕ
 targetWidths = 1 ∷ 6 ∷ 4 ∷ []
 
@@ -60,6 +95,10 @@ targetWidths = 1 ∷ 6 ∷ 4 ∷ []
 abbrev pub itemWidths : List ℕ
 itemWidths = 1 ∷ 6 ∷ []
 
--- address, number
+-- a dependent: address, number
 abbrev pub numberedWidths : List ℕ
 numberedWidths = 6 ∷ 4 ∷ []
+
+-- a destination of a RERR: address, number
+abbrev pub lostWidths : List ℕ
+lostWidths = 6 ∷ 4 ∷ []

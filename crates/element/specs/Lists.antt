@@ -1,6 +1,6 @@
 -- The addresses in a list part or in the items of an ask, and what can be wrong with them: what refusals 9 and 10 ask of
--- destinations. Dependents of a RREP have entries like those of a RERR, but are passed on unread. Assumes nothing.
-use Prim.Native.Nat.{ℕ, _-_, _/_, _^_}
+-- destinations. Receive passes the dependents of a RREP on unread. Assumes nothing.
+use Prim.Native.Nat.{ℕ, _-_, _^_}
 use mathlib.Core.Bool.{Bool, false, _&&_, _||_, not}
 use mathlib.Core.List.{List, [], _∷_}
 use lib.Dec.{ltb}
@@ -8,24 +8,16 @@ use lib.ListN.{length}
 use Rattle.table.specs.declared.address.Address.{Address}
 use Rattle.table.specs.Address.{individual, same}
 use Rattle.element.specs.declared.list.ListKind.{ListKind}
-use Rattle.element.specs.declared.list.ListKind.the-variants.{Targets, NumberedAddresses, Items}
-use Rattle.element.specs.Entries.{each, itemAt, numberedAt, targetAt}
+use Rattle.element.specs.declared.list.ListKind.the-variants.{Targets, Dependents, LostDestinations, Items}
+use Rattle.element.specs.Entries.{each, entriesIn, itemAt, lostAt, numberedAt, targetAt}
 
 -- ---- a list part by the kind of its entries
 
--- octets of an entry: flags 1, destination 6, number 4; address 6, number 4; or flags 1, address 6
-abbrev pub sizeOf : ListKind → ℕ
-sizeOf Targets = 11
-sizeOf NumberedAddresses = 10
-sizeOf Items = 7
-
 abbrev pub addressIn : ListKind → List ℕ → ℕ → Address
 addressIn Targets part i = targetAt part i .address
-addressIn NumberedAddresses part i = numberedAt part i .address
+addressIn Dependents part i = numberedAt part i .address
+addressIn LostDestinations part i = lostAt part i .address
 addressIn Items part i = itemAt part i .address
-
-unfoldable pub entriesIn : ListKind → List ℕ → ℕ
-entriesIn k part = length part / sizeOf k
 
 -- the addresses of entry i and of those after it
 unfoldable pub addressesFrom : ListKind → List ℕ → ℕ → List Address
@@ -42,7 +34,8 @@ allOnes = record { 0 = 2 ^ 48 - 1 }
 -- a destination is individual; as a RREQ destination all ones is allowed too; an ask may not name all ones
 unfoldable pub allowed : ListKind → Address → Bool
 allowed Targets a = individual a || same a allOnes
-allowed NumberedAddresses a = individual a
+allowed Dependents a = individual a
+allowed LostDestinations a = individual a
 allowed Items a = individual a
 
 unfoldable pub anyForbidden : ListKind → List Address → Bool

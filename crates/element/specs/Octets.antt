@@ -11,11 +11,12 @@ use Rattle.element.specs.declared.Kind.the-variants.{Rann, Rreq, Rrep, R
 use Rattle.element.specs.declared.PathInfo.{PathInfo}
 use Rattle.element.specs.declared.RreqFields.{RreqFields}
 use Rattle.element.specs.declared.RrepFields.{RrepFields}
+use Rattle.element.specs.declared.RerrFields.{RerrFields}
 use Rattle.element.specs.declared.read.Reading.{Reading}
 use Rattle.element.specs.declared.read.Reading.the-variants.{Announcement, Request, Reply, Error, Refused}
 use Rattle.element.specs.Element.{Element, rann, rreq, rrep, rerr, kindOf, countOf, fieldNumbers}
 use Rattle.element.specs.Layout.{idOf, kindWith, known, lengthWith, fits, fieldWidths}
-use Rattle.element.specs.Entries.{numberedOctets, numberedList, targetOctets, targetList}
+use Rattle.element.specs.Entries.{lostOctets, lostList, numberedOctets, numberedList, targetOctets, targetList}
 
 -- ---- turned away
 
@@ -64,6 +65,9 @@ abbrev pub rrepFrom : List ℕ → RrepFields
 rrepFrom xs =
     record { path = pathFrom xs 3; source = record { address = record { 0 = getD xs 7 0 }; number = record { 0 = getD xs 8 0 } } }
 
+abbrev pub rerrFrom : List ℕ → RerrFields
+rerrFrom xs = record { flags = getD xs 0 0 }
+
 -- the fields between Length and N
 abbrev pub fieldsAs : Kind → List ℕ → List ℕ
 fieldsAs k s = fieldsAt (fieldWidths k) s 2 0
@@ -76,7 +80,7 @@ abbrev pub elementAs : Kind → List ℕ → ℕ → List ℕ → Element
 elementAs Rann xs n part = rann (pathFrom xs 3)
 elementAs Rreq xs n part = rreq (rreqFrom xs) (targetList n part)
 elementAs Rrep xs n part = rrep (rrepFrom xs) (numberedList n part)
-elementAs Rerr xs n part = rerr (getD xs 0 0) (numberedList n part)
+elementAs Rerr xs n part = rerr (rerrFrom xs) (lostList n part)
 
 unfoldable pub readAs : Kind → List ℕ → Element
 readAs k s = elementAs k (fieldsAs k s) (countAs k s) (listAs k s)
@@ -92,7 +96,7 @@ abbrev pub fixedFields : Element → Reading
 fixedFields (rann p) = Announcement p
 fixedFields (rreq f targets) = Request f
 fixedFields (rrep f dependents) = Reply f
-fixedFields (rerr flags destinations) = Error flags
+fixedFields (rerr f destinations) = Error f
 
 unfoldable pub reading : List ℕ → Reading
 reading s =
@@ -120,7 +124,7 @@ abbrev pub listOctets : Element → List ℕ
 listOctets (rann p) = []
 listOctets (rreq f targets) = flatMap targetOctets targets
 listOctets (rrep f dependents) = flatMap numberedOctets dependents
-listOctets (rerr flags destinations) = flatMap numberedOctets destinations
+listOctets (rerr f destinations) = flatMap lostOctets destinations
 
 unfoldable pub writeElement : Element → List ℕ
 writeElement e = fixedOctets (kindOf e) (countOf e) (fieldNumbers e) ++ listOctets e
@@ -128,6 +132,10 @@ writeElement e = fixedOctets (kindOf e) (countOf e) (fieldNumbers e) ++ listOcte
 -- a frame is receiver address and element
 unfoldable pub writeFrame : Address → Element → List ℕ
 writeFrame to e = numberOctets 6 (to .0) ++ writeElement e
+
+-- octets of the receiver address and of an element without entries
+abbrev pub startOctets : Kind → ℕ
+startOctets k = 8 + lengthWith k 0
 
 -- a frame with n entries, without these
 abbrev pub frameStart : Address → Kind → ℕ → List ℕ → List ℕ

@@ -30,7 +30,7 @@ pub struct PathInfo {
     pub metric: Metric,
 }
 
-// An address with the number beside it: the source of a RREP, each of its dependents, and a destination of a RERR.
+// An address with the number beside it: the source of a RREP, and each of its dependents.
 pub struct NumberedAddress {
     pub address: Address,
     pub number: SequenceNumber,
@@ -43,13 +43,19 @@ pub struct Target {
     pub number: SequenceNumber,
 }
 
+// A destination of a RERR, which can no longer be reached, with the number under which it was lost.
+pub struct LostDestination {
+    pub address: Address,
+    pub number: SequenceNumber,
+}
+
 // An item of an ask: a destination to be asked for, with the flags that it gets in the RREQ.
 pub struct Item {
     pub flags: u8,
     pub address: Address,
 }
 
-// The fixed fields of a RREQ and of a RREP.
+// The fixed fields of a RREQ, of a RREP and of a RERR.
 pub struct RreqFields {
     pub request: RequestId,
     pub path: PathInfo,
@@ -58,4 +64,8 @@ pub struct RreqFields {
 pub struct RrepFields {
     pub path: PathInfo,
     pub source: NumberedAddress,
+}
+
+pub struct RerrFields {
+    pub flags: u8,
 }

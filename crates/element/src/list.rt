@@ -1,6 +1,7 @@
 // The list part of an element and the items of an ask: entries by index, and what can be wrong with the addresses of
 // destinations. A list has at most 25 entries, so all of this is by plain scans.
 use crate::Item;
+use crate::LostDestination;
 use crate::NumberedAddress;
 use crate::Target;
 use counters::SequenceNumber;
@@ -8,24 +9,36 @@ use table::address::Address;
 ghost use mathlib.Core.Path.{_≡_};
 ghost use Prim.Native.Nat.{_+_, _*_, _<_, _≤_};
 ghost use lib.ListN.{length};
-ghost use Rattle.element.specs.Entries.{itemAt, numberedAt, targetAt};
-ghost use Rattle.element.specs.Lists.{addressIn, addressesFrom, addressesIn, allowed, among, anyForbidden, entriesIn, onesBesideOthers, twice};
+ghost use Rattle.element.specs.Layout.{sizeOf};
+ghost use Rattle.element.specs.declared.list.ListKind.{ListKind};
+ghost use Rattle.element.specs.Entries.{entriesIn, itemAt, lostAt, numberedAt, targetAt};
+ghost use Rattle.element.specs.Lists.{addressIn, addressesFrom, addressesIn, allowed, among, anyForbidden, onesBesideOthers, twice};
 
 // Every point: as a receiver, and as the destination of a root request.
 pub const ALL_ONES: u64 = 281474976710655;
 
-// What the entries are: destinations of a RREQ; dependents of a RREP and destinations of a RERR; or items of an ask.
+// Octets of an entry: a destination of a RREQ, a dependent of a RREP, a destination of a RERR, an item of an ask.
+pub const TARGET: usize = 11;
+
+pub const DEPENDENT: usize = 10;
+
+pub const LOST: usize = 10;
+
+pub const ITEM: usize = 7;
+
+// What the entries are: destinations of a RREQ, dependents of a RREP, destinations of a RERR, or items of an ask.
 pub enum ListKind {
     Targets,
-    NumberedAddresses,
+    Dependents,
+    LostDestinations,
     Items,
 }
 
 pub fn target_at(part: &[u8], i: usize) -> Target
-    requires { ⌜ 11 * (i + 1) ≤ length (now part) ⌝ }
+    requires { ⌜ sizeOf ListKind.Targets * (i + 1) ≤ length (now part) ⌝ }
     ensures { λ r. ⌜ r ≡ targetAt (now (part .entry)) i ⌝ }
 {
-    let at = 11 * i;
+    let at = TARGET * i;
     Target {
         flags: octets::read_u8(part, at),
         address: Address(octets::read_u48(part, at + 1)),
@@ -34,21 +47,32 @@ pub fn target_at(part: &[u8], i: usize) -> Target
 }
 
 pub fn numbered_at(part: &[u8], i: usize) -> NumberedAddress
-    requires { ⌜ 10 * (i + 1) ≤ length (now part) ⌝ }
+    requires { ⌜ sizeOf ListKind.Dependents * (i + 1) ≤ length (now part) ⌝ }
     ensures { λ r. ⌜ r ≡ numberedAt (now (part .entry)) i ⌝ }
 {
-    let at = 10 * i;
+    let at = DEPENDENT * i;
     NumberedAddress {
         address: Address(octets::read_u48(part, at)),
         number: SequenceNumber(octets::read_u32(part, at + 6)),
     }
 }
 
+pub fn lost_at(part: &[u8], i: usize) -> LostDestination
+    requires { ⌜ sizeOf ListKind.LostDestinations * (i + 1) ≤ length (now part) ⌝ }
+    ensures { λ r. ⌜ r ≡ lostAt (now (part .entry)) i ⌝ }
+{
+    let at = LOST * i;
+    LostDestination {
+        address: Address(octets::read_u48(part, at)),
+        number: SequenceNumber(octets::read_u32(part, at + 6)),
+    }
+}
+
 pub fn item_at(part: &[u8], i: usize) -> Item
-    requires { ⌜ 7 * (i + 1) ≤ length (now part) ⌝ }
+    requires { ⌜ sizeOf ListKind.Items * (i + 1) ≤ length (now part) ⌝ }
     ensures { λ r. ⌜ r ≡ itemAt (now (part .entry)) i ⌝ }
 {
-    let at = 7 * i;
+    let at = ITEM * i;
     let flags = octets::read_u8(part, at);
     let address = Address(octets::read_u48(part, at + 1));
     Item { flags, address }
@@ -59,9 +83,10 @@ pub fn entries_in(part: &[u8], kind: ListKind) -> usize
     ensures { λ r. ⌜ r ≡ entriesIn kind (now (part .entry)) ⌝ }
 {
     match kind {
-        ListKind::Targets => part.len() / 11,
-        ListKind::NumberedAddresses => part.len() / 10,
-        ListKind::Items => part.len() / 7,
+        ListKind::Targets => part.len() / TARGET,
+        ListKind::Dependents => part.len() / DEPENDENT,
+        ListKind::LostDestinations => part.len() / LOST,
+        ListKind::Items => part.len() / ITEM,
     }
 }
 
@@ -71,7 +96,8 @@ fn address_at(part: &[u8], kind: ListKind, i: usize) -> Address
 {
     match kind {
         ListKind::Targets => target_at(part, i).address,
-        ListKind::NumberedAddresses => numbered_at(part, i).address,
+        ListKind::Dependents => numbered_at(part, i).address,
+        ListKind::LostDestinations => lost_at(part, i).address,
         ListKind::Items => item_at(part, i).address,
     }
 }
@@ -81,7 +107,8 @@ fn is_allowed(kind: ListKind, address: Address) -> bool
 {
     match kind {
         ListKind::Targets => address.is_individual() | (address.0 == ALL_ONES),
-        ListKind::NumberedAddresses => address.is_individual(),
+        ListKind::Dependents => address.is_individual(),
+        ListKind::LostDestinations => address.is_individual(),
         ListKind::Items => address.is_individual(),
     }
 }

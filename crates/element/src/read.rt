@@ -2,6 +2,7 @@
 use crate::Kind;
 use crate::NumberedAddress;
 use crate::PathInfo;
+use crate::RerrFields;
 use crate::RrepFields;
 use crate::RreqFields;
 use counters::HopCount;
@@ -14,16 +15,16 @@ ghost use mathlib.Core.List.{[], _++_, _∷_};
 ghost use Prim.Native.Nat.{_+_, _≤_};
 ghost use lib.ListN.{getD, length};
 ghost use Rattle.octets.specs.LittleEndian.{fieldsAt};
-ghost use Rattle.element.specs.Layout.{countOk, fits, idOf, kindWith, lengthWith};
-ghost use Rattle.element.specs.Octets.{countAs, fieldsAs, fixedFields, kindIn, listPart, pathFrom, readAs, reading, rrepFrom, rreqFrom, wrongLength};
+ghost use Rattle.element.specs.Layout.{countOk, fewest, fits, idOf, kindWith, lengthWith, most};
+ghost use Rattle.element.specs.Octets.{countAs, fieldsAs, fixedFields, kindIn, listPart, pathFrom, readAs, reading, rerrFrom, rrepFrom, rreqFrom, wrongLength};
 ghost use Rattle.element.specs.declared.Kind.{Kind};
 
-// The fixed fields of an element, of an error its flags; or a refusal. What follows them is `list_part`.
+// The fixed fields of an element, or a refusal. What follows them is `list_part`.
 pub enum Reading {
     Announcement(PathInfo),
     Request(RreqFields),
     Reply(RrepFields),
-    Error(u8),
+    Error(RerrFields),
     Refused(u32),
 }
 
@@ -65,15 +66,32 @@ fn length_with(kind: Kind, n: u8) -> u32
     }
 }
 
+fn fewest(kind: Kind) -> u8
+    ensures { λ r. ⌜ r ≡ fewest kind ⌝ }
+{
+    match kind {
+        Kind::Rann => 0,
+        Kind::Rreq => 1,
+        Kind::Rrep => 0,
+        Kind::Rerr => 1,
+    }
+}
+
+fn most(kind: Kind) -> u8
+    ensures { λ r. ⌜ r ≡ most kind ⌝ }
+{
+    match kind {
+        Kind::Rann => 0,
+        Kind::Rreq => 20,
+        Kind::Rrep => 22,
+        Kind::Rerr => 25,
+    }
+}
+
 fn is_count(kind: Kind, n: u8) -> bool
     ensures { λ r. ⌜ r ≡ countOk kind n ⌝ }
 {
-    match kind {
-        Kind::Rann => n == 0,
-        Kind::Rreq => (1 <= n) & (n <= 20),
-        Kind::Rrep => n <= 22,
-        Kind::Rerr => (1 <= n) & (n <= 25),
-    }
+    (fewest(kind) <= n) & (n <= most(kind))
 }
 
 // The octet at a place, or 0 where there is none.
@@ -151,6 +169,15 @@ fn read_rrep(element: &[u8]) -> RrepFields
     RrepFields { path, source }
 }
 
+fn read_rerr(element: &[u8]) -> RerrFields
+    requires { ⌜ 4 ≤ length (now element) ⌝ }
+    ensures { λ r. ⌜ r ≡ rerrFrom (fieldsAs Kind.Rerr (now (element .entry))) ⌝ }
+{
+    RerrFields {
+        flags: octets::read_u8(element, 2),
+    }
+}
+
 fn read_fixed_fields(element: &[u8], kind: Kind) -> Reading
     requires { ⌜ 2 + lengthWith kind 0 ≤ length (now element) ⌝ }
     ensures { λ r. ⌜ r ≡ fixedFields (readAs kind (now (element .entry))) ⌝ }
@@ -159,7 +186,7 @@ fn read_fixed_fields(element: &[u8], kind: Kind) -> Reading
         Kind::Rann => Reading::Announcement(read_path(element, 5)),
         Kind::Rreq => Reading::Request(read_rreq(element)),
         Kind::Rrep => Reading::Reply(read_rrep(element)),
-        Kind::Rerr => Reading::Error(octets::read_u8(element, 2)),
+        Kind::Rerr => Reading::Error(read_rerr(element)),
     }
 }
 

@@ -8,33 +8,35 @@ use native.Mathlib.Omega.{arith}
 use borrow.Author.Tests.{not-true, not-false}
 use Rattle.octets.specs.LittleEndian.{over}
 use Rattle.element.specs.declared.Kind.the-variants.{Rerr}
-use Rattle.element.specs.declared.NumberedAddress.{NumberedAddress}
-use Rattle.element.specs.Element.{rerr}
-use Rattle.element.specs.Entries.{each, numberedAt, numberedIn, numberedOctets}
+use Rattle.element.specs.declared.LostDestination.{LostDestination}
+use Rattle.element.specs.declared.RerrFields.{RerrFields}
+use Rattle.element.specs.Element.{rerr, rerrNumbers}
+use Rattle.element.specs.Layout.{PartOf}
+use Rattle.element.specs.Entries.{each, lostAt, lostIn, lostOctets}
 use Rattle.element.specs.Lists.{allOnes}
 use Rattle.element.specs.Octets.{frameStart}
-use Rattle.element.proofs.ListParts.{addresses-length}
+use Rattle.element.proofs.ListParts.{losses-length}
 use Rattle.element.proofs.Listing.{Listing, listing-more, listing-counted, listing-written, skipped-place, skipped-written}
 use Rattle.element.proofs.Scans.{each-length}
 use Rattle.element.proofs.Sizes.{frame-length}
-use Rattle.element.proofs.Written.{numbered-length, started-last}
+use Rattle.element.proofs.Written.{lost-length, started-last}
 use Rattle.rules.specs.declared.Arrival.{Arrival}
 use Rattle.rules.specs.Errors.{matches}
 use Rattle.rules.specs.Lists.{any, those}
 use Rattle.rules.specs.Onward.{toAll}
 use Rattle.rules.specs.Outcome.{frameOctets}
-use Rattle.rules.proofs.Alls.{those-fewer, those-some}
+use Rattle.rules.proofs.Alls.{those-fewer}
 use Rattle.rules.proofs.Branches.{cond-cases}
 use Rattle.rules.proofs.FrameOctets.{one-frame}
 use Rattle.matches.specs.Report.{matchOctets}
 
 -- those of these destinations that match
-abbrev matched : List ℕ → Arrival → List NumberedAddress → List NumberedAddress
+abbrev matched : List ℕ → Arrival → List LostDestination → List LostDestination
 matched t a named = those (matches t (a .clock) (a .transmitter)) named
 
 -- ---- one destination: written, or not
 
-module _ (t : List ℕ) (a : Arrival) (m : NumberedAddress) where
+module _ (t : List ℕ) (a : Arrival) (m : LostDestination) where
   module _ (b : Bool) (be : b ≡ matches t (a .clock) (a .transmitter) m) (at : ℕ) (s : List ℕ) where
     module _ (e : not b ≡ true) where
       nothing : [] ≡ matchOctets t a m
@@ -48,85 +50,82 @@ module _ (t : List ℕ) (a : Arrival) (m : NumberedAddress) where
       other-written = skipped-written s at (matchOctets t a m) nothing
 
     module _ (e : not b ≡ false) where
-      itself : numberedOctets m ≡ matchOctets t a m
+      itself : lostOctets m ≡ matchOctets t a m
       unfolding matchOctets
       itself = rw (← be, not-false b e)
 
       pub match-place : (r : ℕ) → r ≡ at + 10 → r ≡ at + length (matchOctets t a m)
-      match-place r re = re ∙ ap (λ (k : ℕ). at + k) (sym (numbered-length m) ∙ ap length itself)
+      match-place r re = re ∙ ap (λ (k : ℕ). at + k) (sym (lost-length m) ∙ ap length itself)
 
-      pub match-written : (v : List ℕ) → v ≡ over s at (numberedOctets m) → v ≡ over s at (matchOctets t a m)
+      pub match-written : (v : List ℕ) → v ≡ over s at (lostOctets m) → v ≡ over s at (matchOctets t a m)
       match-written v ve = ve ∙ ap (over s at) itself
 
   match-short : length (matchOctets t a m) ≤ 10
   unfolding matchOctets
   match-short =
-      cond-cases (λ (l : List ℕ). length l ≤ 10) (matches t (a .clock) (a .transmitter) m) (λ _. omega (arith, numbered-length m)) (λ _. omega arith)
+      cond-cases (λ (l : List ℕ). length l ≤ 10) (matches t (a .clock) (a .transmitter) m) (λ _. omega (arith, lost-length m)) (λ _. omega arith)
 
 -- ---- one after another
 
-matches-octets : (t : List ℕ) (a : Arrival) (named : List NumberedAddress)
-    → flatMap (matchOctets t a) named ≡ flatMap numberedOctets (matched t a named)
+matches-octets : (t : List ℕ) (a : Arrival) (named : List LostDestination)
+    → flatMap (matchOctets t a) named ≡ flatMap lostOctets (matched t a named)
 unfolding matchOctets those flatMap
 matches-octets t a [] = refl
 matches-octets t a (m ∷ named) = by (matches t (a .clock) (a .transmitter) m) (matches-octets t a named)
   where
-    by : (b : Bool) → flatMap (matchOctets t a) named ≡ flatMap numberedOctets (matched t a named)
-        → cond b (numberedOctets m) [] ++ flatMap (matchOctets t a) named ≡ flatMap numberedOctets (cond b (m ∷ matched t a named) (matched t a named))
-    by true rest = ap (λ (l : List ℕ). numberedOctets m ++ l) rest
+    by : (b : Bool) → flatMap (matchOctets t a) named ≡ flatMap lostOctets (matched t a named)
+        → cond b (lostOctets m) [] ++ flatMap (matchOctets t a) named ≡ flatMap lostOctets (cond b (m ∷ matched t a named) (matched t a named))
+    by true rest = ap (λ (l : List ℕ). lostOctets m ++ l) rest
     by false rest = rest
 
 abbrev pub Reporting : List ℕ → Arrival → List ℕ → List ℕ → ℕ → ℕ → ℕ → ℕ → List ℕ → Type 0
-Reporting t a part out₀ at n = Listing (matchOctets t a) (numberedAt part) n 10 out₀ at
+Reporting t a part out₀ at n = Listing (matchOctets t a) (lostAt part) n 10 out₀ at
 
 module _ (t : List ℕ) (a : Arrival) (part out₀ : List ℕ) (at n i place : ℕ) (out : List ℕ) (so-far : Reporting t a part out₀ at n i place out) where
   pub reporting-room : i < n → n ≡ length part / 10 → at + length part ≤ length out₀ → length out ≡ length out₀ → place + 10 ≤ length out
   reporting-room l ne room same-length = omega (arith, so-far .few)
 
-  pub reporting-more : i < n → (m : NumberedAddress) → m ≡ numberedAt part i → (place′ : ℕ) → place′ ≡ place + length (matchOctets t a m)
+  pub reporting-more : i < n → (m : LostDestination) → m ≡ lostAt part i → (place′ : ℕ) → place′ ≡ place + length (matchOctets t a m)
       → (out′ : List ℕ) → out′ ≡ over out place (matchOctets t a m) → Reporting t a part out₀ at n (i + 1) place′ out′
-  reporting-more l = listing-more (matchOctets t a) (numberedAt part) n 10 out₀ at i place out so-far l (match-short t a (numberedAt part i))
+  reporting-more l = listing-more (matchOctets t a) (lostAt part) n 10 out₀ at i place out so-far l (match-short t a (lostAt part i))
 
   module _ (l : n ≤ i) where
-    pub all-counted : place ≡ at + length (flatMap numberedOctets (matched t a (each (numberedAt part) 0 n)))
+    pub all-counted : place ≡ at + length (flatMap lostOctets (matched t a (each (lostAt part) 0 n)))
     all-counted =
-        listing-counted (matchOctets t a) (numberedAt part) n 10 out₀ at i place out so-far l
-        ∙ ap (λ (p : List ℕ). at + length p) (matches-octets t a (each (numberedAt part) 0 n))
+        listing-counted (matchOctets t a) (lostAt part) n 10 out₀ at i place out so-far l
+        ∙ ap (λ (p : List ℕ). at + length p) (matches-octets t a (each (lostAt part) 0 n))
 
-    pub all-written : out ≡ over out₀ at (flatMap numberedOctets (matched t a (each (numberedAt part) 0 n)))
+    pub all-written : out ≡ over out₀ at (flatMap lostOctets (matched t a (each (lostAt part) 0 n)))
     all-written =
-        listing-written (matchOctets t a) (numberedAt part) n 10 out₀ at i place out so-far l
-        ∙ ap (over out₀ at) (matches-octets t a (each (numberedAt part) 0 n))
+        listing-written (matchOctets t a) (lostAt part) n 10 out₀ at i place out so-far l
+        ∙ ap (over out₀ at) (matches-octets t a (each (lostAt part) 0 n))
 
--- ---- the RERR, by the place after the matches
+-- ---- the RERR from place at on, by the place after the matches
 
-module _ (t : List ℕ) (a : Arrival) (part : List ℕ) (place : ℕ) (pe : place ≡ 10 + length (flatMap numberedOctets (matched t a (numberedIn part)))) where
-  many : place ≡ 10 + 10 * length (matched t a (numberedIn part))
-  many = pe ∙ ap (λ (k : ℕ). 10 + k) (addresses-length (matched t a (numberedIn part)))
+module _ (t : List ℕ) (a : Arrival) (part : List ℕ) (at end : ℕ) (pe : end ≡ at + 10 + length (flatMap lostOctets (matched t a (lostIn part)))) where
+  many : end ≡ at + 10 + 10 * length (matched t a (lostIn part))
+  many = pe ∙ ap (λ (k : ℕ). at + 10 + k) (losses-length (matched t a (lostIn part)))
 
-  module _ (n : ℕ) (ne : n ≡ (place - 10) / 10) where
-    counted : n ≡ length (matched t a (numberedIn part))
+  module _ (n : ℕ) (ne : n ≡ (end - (at + 10)) / 10) where
+    counted : n ≡ length (matched t a (lostIn part))
     counted = omega (arith, many)
 
-    pub error-some : any (matches t (a .clock) (a .transmitter)) (numberedIn part) ≡ true → 1 ≤ n
-    error-some e = omega (arith, counted, those-some (matches t (a .clock) (a .transmitter)) (numberedIn part) e)
-
-    pub error-few : length part ≤ 250 → n ≤ 25
+    pub error-few : PartOf Rerr part → n ≤ 25
     error-few l =
-        omega (arith, counted, those-fewer (matches t (a .clock) (a .transmitter)) (numberedIn part), each-length (numberedAt part) 0 (length part / 10))
+        omega (arith, counted, l .short, those-fewer (matches t (a .clock) (a .transmitter)) (lostIn part), each-length (lostAt part) 0 (length part / 10))
 
-    pub error-written : (flags : ℕ) (output w v : List ℕ) → w ≡ over output 10 (flatMap numberedOctets (matched t a (numberedIn part)))
-        → v ≡ over w 0 (frameStart allOnes Rerr n (flags ∷ []))
-        → v ≡ over output 0 (frameOctets (toAll (rerr flags (matched t a (numberedIn part)))))
-    error-written flags output w v we ve =
-        started-last allOnes output w v 0 10 (rerr flags (matched t a (numberedIn part))) n counted refl we ve
-        ∙ ap (over output 0) (sym (one-frame (record { receiver = allOnes; element = rerr flags (matched t a (numberedIn part)) })))
+    pub error-written : (f : RerrFields) (output w v : List ℕ) → w ≡ over output (at + 10) (flatMap lostOctets (matched t a (lostIn part)))
+        → v ≡ over w at (frameStart allOnes Rerr n (rerrNumbers f))
+        → v ≡ over output at (frameOctets (toAll (rerr f (matched t a (lostIn part)))))
+    error-written f output w v we ve =
+        started-last allOnes output w v at (at + 10) (rerr f (matched t a (lostIn part))) n counted refl we ve
+        ∙ ap (over output at) (sym (one-frame (record { receiver = allOnes; element = rerr f (matched t a (lostIn part)) })))
 
-  pub error-short : length part ≤ 250 → place ≤ 260
+  pub error-short : PartOf Rerr part → end - at ≤ 260
   error-short l =
-      omega (arith, many, those-fewer (matches t (a .clock) (a .transmitter)) (numberedIn part), each-length (numberedAt part) 0 (length part / 10))
+      omega (arith, many, l .short, those-fewer (matches t (a .clock) (a .transmitter)) (lostIn part), each-length (lostAt part) 0 (length part / 10))
 
-  pub error-place : (flags : ℕ) → place ≡ length (frameOctets (toAll (rerr flags (matched t a (numberedIn part)))))
-  error-place flags =
-      let error = rerr flags (matched t a (numberedIn part)) in
+  pub error-long : (f : RerrFields) → end - at ≡ length (frameOctets (toAll (rerr f (matched t a (lostIn part)))))
+  error-long f =
+      let error = rerr f (matched t a (lostIn part)) in
       omega (arith, many, frame-length allOnes error, ap length (one-frame (record { receiver = allOnes; element = error })))

@@ -11,8 +11,8 @@ use Rattle.table.specs.declared.search.Found.the-variants.{At, Nothing}
 use Rattle.table.specs.Layout.{rowAt}
 use Rattle.table.specs.Table.{findRow}
 use Rattle.table.proofs.Cases.{row-at, row-none}
-use Rattle.element.specs.declared.NumberedAddress.{NumberedAddress}
-use Rattle.element.specs.Entries.{each, numberedAt}
+use Rattle.element.specs.declared.LostDestination.{LostDestination}
+use Rattle.element.specs.Entries.{each, lostAt}
 use Rattle.table.specs.Row.{isThrough}
 use Rattle.rules.specs.Errors.{isLostBy, matches}
 use Rattle.rules.specs.Lists.{any}
@@ -22,7 +22,7 @@ pub lost-is : (c : ℕ) (hop : Address) (r : Row) (b : Bool) → b ≡ isThrough
 unfolding isLostBy
 lost-is c hop r b e = ap (λ (x : Bool). x && eqb (r .known) 1) e
 
-module _ (t : List ℕ) (c : ℕ) (hop : Address) (m : NumberedAddress) (f : Found) (fe : f ≡ findRow t (m .address)) where
+module _ (t : List ℕ) (c : ℕ) (hop : Address) (m : LostDestination) (f : Found) (fe : f ≡ findRow t (m .address)) where
   pub match-absent : f ≡ Nothing → false ≡ matches t c hop m
   unfolding matches
   match-absent e = rw (row-none t (m .address) f fe e)
@@ -33,13 +33,13 @@ module _ (t : List ℕ) (c : ℕ) (hop : Address) (m : NumberedAddress) (f : Fou
 
 -- one after another: g says whether some match
 module _ (t : List ℕ) (c : ℕ) (hop : Address) (part : List ℕ) (n i : ℕ) (g : Bool) where
-  module _ (l : i < n) (m : NumberedAddress) (me : m ≡ numberedAt part i) (b : Bool) (be : b ≡ matches t c hop m) where
-    pub this-matches : b ≡ true → any (matches t c hop) (each (numberedAt part) i (n - i)) ≡ g → false ≡ not g
-    this-matches e h = ap not (any-found (matches t c hop) (numberedAt part) n i g l m me (sym be ∙ e) h)
+  module _ (l : i < n) (m : LostDestination) (me : m ≡ lostAt part i) (b : Bool) (be : b ≡ matches t c hop m) where
+    pub this-matches : b ≡ true → any (matches t c hop) (each (lostAt part) i (n - i)) ≡ g → false ≡ not g
+    this-matches e h = ap not (any-found (matches t c hop) (lostAt part) n i g l m me (sym be ∙ e) h)
 
-    pub this-does-not : b ≡ false → any (matches t c hop) (each (numberedAt part) i (n - i)) ≡ g
-        → any (matches t c hop) (each (numberedAt part) (i + 1) (n - (i + 1))) ≡ g
-    this-does-not e = any-more (matches t c hop) (numberedAt part) n i g l m me (sym be ∙ e)
+    pub this-does-not : b ≡ false → any (matches t c hop) (each (lostAt part) i (n - i)) ≡ g
+        → any (matches t c hop) (each (lostAt part) (i + 1) (n - (i + 1))) ≡ g
+    this-does-not e = any-more (matches t c hop) (lostAt part) n i g l m me (sym be ∙ e)
 
-  pub none-matches : n ≤ i → any (matches t c hop) (each (numberedAt part) i (n - i)) ≡ g → true ≡ not g
-  none-matches l h = ap not (any-ended (matches t c hop) (numberedAt part) n i g l h)
+  pub none-matches : n ≤ i → any (matches t c hop) (each (lostAt part) i (n - i)) ≡ g → true ≡ not g
+  none-matches l h = ap not (any-ended (matches t c hop) (lostAt part) n i g l h)

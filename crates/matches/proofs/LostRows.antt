@@ -15,8 +15,8 @@ use Rattle.table.specs.Row.{invalidated, raised}
 use Rattle.table.specs.Layout.{rowAt, putRow}
 use Rattle.table.specs.Table.{changeAt}
 use Rattle.table.proofs.Changes.{row-stays, row-changed}
-use Rattle.element.specs.declared.NumberedAddress.{NumberedAddress}
-use Rattle.element.specs.Entries.{each, numberedAt}
+use Rattle.element.specs.declared.LostDestination.{LostDestination}
+use Rattle.element.specs.Entries.{each, lostAt}
 use Rattle.element.proofs.Scans.{each-next, each-end}
 use Rattle.rules.specs.Errors.{isLostBy, numberBeside, isMatch, erredWith, erred}
 use Rattle.rules.specs.Lists.{isThere}
@@ -28,16 +28,16 @@ use Rattle.matches.specs.Rows.{numberIn}
 
 module _ (part : List ℕ) (d : Address) (n : ℕ) where
   abbrev besideFrom : ℕ → Option SequenceNumber
-  besideFrom i = numberBeside d (each (numberedAt part) i (n - i))
+  besideFrom i = numberBeside d (each (lostAt part) i (n - i))
 
-  pub beside-start : numberBeside d (each (numberedAt part) 0 (n - 0)) ≡ numberBeside d (each (numberedAt part) 0 n)
+  pub beside-start : numberBeside d (each (lostAt part) 0 (n - 0)) ≡ numberBeside d (each (lostAt part) 0 n)
   beside-start = rw (sub-zero n)
 
   module _ (i : ℕ) (g : Option SequenceNumber) where
-    module _ (l : i < n) (m : NumberedAddress) (me : m ≡ numberedAt part i) where
+    module _ (l : i < n) (m : LostDestination) (me : m ≡ lostAt part i) where
       beside-next : cond (same (m .address) d) (some (m .number)) (besideFrom (i + 1)) ≡ besideFrom i
       unfolding numberBeside
-      beside-next = rw (me, each-next (numberedAt part) i n l)
+      beside-next = rw (me, each-next (lostAt part) i n l)
 
       pub beside-found : m .address .0 ≡ d .0 → besideFrom i ≡ g → some (m .number) ≡ g
       beside-found e h = (rw (eq-eqb (m .address .0) (d .0) e) at beside-next) ∙ h
@@ -47,7 +47,7 @@ module _ (part : List ℕ) (d : Address) (n : ℕ) where
 
     pub beside-ended : n ≤ i → besideFrom i ≡ g → none ≡ g
     unfolding numberBeside
-    beside-ended l h = ap (numberBeside d) (sym (each-end (numberedAt part) i n l)) ∙ h
+    beside-ended l h = ap (numberBeside d) (sym (each-end (lostAt part) i n l)) ∙ h
 
 -- ---- a row that is lost
 
@@ -62,7 +62,7 @@ module _ (number : SequenceNumber) (r lost : Row) (le : lost ≡ invalidated r) 
 
 -- ---- a row of the table
 
-module _ (t : List ℕ) (i c : ℕ) (hop : Address) (named : List NumberedAddress) (r : Row) (re : r ≡ rowAt t i) (b : Bool) (be : b ≡ isLostBy c hop r) where
+module _ (t : List ℕ) (i c : ℕ) (hop : Address) (named : List LostDestination) (r : Row) (re : r ≡ rowAt t i) (b : Bool) (be : b ≡ isLostBy c hop r) where
   module _ (stays : not b ≡ true) where
     unmatched : isMatch c hop named r ≡ false
     unfolding isMatch

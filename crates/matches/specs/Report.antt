@@ -3,10 +3,10 @@
 use Prim.Native.Nat.{ℕ}
 use mathlib.Core.Bool.{cond}
 use mathlib.Core.List.{List, []}
-use Rattle.element.specs.declared.NumberedAddress.{NumberedAddress}
-use Rattle.element.specs.Entries.{numberedOctets}
+use Rattle.element.specs.declared.LostDestination.{LostDestination}
+use Rattle.element.specs.Entries.{lostOctets}
 use Rattle.rules.specs.declared.Arrival.{Arrival}
 use Rattle.rules.specs.Errors.{matches}
 
-unfoldable pub matchOctets : List ℕ → Arrival → NumberedAddress → List ℕ
-matchOctets t a m = cond (matches t (a .clock) (a .transmitter) m) (numberedOctets m) []
+unfoldable pub matchOctets : List ℕ → Arrival → LostDestination → List ℕ
+matchOctets t a m = cond (matches t (a .clock) (a .transmitter) m) (lostOctets m) []

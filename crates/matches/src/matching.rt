@@ -1,5 +1,5 @@
 // The matches of a RERR: destinations that this point reaches through its transmitter.
-use element::NumberedAddress;
+use element::LostDestination;
 use element::list;
 use rules::Arrival;
 use table::row;
@@ -8,7 +8,7 @@ use table::search;
 use table::search::Found;
 ghost use mathlib.Core.Path.{_≡_};
 ghost use mathlib.Core.Bool.{not};
-ghost use Rattle.element.specs.Entries.{numberedIn};
+ghost use Rattle.element.specs.Entries.{lostIn};
 ghost use Rattle.rules.specs.Errors.{isLostBy, matches};
 ghost use Rattle.rules.specs.Lists.{any};
 ghost use Rattle.table.specs.Layout.{Sized};
@@ -20,7 +20,7 @@ pub fn is_lost_by(a: Arrival, r: Row) -> bool
     r.is_through(a.clock, a.transmitter) & (r.known == 1)
 }
 
-pub fn is_match(table: &[u8], a: Arrival, m: NumberedAddress) -> bool
+pub fn is_match(table: &[u8], a: Arrival, m: LostDestination) -> bool
     requires { ⌜ Sized (now table) ⌝ }
     ensures { λ b. ⌜ b ≡ matches (now (table .entry)) (a .clock) (a .transmitter) m ⌝ }
 {
@@ -33,12 +33,12 @@ pub fn is_match(table: &[u8], a: Arrival, m: NumberedAddress) -> bool
 // Refusal 26.
 pub fn matches_nothing(table: &[u8], a: Arrival, part: &[u8]) -> bool
     requires { ⌜ Sized (now table) ⌝ }
-    ensures { λ b. ⌜ b ≡ not (any (matches (now (table .entry)) (a .clock) (a .transmitter)) (numberedIn (now (part .entry)))) ⌝ }
+    ensures { λ b. ⌜ b ≡ not (any (matches (now (table .entry)) (a .clock) (a .transmitter)) (lostIn (now (part .entry)))) ⌝ }
 {
-    let n = part.len() / 10;
+    let n = part.len() / list::LOST;
     let mut i = 0;
     while i < n {
-        if is_match(table, a, list::numbered_at(part, i)) {
+        if is_match(table, a, list::lost_at(part, i)) {
             return false;
         }
         i += 1;

@@ -13,7 +13,7 @@ ghost use Prim.Native.Nat.{_+_, _≤_};
 ghost use lib.ListN.{length};
 ghost use Rattle.table.specs.Layout.{place, rowOctets, Sized};
 ghost use Rattle.table.specs.Table.{changeAt, changeBelow, changeWhere};
-ghost use Rattle.element.specs.Entries.{numberedIn};
+ghost use Rattle.element.specs.Entries.{lostIn};
 ghost use Rattle.rules.specs.Errors.{erred, erredWith, isMatch, numberBeside};
 ghost use Rattle.matches.specs.Rows.{numberIn};
 
@@ -24,12 +24,12 @@ pub enum Beside {
 }
 
 fn number_beside(part: &[u8], d: Address) -> Beside
-    ensures { λ r. ⌜ numberIn r ≡ numberBeside d (numberedIn (now (part .entry))) ⌝ }
+    ensures { λ r. ⌜ numberIn r ≡ numberBeside d (lostIn (now (part .entry))) ⌝ }
 {
-    let n = part.len() / 10;
+    let n = part.len() / list::LOST;
     let mut i = 0;
     while i < n {
-        let m = list::numbered_at(part, i);
+        let m = list::lost_at(part, i);
         if m.address.0 == d.0 {
             let number = m.number;
             return Beside::Number(number);
@@ -54,7 +54,7 @@ fn erred_with(number: SequenceNumber, r: Row) -> Row
 // Row i, if it is that of a match.
 fn lose_row(table: &mut [u8], i: usize, a: Arrival, part: &[u8])
     requires { ⌜ place i + rowOctets ≤ length (now table) ⌝ }
-    ensures { λ _. ⌜ now (table .exit) ≡ changeAt (isMatch (a .clock) (a .transmitter) (numberedIn (now (part .entry)))) (erred (numberedIn (now (part .entry)))) i (now (table .entry)) ⌝ }
+    ensures { λ _. ⌜ now (table .exit) ≡ changeAt (isMatch (a .clock) (a .transmitter) (lostIn (now (part .entry)))) (erred (lostIn (now (part .entry)))) i (now (table .entry)) ⌝ }
 {
     let r = row::read_row(table, i);
     if !matching::is_lost_by(a, r) {
@@ -69,7 +69,7 @@ fn lose_row(table: &mut [u8], i: usize, a: Arrival, part: &[u8])
 // Those of the n first rows.
 fn lose_rows(table: &mut [u8], n: usize, a: Arrival, part: &[u8])
     requires { ⌜ place n ≤ length (now table) ⌝ }
-    ensures { λ _. ⌜ now (table .exit) ≡ changeBelow (isMatch (a .clock) (a .transmitter) (numberedIn (now (part .entry)))) (erred (numberedIn (now (part .entry)))) n (now (table .entry)) ⌝ }
+    ensures { λ _. ⌜ now (table .exit) ≡ changeBelow (isMatch (a .clock) (a .transmitter) (lostIn (now (part .entry)))) (erred (lostIn (now (part .entry)))) n (now (table .entry)) ⌝ }
 {
     let mut i = 0;
     while i < n {
@@ -81,7 +81,7 @@ fn lose_rows(table: &mut [u8], n: usize, a: Arrival, part: &[u8])
 // Invalidates the row of each match.
 pub fn lose_matches(table: &mut [u8], a: Arrival, part: &[u8])
     requires { ⌜ Sized (now table) ⌝ }
-    ensures { λ _. ⌜ now (table .exit) ≡ changeWhere (isMatch (a .clock) (a .transmitter) (numberedIn (now (part .entry)))) (erred (numberedIn (now (part .entry)))) (now (table .entry)) ⌝ }
+    ensures { λ _. ⌜ now (table .exit) ≡ changeWhere (isMatch (a .clock) (a .transmitter) (lostIn (now (part .entry)))) (erred (lostIn (now (part .entry)))) (now (table .entry)) ⌝ }
 {
     let n = search::rows_of(table);
     lose_rows(table, n, a, part);

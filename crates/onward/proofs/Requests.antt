@@ -19,6 +19,7 @@ use Rattle.element.specs.declared.Target.{Target}
 use Rattle.element.specs.Element.{Element, rreq, rreqNumbers}
 use Rattle.element.specs.Entries.{each, All, targetAt, targetOctets}
 use Rattle.element.specs.Lists.{allOnes}
+use Rattle.element.specs.Layout.{PartOf}
 use Rattle.element.specs.Octets.{frameStart}
 use Rattle.element.proofs.Written.{started-last}
 use Rattle.rules.specs.declared.Arrival.{Arrival}
@@ -76,14 +77,11 @@ module _ (t : List ℕ) (c : ℕ) (part : List ℕ) (to : Address) (f : RreqFiel
         by [] e = absurd (some-kept (omega arith))
         by (q ∷ l) e = omega arith
 
-    pub count-some : 1 ≤ (end - (at + 34)) / 11
-    count-some = omega (arith, ee, kept-some)
+    pub count-few : PartOf Rreq part → (end - (at + 34)) / 11 ≤ 20
+    count-few l = omega (arith, ee, l .short, kept-few t c part)
 
-    pub count-few : length part ≤ 220 → (end - (at + 34)) / 11 ≤ 20
-    count-few l = omega (arith, ee, kept-few t c part)
-
-    pub kept-room : length part ≤ 220 → end - at ≤ 1560
-    kept-room l = omega (arith, ee, kept-few t c part)
+    pub kept-room : PartOf Rreq part → end - at ≤ 1560
+    kept-room l = omega (arith, ee, l .short, kept-few t c part)
 
     sent-one : sentWith to f (keptAmong t c part) ≡ record { receiver = to; element = rreq f (keptAmong t c part) } ∷ []
     unfolding sentWith

@@ -11,6 +11,8 @@ ghost use mathlib.Core.List.{flatMap};
 ghost use Prim.Native.Nat.{_+_, _*_, _≤_};
 ghost use lib.ListN.{length};
 ghost use Rattle.octets.specs.LittleEndian.{over};
+ghost use Rattle.element.specs.Layout.{PartOf};
+ghost use Rattle.element.specs.declared.Kind.{Kind};
 ghost use Rattle.element.specs.Entries.{targetOctets};
 ghost use Rattle.onward.specs.Kept.{keptAmong, keptIn, keptOctets, keptOf};
 ghost use Rattle.table.specs.Layout.{Sized};
@@ -61,7 +63,7 @@ pub fn write_kept(output: &mut [u8], at: usize, table: &[u8], clock: u64, part: 
     ensures { λ r. ⌜ r ≡ at + 11 * length (keptAmong (now (table .entry)) clock (now (part .entry))) ⌝ }
     ensures { λ _. ⌜ now (output .exit) ≡ over (now (output .entry)) at (flatMap targetOctets (keptAmong (now (table .entry)) clock (now (part .entry)))) ⌝ }
 {
-    let n = part.len() / 11;
+    let n = part.len() / list::TARGET;
     let mut place = at;
     let mut i = 0;
     while i < n {

@@ -8,9 +8,11 @@ use table::row;
 use table::search;
 use table::search::NextHop;
 ghost use mathlib.Core.Path.{_≡_};
-ghost use Prim.Native.Nat.{_+_, _%_, _<_, _≤_};
+ghost use Prim.Native.Nat.{_+_, _<_, _≤_};
 ghost use lib.ListN.{length};
 ghost use Rattle.octets.specs.LittleEndian.{over};
+ghost use Rattle.element.specs.Layout.{PartOf};
+ghost use Rattle.element.specs.declared.Kind.{Kind};
 ghost use Rattle.element.specs.Entries.{numberedIn};
 ghost use Rattle.element.specs.Element.{rrep};
 ghost use Rattle.rules.specs.Onward.{rrepOnward, sentTo};
@@ -44,8 +46,7 @@ fn fields_onward(a: Arrival, f: RrepFields) -> RrepFields
 
 // Writes a RREP from place at on, if there is a receiver.
 fn send_to(output: &mut [u8], at: usize, receiver: NextHop, f: RrepFields, part: &[u8]) -> Emitted
-    requires { ⌜ length (now part) ≤ 220 ⌝ }
-    requires { ⌜ length (now part) % 10 ≡ 0 ⌝ }
+    requires { ⌜ PartOf Kind.Rrep (now part) ⌝ }
     requires { ⌜ at + 260 ≤ length (now output) ⌝ }
     ensures { λ r. ⌜ r ≡ emitted (sentTo (rrep f (numberedIn (now (part .entry)))) (hopIn receiver)) ⌝ }
     ensures { λ _. ⌜ now (output .exit) ≡ over (now (output .entry)) at (frameOctets (sentTo (rrep f (numberedIn (now (part .entry)))) (hopIn receiver))) ⌝ }
@@ -70,8 +71,7 @@ pub fn send_on(
     requires { ⌜ f .path .metric .0 + a .link .0 ≤ 4294967294 ⌝ }
     requires { ⌜ f .path .hops .0 < 255 ⌝ }
     requires { ⌜ 1 ≤ f .path .ttl ⌝ }
-    requires { ⌜ length (now part) ≤ 220 ⌝ }
-    requires { ⌜ length (now part) % 10 ≡ 0 ⌝ }
+    requires { ⌜ PartOf Kind.Rrep (now part) ⌝ }
     requires { ⌜ at + 260 ≤ length (now output) ⌝ }
     ensures { λ r. ⌜ r ≡ emitted (rrepOnward (now (table .entry)) a f (numberedIn (now (part .entry)))) ⌝ }
     ensures { λ _. ⌜ now (output .exit) ≡ over (now (output .entry)) at (frameOctets (rrepOnward (now (table .entry)) a f (numberedIn (now (part .entry))))) ⌝ }

@@ -15,6 +15,8 @@ ghost use mathlib.Core.Bool.{false};
 ghost use Prim.Native.Nat.{_+_, _<_, _≤_};
 ghost use lib.ListN.{length};
 ghost use Rattle.octets.specs.LittleEndian.{over};
+ghost use Rattle.element.specs.Layout.{PartOf};
+ghost use Rattle.element.specs.declared.Kind.{Kind};
 ghost use Rattle.rules.specs.Onward.{rreqOnward};
 ghost use Rattle.rules.specs.Outcome.{frameOctets};
 ghost use Rattle.calls.specs.Answers.{emitted};
@@ -26,7 +28,7 @@ ghost use Rattle.table.specs.Table.{hopIn};
 // All ones, or if unicast the active next hop of its destination.
 fn receiver_of(table: &[u8], clock: u64, p: PathInfo, part: &[u8]) -> NextHop
     requires { ⌜ Sized (now table) ⌝ }
-    requires { ⌜ 11 ≤ length (now part) ⌝ }
+    requires { ⌜ PartOf Kind.Rreq (now part) ⌝ }
     ensures { λ r. ⌜ hopIn r ≡ requestReceiver (now (table .entry)) clock p (now (part .entry)) ⌝ }
 {
     if !flags::is_unicast(p) {
@@ -58,17 +60,17 @@ fn send_kept(
     part: &[u8],
 ) -> Emitted
     requires { ⌜ Sized (now table) ⌝ }
-    requires { ⌜ length (now part) ≤ 220 ⌝ }
+    requires { ⌜ PartOf Kind.Rreq (now part) ⌝ }
     requires { ⌜ at + 254 ≤ length (now output) ⌝ }
     ensures { λ r. ⌜ r ≡ emitted (sentWith to f (keptAmong (now (table .entry)) clock (now (part .entry)))) ⌝ }
     ensures { λ _. ⌜ now (output .exit) ≡ over (now (output .entry)) at (frameOctets (sentWith to f (keptAmong (now (table .entry)) clock (now (part .entry))))) ⌝ }
 {
-    let list = at + 34;
-    let end = kept::write_kept(output, list, table, clock, part);
-    if end == list {
+    let start = at + write::RREQ_START;
+    let end = kept::write_kept(output, start, table, clock, part);
+    if end == start {
         return Emitted::nothing();
     }
-    write::start_rreq(output, at, to, f, (end - list) / 11);
+    write::start_rreq(output, at, to, f, (end - start) / list::TARGET);
     Emitted::one_frame(end - at)
 }
 
@@ -83,8 +85,7 @@ fn send(
 ) -> Emitted
     requires { ⌜ Sized (now table) ⌝ }
     requires { ⌜ at + 254 ≤ length (now output) ⌝ }
-    requires { ⌜ 11 ≤ length (now part) ⌝ }
-    requires { ⌜ length (now part) ≤ 220 ⌝ }
+    requires { ⌜ PartOf Kind.Rreq (now part) ⌝ }
     ensures { λ r. ⌜ r ≡ emitted (requestSent (now (table .entry)) clock f (now (part .entry))) ⌝ }
     ensures { λ _. ⌜ now (output .exit) ≡ over (now (output .entry)) at (frameOctets (requestSent (now (table .entry)) clock f (now (part .entry)))) ⌝ }
 {
@@ -105,8 +106,7 @@ pub fn send_on(
 ) -> Emitted
     requires { ⌜ Sized (now table) ⌝ }
     requires { ⌜ at + 254 ≤ length (now output) ⌝ }
-    requires { ⌜ 11 ≤ length (now part) ⌝ }
-    requires { ⌜ length (now part) ≤ 220 ⌝ }
+    requires { ⌜ PartOf Kind.Rreq (now part) ⌝ }
     requires { ⌜ unicastToSeveral (f .path) (now part) ≡ false ⌝ }
     requires { ⌜ f .path .metric .0 + a .link .0 ≤ 4294967294 ⌝ }
     requires { ⌜ f .path .hops .0 < 255 ⌝ }

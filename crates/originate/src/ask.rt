@@ -42,7 +42,7 @@ fn is_item_list(items: &[u8]) -> bool
 fn has_high_flags(items: &[u8]) -> bool
     ensures { λ r. ⌜ r ≡ any hasHighFlags (itemsIn (now (items .entry))) ⌝ }
 {
-    let n = items.len() / 7;
+    let n = items.len() / list::ITEM;
     let mut i = 0;
     while i < n {
         if 3 < list::item_at(items, i).flags {
@@ -128,7 +128,7 @@ fn write_targets(output: &mut [u8], at: usize, table: &[u8], items: &[u8]) -> us
     ensures { λ r. ⌜ r ≡ at + 11 * (length (now (items .entry)) / 7) ⌝ }
     ensures { λ _. ⌜ now (output .exit) ≡ over (now (output .entry)) at (flatMap targetOctets (map (askedFor (now (table .entry))) (itemsIn (now (items .entry))))) ⌝ }
 {
-    let n = items.len() / 7;
+    let n = items.len() / list::ITEM;
     let mut place = at;
     let mut i = 0;
     while i < n {
@@ -147,7 +147,7 @@ fn write_request(output: &mut [u8], head: Head, lifetime: u32, table: &[u8], ite
     ensures { λ r. ⌜ r ≡ 34 + 11 * (length (now (items .entry)) / 7) ⌝ }
     ensures { λ _. ⌜ now (output .exit) ≡ over (now (output .entry)) 0 (writeFrame allOnes (rreq (ownRequest head 0 lifetime) (map (askedFor (now (table .entry))) (itemsIn (now (items .entry)))))) ⌝ }
 {
-    let list = common::start_request(output, head, 0, lifetime, items.len() / 7);
+    let list = common::start_request(output, head, 0, lifetime, items.len() / list::ITEM);
     write_targets(output, list, table, items)
 }
 

@@ -10,10 +10,11 @@ use Rattle.element.specs.declared.Kind.the-variants.{Rann, Rreq, Rrep, Rerr}
 use Rattle.element.specs.declared.PathInfo.{PathInfo}
 use Rattle.element.specs.declared.RreqFields.{RreqFields}
 use Rattle.element.specs.declared.RrepFields.{RrepFields}
+use Rattle.element.specs.declared.RerrFields.{RerrFields}
 use Rattle.element.specs.declared.read.Reading.{Reading}
 use Rattle.element.specs.declared.read.Reading.the-variants.{Announcement, Request, Reply, Error, Refused}
-use Rattle.element.specs.Element.{Element, rann, rreq, rrep, rerr, kindOf, countOf, fieldNumbers, numberedNumbers, rannNumbers, rrepNumbers, rreqNumbers, targetNumbers}
-use Rattle.element.specs.Entries.{numberedAt, numberedIn, targetAt, targetsIn}
+use Rattle.element.specs.Element.{Element, rann, rreq, rrep, rerr, kindOf, countOf, fieldNumbers, lostNumbers, numberedNumbers, rannNumbers, rerrNumbers, rrepNumbers, rreqNumbers, targetNumbers}
+use Rattle.element.specs.Entries.{lostAt, lostIn, numberedAt, numberedIn, targetAt, targetsIn}
 use Rattle.element.specs.Octets.{fixedNumbers, reading, listPart}
 use Rattle.element.proofs.Scans.{each-length}
 use Rattle.element.proofs.Readings.{announcement-element, request-element, reply-element, error-element}
@@ -47,12 +48,12 @@ module _ (s t ys : List ℕ) (te : t ≡ over s 0 ys) where
         numbers-put (rrep f (numberedIn part)) s t u ys (ye ∙ ap (λ (m : ℕ). fixedNumbers Rrep m (rrepNumbers f)) many) te
         (ue ∙ ap (λ (k : ℕ). over t k (flatMap numberedNumbers (numberedIn part))) (sym (ap length ye)))
 
-    pub rerr-put : (flags : ℕ) → n ≡ length part / 10 → ys ≡ fixedNumbers Rerr n (flags ∷ [])
-        → u ≡ over t 4 (flatMap numberedNumbers (numberedIn part)) → u ≡ over s 0 (elementNumbers (rerr flags (numberedIn part)))
-    rerr-put flags ne ye ue =
-        let many = ne ∙ sym (each-length (numberedAt part) 0 (length part / 10)) in
-        numbers-put (rerr flags (numberedIn part)) s t u ys (ye ∙ ap (λ (m : ℕ). fixedNumbers Rerr m (flags ∷ [])) many) te
-        (ue ∙ ap (λ (k : ℕ). over t k (flatMap numberedNumbers (numberedIn part))) (sym (ap length ye)))
+    pub rerr-put : (f : RerrFields) → n ≡ length part / 10 → ys ≡ fixedNumbers Rerr n (rerrNumbers f)
+        → u ≡ over t 4 (flatMap lostNumbers (lostIn part)) → u ≡ over s 0 (elementNumbers (rerr f (lostIn part)))
+    rerr-put f ne ye ue =
+        let many = ne ∙ sym (each-length (lostAt part) 0 (length part / 10)) in
+        numbers-put (rerr f (lostIn part)) s t u ys (ye ∙ ap (λ (m : ℕ). fixedNumbers Rerr m (rerrNumbers f)) many) te
+        (ue ∙ ap (λ (k : ℕ). over t k (flatMap lostNumbers (lostIn part))) (sym (ap length ye)))
 
 -- ---- by the reader's answer
 
@@ -77,7 +78,7 @@ module _ (s numbers : List ℕ) (r : Reading) (re : r ≡ reading s) where
       unfolding readNumbers
       read-rrep f e ue = rw (ae, ue, ← re, e, reply-element s r re f e part pe) refl
 
-      pub read-rerr : (flags : ℕ) → r ≡ Error flags → u ≡ over numbers 0 (elementNumbers (rerr flags (numberedIn part)))
+      pub read-rerr : (f : RerrFields) → r ≡ Error f → u ≡ over numbers 0 (elementNumbers (rerr f (lostIn part)))
           → record { answer = a; memory = u } ≡ readNumbers s numbers
       unfolding readNumbers
-      read-rerr flags e ue = rw (ae, ue, ← re, e, error-element s r re flags e part pe) refl
+      read-rerr f e ue = rw (ae, ue, ← re, e, error-element s r re f e part pe) refl

@@ -9,15 +9,18 @@ use native.Mathlib.Omega.{arith}
 use borrow.Author.Tests.{leb-true, leb-false, le-leb, lt-leb, not-true, not-false}
 use Rattle.octets.specs.LittleEndian.{over}
 use Rattle.table.specs.declared.address.Address.{Address}
+use Rattle.element.specs.declared.Kind.the-variants.{Rreq, Rrep, Rerr}
 use Rattle.element.specs.declared.list.ListKind.{ListKind}
-use Rattle.element.specs.declared.list.ListKind.the-variants.{Targets, NumberedAddresses}
+use Rattle.element.specs.declared.list.ListKind.the-variants.{Targets, Dependents, LostDestinations}
 use Rattle.element.specs.declared.PathInfo.{PathInfo}
 use Rattle.element.specs.declared.RreqFields.{RreqFields}
 use Rattle.element.specs.declared.RrepFields.{RrepFields}
+use Rattle.element.specs.declared.RerrFields.{RerrFields}
 use Rattle.element.specs.declared.read.Reading.{Reading}
 use Rattle.element.specs.declared.read.Reading.the-variants.{Announcement, Request, Reply, Error, Refused}
 use Rattle.element.specs.Element.{rann, rreq, rrep, rerr}
-use Rattle.element.specs.Entries.{numberedAt, numberedIn, targetAt, targetsIn}
+use Rattle.element.specs.Entries.{lostAt, lostIn, numberedAt, numberedIn, targetAt, targetsIn}
+use Rattle.element.specs.Layout.{PartOf}
 use Rattle.element.specs.Octets.{reading, listPart, writeFrame}
 use Rattle.element.specs.Lists.{addressesIn, among, anyForbidden, onesBesideOthers, twice}
 use Rattle.element.proofs.Scans.{each-length}
@@ -69,14 +72,14 @@ module _ (to : Address) where
   rann-size p = frame-length to (rann p)
 
   module _ (part : List ℕ) where
-    pub rreq-size : (f : RreqFields) → length part % 11 ≡ 0 → length (writeFrame to (rreq f (targetsIn part))) ≡ 34 + length part
+    pub rreq-size : (f : RreqFields) → PartOf Rreq part → length (writeFrame to (rreq f (targetsIn part))) ≡ 34 + length part
     rreq-size f whole = omega (arith, frame-length to (rreq f (targetsIn part)), each-length (targetAt part) 0 (length part / 11))
 
-    pub rrep-size : (f : RrepFields) → length part % 10 ≡ 0 → length (writeFrame to (rrep f (numberedIn part))) ≡ 40 + length part
+    pub rrep-size : (f : RrepFields) → PartOf Rrep part → length (writeFrame to (rrep f (numberedIn part))) ≡ 40 + length part
     rrep-size f whole = omega (arith, frame-length to (rrep f (numberedIn part)), each-length (numberedAt part) 0 (length part / 10))
 
-    pub rerr-size : (flags : ℕ) → length part % 10 ≡ 0 → length (writeFrame to (rerr flags (numberedIn part))) ≡ 10 + length part
-    rerr-size flags whole = omega (arith, frame-length to (rerr flags (numberedIn part)), each-length (numberedAt part) 0 (length part / 10))
+    pub rerr-size : (f : RerrFields) → PartOf Rerr part → length (writeFrame to (rerr f (lostIn part))) ≡ 10 + length part
+    rerr-size f whole = omega (arith, frame-length to (rerr f (lostIn part)), each-length (lostAt part) 0 (length part / 10))
 
 -- ---- by the reader's answer
 
@@ -99,9 +102,9 @@ module _ (s out : List ℕ) (to : Address) (at : ℕ) (r : Reading) (re : r ≡ 
       unfolding writtenAgain
       again-rrep f e we = rw (we, te, ← re, e, reply-element s r re f e part pe) refl
 
-      pub again-rerr : (flags : ℕ) → r ≡ Error flags → w ≡ written out at (writeFrame receiver (rerr flags (numberedIn part))) → w ≡ writtenAgain s to out at
+      pub again-rerr : (f : RerrFields) → r ≡ Error f → w ≡ written out at (writeFrame receiver (rerr f (lostIn part))) → w ≡ writtenAgain s to out at
       unfolding writtenAgain
-      again-rerr flags e we = rw (we, te, ← re, e, error-element s r re flags e part pe) refl
+      again-rerr f e we = rw (we, te, ← re, e, error-element s r re f e part pe) refl
 
 -- ---- faults
 
@@ -116,7 +119,7 @@ module _ (s : List ℕ) (a : Address) (r : Reading) (re : r ≡ reading s) where
   no-faults-refused n e = rw (← re, e) refl
 
   module _ (b : Address) (be : b ≡ a) (x : ℕ) (part : List ℕ) (pe : part ≡ listPart s) where
-    pub faults-rann : (p : PathInfo) → r ≡ Announcement p → x ≡ faults NumberedAddresses b (addressesIn NumberedAddresses part) → x ≡ faultsIn s a
+    pub faults-rann : (p : PathInfo) → r ≡ Announcement p → x ≡ faults Dependents b (addressesIn Dependents part) → x ≡ faultsIn s a
     unfolding faultsIn
     faults-rann p e xe = rw (xe, be, ← re, e, pe) refl
 
@@ -124,10 +127,10 @@ module _ (s : List ℕ) (a : Address) (r : Reading) (re : r ≡ reading s) where
     unfolding faultsIn
     faults-rreq f e xe = rw (xe, be, ← re, e, pe) refl
 
-    pub faults-rrep : (f : RrepFields) → r ≡ Reply f → x ≡ faults NumberedAddresses b (addressesIn NumberedAddresses part) → x ≡ faultsIn s a
+    pub faults-rrep : (f : RrepFields) → r ≡ Reply f → x ≡ faults Dependents b (addressesIn Dependents part) → x ≡ faultsIn s a
     unfolding faultsIn
     faults-rrep f e xe = rw (xe, be, ← re, e, pe) refl
 
-    pub faults-rerr : (flags : ℕ) → r ≡ Error flags → x ≡ faults NumberedAddresses b (addressesIn NumberedAddresses part) → x ≡ faultsIn s a
+    pub faults-rerr : (f : RerrFields) → r ≡ Error f → x ≡ faults LostDestinations b (addressesIn LostDestinations part) → x ≡ faultsIn s a
     unfolding faultsIn
-    faults-rerr flags e xe = rw (xe, be, ← re, e, pe) refl
+    faults-rerr f e xe = rw (xe, be, ← re, e, pe) refl

@@ -7,10 +7,10 @@ use lib.ListN.{length}
 use Rattle.octets.specs.LittleEndian.{over}
 use Rattle.table.specs.declared.address.Address.{Address}
 use Rattle.element.specs.declared.list.ListKind.{ListKind}
-use Rattle.element.specs.declared.list.ListKind.the-variants.{Targets, NumberedAddresses}
+use Rattle.element.specs.declared.list.ListKind.the-variants.{Targets, Dependents, LostDestinations}
 use Rattle.element.specs.declared.read.Reading.{Reading}
 use Rattle.element.specs.declared.read.Reading.the-variants.{Announcement, Request, Reply, Error, Refused}
-use Rattle.element.specs.Element.{Element, rann, rreq, rrep, rerr, kindOf, countOf, fieldNumbers, numberedNumbers, targetNumbers}
+use Rattle.element.specs.Element.{Element, rann, rreq, rrep, rerr, kindOf, countOf, fieldNumbers, lostNumbers, numberedNumbers, targetNumbers}
 use Rattle.element.specs.Octets.{fixedNumbers, readElement, reading, listPart, writeFrame}
 use Rattle.element.specs.Lists.{addressesIn, among, anyForbidden, onesBesideOthers, twice}
 
@@ -23,7 +23,7 @@ abbrev pub unlessRefused : Reading → List ℕ → Probed → Probed
 unlessRefused (Announcement p) was made = made
 unlessRefused (Request f) was made = made
 unlessRefused (Reply f) was made = made
-unlessRefused (Error flags) was made = made
+unlessRefused (Error f) was made = made
 unlessRefused (Refused n) was made = record { answer = n; memory = was }
 
 -- ---- an element as numbers
@@ -33,7 +33,7 @@ abbrev pub entryNumbers : Element → List ℕ
 entryNumbers (rann p) = []
 entryNumbers (rreq f targets) = flatMap targetNumbers targets
 entryNumbers (rrep f dependents) = flatMap numberedNumbers dependents
-entryNumbers (rerr flags destinations) = flatMap numberedNumbers destinations
+entryNumbers (rerr f destinations) = flatMap lostNumbers destinations
 
 unfoldable pub elementNumbers : Element → List ℕ
 elementNumbers e = fixedNumbers (kindOf e) (countOf e) (fieldNumbers e) ++ entryNumbers e
@@ -57,10 +57,10 @@ abbrev pub faults : ListKind → Address → List Address → ℕ
 faults k a l = cond (anyForbidden k l) 1 0 + cond (twice l) 2 0 + cond (onesBesideOthers l) 4 0 + cond (among a l) 8 0
 
 abbrev pub faultsRead : Reading → List ℕ → Address → ℕ
-faultsRead (Announcement p) part a = faults NumberedAddresses a (addressesIn NumberedAddresses part)
+faultsRead (Announcement p) part a = faults Dependents a (addressesIn Dependents part)
 faultsRead (Request f) part a = faults Targets a (addressesIn Targets part)
-faultsRead (Reply f) part a = faults NumberedAddresses a (addressesIn NumberedAddresses part)
-faultsRead (Error flags) part a = faults NumberedAddresses a (addressesIn NumberedAddresses part)
+faultsRead (Reply f) part a = faults Dependents a (addressesIn Dependents part)
+faultsRead (Error f) part a = faults LostDestinations a (addressesIn LostDestinations part)
 faultsRead (Refused n) part a = 0
 
 unfoldable pub faultsIn : List ℕ → Address → ℕ

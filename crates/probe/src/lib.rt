@@ -25,7 +25,7 @@ pub extern "C" fn probe_read(element: &[u8], numbers: &mut [u64; 71]) -> u32
         Reading::Announcement(path) => numbers::put_rann(numbers, path),
         Reading::Request(f) => numbers::put_rreq(numbers, f, read::list_part(element)),
         Reading::Reply(f) => numbers::put_rrep(numbers, f, read::list_part(element)),
-        Reading::Error(flags) => numbers::put_rerr(numbers, flags, read::list_part(element)),
+        Reading::Error(f) => numbers::put_rerr(numbers, f, read::list_part(element)),
         Reading::Refused(n) => n,
     }
 }
@@ -54,13 +54,7 @@ pub extern "C" fn probe_write(
             singly,
         ),
         Reading::Reply(f) => again::write_rrep(out, at, receiver, f, read::list_part(element)),
-        Reading::Error(flags) => again::write_rerr(
-            out,
-            at,
-            receiver,
-            flags,
-            read::list_part(element),
-        ),
+        Reading::Error(f) => again::write_rerr(out, at, receiver, f, read::list_part(element)),
         Reading::Refused(n) => n,
     }
 }
@@ -89,14 +83,10 @@ pub extern "C" fn probe_faults(element: &[u8], address: &[u8; 6]) -> u32
 {
     let a = address::read(address);
     match read::read(element) {
-        Reading::Announcement(_) => faults_of(
-            read::list_part(element),
-            ListKind::NumberedAddresses,
-            a,
-        ),
+        Reading::Announcement(_) => faults_of(read::list_part(element), ListKind::Dependents, a),
         Reading::Request(_) => faults_of(read::list_part(element), ListKind::Targets, a),
-        Reading::Reply(_) => faults_of(read::list_part(element), ListKind::NumberedAddresses, a),
-        Reading::Error(_) => faults_of(read::list_part(element), ListKind::NumberedAddresses, a),
+        Reading::Reply(_) => faults_of(read::list_part(element), ListKind::Dependents, a),
+        Reading::Error(_) => faults_of(read::list_part(element), ListKind::LostDestinations, a),
         Reading::Refused(_) => 0,
     }
 }

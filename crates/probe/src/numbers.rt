@@ -1,16 +1,20 @@
 // The numbers of an element, written side by side; each function answers 0.
 use element::PathInfo;
+use element::RerrFields;
 use element::RrepFields;
 use element::RreqFields;
 use element::list;
+use element::list::ListKind;
 use element::write;
 ghost use mathlib.Core.Path.{_≡_};
 ghost use mathlib.Core.List.{flatMap};
 ghost use Prim.Native.Nat.{_+_, _*_, _/_, _≤_};
 ghost use lib.ListN.{length};
 ghost use Rattle.octets.specs.LittleEndian.{over};
-ghost use Rattle.element.specs.Element.{numberedNumbers, rann, rerr, rrep, rreq, targetNumbers};
-ghost use Rattle.element.specs.Entries.{numberedIn, targetsIn};
+ghost use Rattle.element.specs.Element.{lostNumbers, numberedNumbers, rann, rerr, rrep, rreq, targetNumbers};
+ghost use Rattle.element.specs.Entries.{lostIn, numberedIn, targetsIn};
+ghost use Rattle.element.specs.Layout.{PartOf};
+ghost use Rattle.element.specs.declared.Kind.{Kind};
 ghost use Rattle.probe.specs.Probes.{elementNumbers};
 
 fn put(numbers: &mut [u64], at: usize, values: &[u64])
@@ -28,7 +32,7 @@ fn put_targets(numbers: &mut [u64], at: usize, part: &[u8])
     requires { ⌜ at + 3 * (length (now part) / 11) ≤ length (now numbers) ⌝ }
     ensures { λ _. ⌜ now (numbers .exit) ≡ over (now (numbers .entry)) at (flatMap targetNumbers (targetsIn (now (part .entry)))) ⌝ }
 {
-    let n = part.len() / 11;
+    let n = part.len() / list::TARGET;
     let mut place = at;
     let mut i = 0;
     while i < n {
@@ -40,16 +44,32 @@ fn put_targets(numbers: &mut [u64], at: usize, part: &[u8])
     }
 }
 
-fn put_addresses(numbers: &mut [u64], at: usize, part: &[u8])
+fn put_dependents(numbers: &mut [u64], at: usize, part: &[u8])
     requires { ⌜ at + 2 * (length (now part) / 10) ≤ length (now numbers) ⌝ }
     ensures { λ _. ⌜ now (numbers .exit) ≡ over (now (numbers .entry)) at (flatMap numberedNumbers (numberedIn (now (part .entry)))) ⌝ }
 {
-    let n = part.len() / 10;
+    let n = part.len() / list::DEPENDENT;
     let mut place = at;
     let mut i = 0;
     while i < n {
         let a = list::numbered_at(part, i);
         let values = [a.address.0, a.number.0 as u64];
+        put(numbers, place, &values);
+        place += 2;
+        i += 1;
+    }
+}
+
+fn put_losses(numbers: &mut [u64], at: usize, part: &[u8])
+    requires { ⌜ at + 2 * (length (now part) / 10) ≤ length (now numbers) ⌝ }
+    ensures { λ _. ⌜ now (numbers .exit) ≡ over (now (numbers .entry)) at (flatMap lostNumbers (lostIn (now (part .entry)))) ⌝ }
+{
+    let n = part.len() / list::LOST;
+    let mut place = at;
+    let mut i = 0;
+    while i < n {
+        let m = list::lost_at(part, i);
+        let values = [m.address.0, m.number.0 as u64];
         put(numbers, place, &values);
         place += 2;
         i += 1;
@@ -67,37 +87,37 @@ pub fn put_rann(numbers: &mut [u64], path: PathInfo) -> u32
 }
 
 pub fn put_rreq(numbers: &mut [u64], f: RreqFields, part: &[u8]) -> u32
-    requires { ⌜ length (now part) ≤ 220 ⌝ }
+    requires { ⌜ PartOf Kind.Rreq (now part) ⌝ }
     requires { ⌜ 71 ≤ length (now numbers) ⌝ }
     ensures { λ r. ⌜ r ≡ 0 ⌝ }
     ensures { λ _. ⌜ now (numbers .exit) ≡ over (now (numbers .entry)) 0 (elementNumbers (rreq f (targetsIn (now (part .entry))))) ⌝ }
 {
-    let values = write::rreq_numbers(f, part.len() / 11);
+    let values = write::rreq_numbers(f, list::entries_in(part, ListKind::Targets));
     put(numbers, 0, &values);
     put_targets(numbers, 11, part);
     0
 }
 
 pub fn put_rrep(numbers: &mut [u64], f: RrepFields, part: &[u8]) -> u32
-    requires { ⌜ length (now part) ≤ 220 ⌝ }
+    requires { ⌜ PartOf Kind.Rrep (now part) ⌝ }
     requires { ⌜ 71 ≤ length (now numbers) ⌝ }
     ensures { λ r. ⌜ r ≡ 0 ⌝ }
     ensures { λ _. ⌜ now (numbers .exit) ≡ over (now (numbers .entry)) 0 (elementNumbers (rrep f (numberedIn (now (part .entry))))) ⌝ }
 {
-    let values = write::rrep_numbers(f, part.len() / 10);
+    let values = write::rrep_numbers(f, list::entries_in(part, ListKind::Dependents));
     put(numbers, 0, &values);
-    put_addresses(numbers, 12, part);
+    put_dependents(numbers, 12, part);
     0
 }
 
-pub fn put_rerr(numbers: &mut [u64], flags: u8, part: &[u8]) -> u32
-    requires { ⌜ length (now part) ≤ 250 ⌝ }
+pub fn put_rerr(numbers: &mut [u64], f: RerrFields, part: &[u8]) -> u32
+    requires { ⌜ PartOf Kind.Rerr (now part) ⌝ }
     requires { ⌜ 71 ≤ length (now numbers) ⌝ }
     ensures { λ r. ⌜ r ≡ 0 ⌝ }
-    ensures { λ _. ⌜ now (numbers .exit) ≡ over (now (numbers .entry)) 0 (elementNumbers (rerr flags (numberedIn (now (part .entry))))) ⌝ }
+    ensures { λ _. ⌜ now (numbers .exit) ≡ over (now (numbers .entry)) 0 (elementNumbers (rerr f (lostIn (now (part .entry))))) ⌝ }
 {
-    let values = write::rerr_numbers(flags, part.len() / 10);
+    let values = write::rerr_numbers(f, list::entries_in(part, ListKind::LostDestinations));
     put(numbers, 0, &values);
-    put_addresses(numbers, 4, part);
+    put_losses(numbers, 4, part);
     0
 }

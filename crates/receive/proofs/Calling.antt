@@ -9,10 +9,11 @@ use borrow.Author.Tests.{ltb-false}
 use Rattle.element.specs.declared.PathInfo.{PathInfo}
 use Rattle.element.specs.declared.RreqFields.{RreqFields}
 use Rattle.element.specs.declared.RrepFields.{RrepFields}
+use Rattle.element.specs.declared.RerrFields.{RerrFields}
 use Rattle.element.specs.declared.read.Reading.{Reading}
 use Rattle.element.specs.declared.read.Reading.the-variants.{Announcement, Request, Reply, Error, Refused as Unread}
 use Rattle.element.specs.Element.{Element, rann, rreq, rrep, rerr}
-use Rattle.element.specs.Entries.{numberedIn, targetsIn}
+use Rattle.element.specs.Entries.{lostIn, numberedIn, targetsIn}
 use Rattle.element.specs.Octets.{wrongLength, otherId, misfit, readElement, fixedFields, reading, listPart}
 use Rattle.element.proofs.Readings.{announcement-element, request-element, reply-element, error-element}
 use Rattle.rules.specs.declared.Arrival.{Arrival}
@@ -63,7 +64,7 @@ module _ (t : List ℕ) (a : Arrival) (s : List ℕ) (r : Reading) (re : r ≡ r
   never-unread (rann p) n h = let z : _≡_ {A = ℕ} 0 1 = cc in omega arith
   never-unread (rreq f targets) n h = let z : _≡_ {A = ℕ} 0 1 = cc in omega arith
   never-unread (rrep f dependents) n h = let z : _≡_ {A = ℕ} 0 1 = cc in omega arith
-  never-unread (rerr flags destinations) n h = let z : _≡_ {A = ℕ} 0 1 = cc in omega arith
+  never-unread (rerr f destinations) n h = let z : _≡_ {A = ℕ} 0 1 = cc in omega arith
 
   unread : (n : ℕ) → r ≡ Unread n → refused n ≡ decide (readingOctets t a s)
   unfolding reading readingOctets octetChecks
@@ -84,7 +85,7 @@ module _ (t : List ℕ) (a : Arrival) (s : List ℕ) (r : Reading) (re : r ≡ r
   isUnread (Announcement p) = false
   isUnread (Request f) = false
   isUnread (Reply f) = false
-  isUnread (Error flags) = false
+  isUnread (Error f) = false
   isUnread (Unread n) = true
 
   read-so : isUnread r ≡ false → decide (judging t a (readElement s)) ≡ decide (readingOctets t a s)
@@ -113,5 +114,5 @@ module _ (t : List ℕ) (a : Arrival) (s : List ℕ) (r : Reading) (re : r ≡ r
       pub rrep-read : (f : RrepFields) → r ≡ Reply f → x ≡ atExit t output (decide (judging t a (rrep f (numberedIn part)))) → x ≡ atExit t output (decide (readingOctets t a s))
       rrep-read f e = read-as (Reply f) e refl (rrep f (numberedIn part)) (reply-element s r re f e part pe)
 
-      pub rerr-read : (flags : ℕ) → r ≡ Error flags → x ≡ atExit t output (decide (judging t a (rerr flags (numberedIn part)))) → x ≡ atExit t output (decide (readingOctets t a s))
-      rerr-read flags e = read-as (Error flags) e refl (rerr flags (numberedIn part)) (error-element s r re flags e part pe)
+      pub rerr-read : (f : RerrFields) → r ≡ Error f → x ≡ atExit t output (decide (judging t a (rerr f (lostIn part)))) → x ≡ atExit t output (decide (readingOctets t a s))
+      rerr-read f e = read-as (Error f) e refl (rerr f (lostIn part)) (error-element s r re f e part pe)

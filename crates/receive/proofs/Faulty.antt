@@ -11,8 +11,8 @@ use Rattle.element.specs.declared.PathInfo.{PathInfo}
 use Rattle.element.specs.declared.RreqFields.{RreqFields}
 use Rattle.element.specs.declared.list.ListKind.the-variants.{Targets}
 use Rattle.element.specs.Element.{rreq}
-use Rattle.element.specs.Entries.{targetsIn}
-use Rattle.element.specs.Lists.{entriesIn, addressesIn, anyForbidden, allOnes, among, twice, onesBesideOthers}
+use Rattle.element.specs.Entries.{entriesIn, targetsIn}
+use Rattle.element.specs.Lists.{addressesIn, anyForbidden, allOnes, among, twice, onesBesideOthers}
 use Rattle.element.proofs.Scans.{addresses-many, target-addresses}
 use Rattle.element.specs.Flags.{unicast}
 use Rattle.rules.specs.Receive.{hasBadAddress, hasBadList, severalOrAll}

@@ -13,11 +13,12 @@ use Rattle.element.specs.declared.PathInfo.{PathInfo}
 use Rattle.element.specs.declared.NumberedAddress.{NumberedAddress}
 use Rattle.element.specs.declared.RreqFields.{RreqFields}
 use Rattle.element.specs.declared.RrepFields.{RrepFields}
-use Rattle.element.specs.declared.list.ListKind.the-variants.{Targets, NumberedAddresses}
+use Rattle.element.specs.declared.RerrFields.{RerrFields}
+use Rattle.element.specs.declared.list.ListKind.the-variants.{Targets, LostDestinations}
 use Rattle.element.specs.Element.{Element, rann, rreq, rrep, rerr}
-use Rattle.element.specs.Entries.{numberedIn, targetsIn}
-use Rattle.element.specs.Lists.{entriesIn, addressesIn, allOnes, anyForbidden, among, twice, onesBesideOthers}
-use Rattle.element.proofs.Scans.{addresses-many, target-addresses, numbered-addresses}
+use Rattle.element.specs.Entries.{lostIn, numberedIn, targetsIn}
+use Rattle.element.specs.Lists.{addressesIn, allOnes, anyForbidden, among, twice, onesBesideOthers}
+use Rattle.element.proofs.Scans.{addresses-many, target-addresses, lost-addresses}
 use Rattle.rules.specs.declared.Arrival.{Arrival}
 use Rattle.rules.specs.Decision.{accepted, decide}
 use Rattle.rules.specs.Errors.{matches}
@@ -50,14 +51,14 @@ unfolding faultsOf hasBadAddress hasBadList isLowTtlReply
 dependents-aside f x e dependents = e
 
 -- of a RERR: the tests of its list
-module _ (flags : ℕ) (part : List ℕ) (b v : Bool) where
-  pub error-address : b ≡ anyForbidden NumberedAddresses (addressesIn NumberedAddresses part) → b ≡ v → hasBadAddress (rerr flags (numberedIn part)) ≡ v
+module _ (f : RerrFields) (part : List ℕ) (b v : Bool) where
+  pub error-address : b ≡ anyForbidden LostDestinations (addressesIn LostDestinations part) → b ≡ v → hasBadAddress (rerr f (lostIn part)) ≡ v
   unfolding hasBadAddress
-  error-address be bv = rw (numbered-addresses part) (sym be ∙ bv)
+  error-address be bv = rw (lost-addresses part) (sym be ∙ bv)
 
-  pub error-list : b ≡ twice (addressesIn NumberedAddresses part) → b ≡ v → hasBadList (rerr flags (numberedIn part)) ≡ v
+  pub error-list : b ≡ twice (addressesIn LostDestinations part) → b ≡ v → hasBadList (rerr f (lostIn part)) ≡ v
   unfolding hasBadList
-  error-list be bv = rw (numbered-addresses part) (sym be ∙ bv)
+  error-list be bv = rw (lost-addresses part) (sym be ∙ bv)
 
 -- ---- what the answer says
 
@@ -90,22 +91,15 @@ module _ (t : List ℕ) (a : Arrival) (e : Element) (r : Answer) (re : r ≡ ans
           let other = eqb-false (p .hops .0) 255 (of-path (λ q. eqb (q .hops .0) 255) (passed-check 12 (judging t a e .checks) none-applied)) in
           omega (arith, l, other)
 
--- a RREP has TTL left, an error names a match, a unicast RREQ has one destination
+-- a RREP has TTL left, a unicast RREQ has one destination
 module _ (t : List ℕ) (a : Arrival) (r : Answer) (ok : r ≡ Accepted) where
   pub ttl-left : (f : RrepFields) (part : List ℕ) → r ≡ answerTo (judging t a (rrep f (numberedIn part)) .checks) → 2 ≤ f .path .ttl
   unfolding listed isLowTtlReply
   ttl-left f part re =
       ltb-false (f .path .ttl) 2 (passed-check 14 (judging t a (rrep f (numberedIn part)) .checks) (none-applied t a (rrep f (numberedIn part)) r re ok))
 
-  pub some-match : (flags : ℕ) (part : List ℕ) → r ≡ answerTo (judging t a (rerr flags (numberedIn part)) .checks)
-      → any (matches t (a .clock) (a .transmitter)) (numberedIn part) ≡ true
-  unfolding listed matchesNothing
-  some-match flags part re =
-      not-false (any (matches t (a .clock) (a .transmitter)) (numberedIn part))
-      (passed-check 26 (judging t a (rerr flags (numberedIn part)) .checks) (none-applied t a (rerr flags (numberedIn part)) r re ok))
-
   pub one-destination : (f : RreqFields) (part : List ℕ) → r ≡ answerTo (judging t a (rreq f (targetsIn part)) .checks) → unicastToSeveral (f .path) part ≡ false
-  unfolding listed hasBadList severalOrAll unicastToSeveral entriesIn
+  unfolding listed hasBadList severalOrAll unicastToSeveral
   one-destination f part re =
       let addresses : List Address = targetAddresses (targetsIn part) in
       let good = passed-check 10 (judging t a (rreq f (targetsIn part)) .checks) (none-applied t a (rreq f (targetsIn part)) r re ok) in

@@ -14,9 +14,10 @@ use Rattle.table.specs.Table.{number, changeWhere}
 use Rattle.element.specs.declared.PathInfo.{PathInfo}
 use Rattle.element.specs.declared.RreqFields.{RreqFields}
 use Rattle.element.specs.declared.RrepFields.{RrepFields}
+use Rattle.element.specs.declared.RerrFields.{RerrFields}
 use Rattle.element.specs.declared.Target.{Target}
 use Rattle.element.specs.Element.{Element, rann, rreq, rrep, rerr, kindOf, countOf}
-use Rattle.element.specs.Entries.{All, numberedIn, targetAt, targetsIn}
+use Rattle.element.specs.Entries.{All, lostIn, numberedIn, targetAt, targetsIn}
 use Rattle.element.specs.Layout.{lengthWith}
 use Rattle.element.proofs.Scans.{each-length}
 use Rattle.element.proofs.Sizes.{frame-length}
@@ -65,15 +66,15 @@ module _ (t output : List ℕ) (a : Arrival) (h : Head) (he : h ≡ headAt t) wh
 
   -- ---- a RERR
 
-  pub rerr-exit : (flags : ℕ) (part u : List ℕ) → u ≡ changeWhere (isMatch (a .clock) (a .transmitter) (numberedIn part)) (erred (numberedIn part)) t
-      → (octets : ℕ) → octets ≡ length (frameOctets (toAll (rerr flags (those (matches t (a .clock) (a .transmitter)) (numberedIn part)))))
+  pub rerr-exit : (f : RerrFields) (part u : List ℕ) → u ≡ changeWhere (isMatch (a .clock) (a .transmitter) (lostIn part)) (erred (lostIn part)) t
+      → (octets : ℕ) → octets ≡ length (frameOctets (toAll (rerr f (those (matches t (a .clock) (a .transmitter)) (lostIn part)))))
       → (e : Emitted) → e ≡ record { frames = 1; octets = octets }
-      → (v : List ℕ) → v ≡ over output 0 (frameOctets (toAll (rerr flags (those (matches t (a .clock) (a .transmitter)) (numberedIn part)))))
+      → (v : List ℕ) → v ≡ over output 0 (frameOctets (toAll (rerr f (those (matches t (a .clock) (a .transmitter)) (lostIn part)))))
       → (w : List ℕ) → w ≡ putHead u (headWith (h .number) (h .request) (a .clock) h)
-      → exits (Outcome.Accepted e) w v ≡ atExit t output (accepted (received t a (rerr flags (numberedIn part))))
+      → exits (Outcome.Accepted e) w v ≡ atExit t output (accepted (received t a (rerr f (lostIn part))))
   unfolding received rerrReceived
-  rerr-exit flags part u ue octets oe e ee v ve w we =
-      accepted-exit t output (received t a (rerr flags (numberedIn part))) w v e (same-number t (a .clock) h he u _ w ue we) ve
+  rerr-exit f part u ue octets oe e ee v ve w we =
+      accepted-exit t output (received t a (rerr f (lostIn part))) w v e (same-number t (a .clock) h he u _ w ue we) ve
       (ee ∙ ap (λ (k : ℕ). record { frames = 1; octets = k }) oe)
 
   -- ---- a RREQ

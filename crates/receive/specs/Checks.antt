@@ -6,7 +6,7 @@ use mathlib.Core.List.{List, _++_}
 use mathlib.Core.Option.{none, some}
 use Rattle.element.specs.declared.PathInfo.{PathInfo}
 use Rattle.element.specs.Element.{Element}
-use Rattle.element.specs.Entries.{numberedIn}
+use Rattle.element.specs.Entries.{lostIn}
 use Rattle.rules.specs.declared.Arrival.{Arrival}
 use Rattle.rules.specs.Decision.{Check}
 use Rattle.rules.specs.Checks.{stateChecks}
@@ -31,4 +31,4 @@ pathChecks x t a p = fieldChecks (x .address) (x .list) (x .ttl) a (some p) ++ p
 abbrev pub errorStateChecks : List ℕ → Arrival → List ℕ → List Check
 errorStateChecks t a part =
     stateChecks t (a .clock) (a .transmitter)
-    ++ rowChecks t a (not (any (matches t (a .clock) (a .transmitter)) (numberedIn part))) none
+    ++ rowChecks t a (not (any (matches t (a .clock) (a .transmitter)) (lostIn part))) none

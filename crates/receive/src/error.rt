@@ -3,6 +3,7 @@ use calls::Answer;
 use calls::Emitted;
 use calls::Outcome;
 use calls::clocked;
+use element::RerrFields;
 use element::list;
 use element::list::ListKind;
 use matches::matching;
@@ -11,14 +12,13 @@ use matches::rows;
 use rules::Arrival;
 use table::row;
 ghost use mathlib.Core.Path.{_≡_};
-ghost use mathlib.Core.Bool.{Bool};
 ghost use Prim.Native.Nat.{_≤_};
 ghost use lib.ListN.{length};
 ghost use Rattle.element.specs.Element.{rerr};
-ghost use Rattle.element.specs.Entries.{numberedIn};
+ghost use Rattle.element.specs.Entries.{lostIn};
+ghost use Rattle.element.specs.Layout.{PartOf};
+ghost use Rattle.element.specs.declared.Kind.{Kind};
 ghost use Rattle.rules.specs.Decision.{accepted, decide};
-ghost use Rattle.rules.specs.Errors.{matches};
-ghost use Rattle.rules.specs.Lists.{any};
 ghost use Rattle.rules.specs.Outcome.{atExit};
 ghost use Rattle.rules.specs.Receive.{judging, received};
 ghost use Rattle.calls.specs.Answers.{answerTo, exits};
@@ -39,43 +39,48 @@ fn check_state(table: &[u8], a: Arrival, part: &[u8]) -> Answer
     Answer::Accepted
 }
 
-// By its destinations, 9 and 10, and then by the state. Flags play no part; the contract names the element.
-fn check(table: &[u8], a: Arrival, flags: u8, part: &[u8]) -> Answer
+// By its destinations, 9 and 10, and then by the state. The fields play no part; the contract names the element.
+fn check(table: &[u8], a: Arrival, f: RerrFields, part: &[u8]) -> Answer
     requires { ⌜ Sized (now table) ⌝ }
-    ensures { λ r. ⌜ r ≡ answerTo (judging (now (table .entry)) a (rerr flags (numberedIn (now (part .entry)))) .checks) ⌝ }
+    ensures { λ r. ⌜ r ≡ answerTo (judging (now (table .entry)) a (rerr f (lostIn (now (part .entry)))) .checks) ⌝ }
 {
-    if list::has_forbidden(part, ListKind::NumberedAddresses) {
+    if list::has_forbidden(part, ListKind::LostDestinations) {
         return Answer::Refused(9);
     }
-    if list::has_twice(part, ListKind::NumberedAddresses) {
+    if list::has_twice(part, ListKind::LostDestinations) {
         return Answer::Refused(10);
     }
     check_state(table, a, part)
 }
 
 // It goes on with its matches, and these are lost.
-fn take(table: &mut [u8], output: &mut [u8], a: Arrival, flags: u8, part: &[u8]) -> Outcome
+fn take(table: &mut [u8], output: &mut [u8], a: Arrival, f: RerrFields, part: &[u8]) -> Outcome
     requires { ⌜ Sized (now table) ⌝ }
     requires { ⌜ 1560 ≤ length (now output) ⌝ }
-    requires { ⌜ length (now part) ≤ 250 ⌝ }
-    requires { ⌜ any (matches (now table) (a .clock) (a .transmitter)) (numberedIn (now part)) ≡ Bool.true ⌝ }
-    ensures { λ r. ⌜ exits r (now (table .exit)) (now (output .exit)) ≡ atExit (now (table .entry)) (now (output .entry)) (accepted (received (now (table .entry)) a (rerr flags (numberedIn (now (part .entry)))))) ⌝ }
+    requires { ⌜ PartOf Kind.Rerr (now part) ⌝ }
+    ensures { λ r. ⌜ exits r (now (table .exit)) (now (output .exit)) ≡ atExit (now (table .entry)) (now (output .entry)) (accepted (received (now (table .entry)) a (rerr f (lostIn (now (part .entry)))))) ⌝ }
 {
     let head = row::read_head(table);
-    let octets = report::write_error(output, table, a, flags, part);
+    let octets = report::write_error(output, 0, table, a, f, part);
     rows::lose_matches(table, a, part);
     clocked::store_head(table, head, head.number, a.clock);
     Outcome::Accepted(Emitted::one_frame(octets))
 }
 
-pub fn receive(table: &mut [u8], output: &mut [u8], a: Arrival, flags: u8, part: &[u8]) -> Outcome
+pub fn receive(
+    table: &mut [u8],
+    output: &mut [u8],
+    a: Arrival,
+    f: RerrFields,
+    part: &[u8],
+) -> Outcome
     requires { ⌜ Sized (now table) ⌝ }
     requires { ⌜ 1560 ≤ length (now output) ⌝ }
-    requires { ⌜ length (now part) ≤ 250 ⌝ }
-    ensures { λ r. ⌜ exits r (now (table .exit)) (now (output .exit)) ≡ atExit (now (table .entry)) (now (output .entry)) (decide (judging (now (table .entry)) a (rerr flags (numberedIn (now (part .entry)))))) ⌝ }
+    requires { ⌜ PartOf Kind.Rerr (now part) ⌝ }
+    ensures { λ r. ⌜ exits r (now (table .exit)) (now (output .exit)) ≡ atExit (now (table .entry)) (now (output .entry)) (decide (judging (now (table .entry)) a (rerr f (lostIn (now (part .entry)))))) ⌝ }
 {
-    match check(table, a, flags, part) {
-        Answer::Accepted => take(table, output, a, flags, part),
+    match check(table, a, f, part) {
+        Answer::Accepted => take(table, output, a, f, part),
         Answer::Refused(n) => Outcome::Refused(n),
     }
 }

@@ -45,7 +45,7 @@ fn receive_element(table: &mut [u8], output: &mut [u8], a: Arrival, element: &[u
         Reading::Announcement(p) => announcement::receive(table, output, a, p),
         Reading::Request(f) => request::receive(table, output, a, f, read::list_part(element)),
         Reading::Reply(f) => reply::receive(table, output, a, f, read::list_part(element)),
-        Reading::Error(flags) => error::receive(table, output, a, flags, read::list_part(element)),
+        Reading::Error(f) => error::receive(table, output, a, f, read::list_part(element)),
         Reading::Refused(n) => Outcome::Refused(n),
     }
 }

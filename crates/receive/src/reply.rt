@@ -10,8 +10,10 @@ use onward::reply;
 use rules::Arrival;
 use table::row;
 ghost use mathlib.Core.Path.{_≡_};
-ghost use Prim.Native.Nat.{_+_, _%_, _<_, _≤_};
+ghost use Prim.Native.Nat.{_+_, _<_, _≤_};
 ghost use lib.ListN.{length};
+ghost use Rattle.element.specs.Layout.{PartOf};
+ghost use Rattle.element.specs.declared.Kind.{Kind};
 ghost use Rattle.element.specs.Element.{rrep};
 ghost use Rattle.element.specs.Entries.{numberedIn};
 ghost use Rattle.rules.specs.Decision.{accepted, decide};
@@ -36,8 +38,7 @@ fn take(table: &mut [u8], output: &mut [u8], a: Arrival, f: RrepFields, part: &[
     requires { ⌜ f .path .metric .0 + a .link .0 ≤ 4294967294 ⌝ }
     requires { ⌜ f .path .hops .0 < 255 ⌝ }
     requires { ⌜ 2 ≤ f .path .ttl ⌝ }
-    requires { ⌜ length (now part) ≤ 220 ⌝ }
-    requires { ⌜ length (now part) % 10 ≡ 0 ⌝ }
+    requires { ⌜ PartOf Kind.Rrep (now part) ⌝ }
     ensures { λ r. ⌜ exits r (now (table .exit)) (now (output .exit)) ≡ atExit (now (table .entry)) (now (output .entry)) (accepted (received (now (table .entry)) a (rrep f (numberedIn (now (part .entry)))))) ⌝ }
 {
     let head = row::read_head(table);
@@ -57,8 +58,7 @@ pub fn receive(
     requires { ⌜ Sized (now table) ⌝ }
     requires { ⌜ 1560 ≤ length (now output) ⌝ }
     requires { ⌜ a .clock ≤ 281474976710655 ⌝ }
-    requires { ⌜ length (now part) ≤ 220 ⌝ }
-    requires { ⌜ length (now part) % 10 ≡ 0 ⌝ }
+    requires { ⌜ PartOf Kind.Rrep (now part) ⌝ }
     ensures { λ r. ⌜ exits r (now (table .exit)) (now (output .exit)) ≡ atExit (now (table .entry)) (now (output .entry)) (decide (judging (now (table .entry)) a (rrep f (numberedIn (now (part .entry)))))) ⌝ }
 {
     match check(table, a, f, part) {

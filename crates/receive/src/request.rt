@@ -18,6 +18,8 @@ ghost use mathlib.Core.Path.{_≡_};
 ghost use Prim.Native.Nat.{_+_, _<_, _≤_};
 ghost use lib.ListN.{length};
 ghost use Rattle.octets.specs.LittleEndian.{over};
+ghost use Rattle.element.specs.Layout.{PartOf};
+ghost use Rattle.element.specs.declared.Kind.{Kind};
 ghost use Rattle.element.specs.Element.{rreq};
 ghost use Rattle.element.specs.Entries.{targetsIn};
 ghost use Rattle.rules.specs.Decision.{accepted, decide};
@@ -71,8 +73,7 @@ fn answer(
 ) -> Sent
     requires { ⌜ Sized (now table) ⌝ }
     requires { ⌜ at + 1054 ≤ length (now output) ⌝ }
-    requires { ⌜ 11 ≤ length (now part) ⌝ }
-    requires { ⌜ length (now part) ≤ 220 ⌝ }
+    requires { ⌜ PartOf Kind.Rreq (now part) ⌝ }
     requires { ⌜ unicastToSeveral (f .path) (now part) ≡ false ⌝ }
     requires { ⌜ f .path .metric .0 + a .link .0 ≤ 4294967294 ⌝ }
     requires { ⌜ f .path .hops .0 < 255 ⌝ }
@@ -88,8 +89,7 @@ fn answer(
 fn take(table: &mut [u8], output: &mut [u8], a: Arrival, f: RreqFields, part: &[u8]) -> Outcome
     requires { ⌜ Sized (now table) ⌝ }
     requires { ⌜ 1560 ≤ length (now output) ⌝ }
-    requires { ⌜ 11 ≤ length (now part) ⌝ }
-    requires { ⌜ length (now part) ≤ 220 ⌝ }
+    requires { ⌜ PartOf Kind.Rreq (now part) ⌝ }
     requires { ⌜ unicastToSeveral (f .path) (now part) ≡ false ⌝ }
     requires { ⌜ a .clock ≤ 281474976710655 ⌝ }
     requires { ⌜ f .path .metric .0 + a .link .0 ≤ 4294967294 ⌝ }
@@ -115,8 +115,7 @@ pub fn receive(
     requires { ⌜ Sized (now table) ⌝ }
     requires { ⌜ 1560 ≤ length (now output) ⌝ }
     requires { ⌜ a .clock ≤ 281474976710655 ⌝ }
-    requires { ⌜ 11 ≤ length (now part) ⌝ }
-    requires { ⌜ length (now part) ≤ 220 ⌝ }
+    requires { ⌜ PartOf Kind.Rreq (now part) ⌝ }
     ensures { λ r. ⌜ exits r (now (table .exit)) (now (output .exit)) ≡ atExit (now (table .entry)) (now (output .entry)) (decide (judging (now (table .entry)) a (rreq f (targetsIn (now (part .entry)))))) ⌝ }
 {
     match check(table, a, f, part) {

@@ -56,7 +56,7 @@ path-fits (rrep q dependents) f p is =
     let h = g .1 .1 .1 in
     subst PathFits (Option·some-injective (q .path) p is)
     (fields-fit (q .path) (g .0) (g .1 .0) (g .1 .1 .0) (h .0, (h .1 .0, (h .1 .1 .0, (h .1 .1 .1 .0, tt)))))
-path-fits (rerr flags destinations) f p is = absurd (Option·none-ne-some p is)
+path-fits (rerr g destinations) f p is = absurd (Option·none-ne-some p is)
 
 first-false : (b c : Bool) → (not b || c) ≡ false → b ≡ true
 first-false true c e = refl
@@ -71,7 +71,7 @@ subject-individual (rreq q targets) ok p is =
 subject-individual (rrep q dependents) ok p is =
     subst (λ (x : PathInfo). individual (x .subject) ≡ true) (Option·some-injective (q .path) p is)
     (first-false (individual (q .path .subject)) (not (individual (q .source .address))) ok)
-subject-individual (rerr flags destinations) ok p is = absurd (Option·none-ne-some p is)
+subject-individual (rerr g destinations) ok p is = absurd (Option·none-ne-some p is)
 
 other-of : (a x : Address) → individual x ≡ true → same x a ≡ false → isOther a x ≡ true
 unfolding isOther

@@ -16,7 +16,7 @@ use Rattle.counters.proofs.Rank.{Window, AtLeast, level, not-stale, newer-ahead
 use Rattle.table.specs.declared.row.Row.{Row}
 use Rattle.table.specs.Row.{active, invalidated, raised}
 use Rattle.table.specs.Table.{rowFor}
-use Rattle.element.specs.declared.NumberedAddress.{NumberedAddress}
+use Rattle.element.specs.declared.LostDestination.{LostDestination}
 use Rattle.element.specs.declared.PathInfo.{PathInfo}
 use Rattle.rules.specs.declared.Arrival.{Arrival}
 use Rattle.rules.specs.Learn.{metricHere, takesLink}
@@ -66,7 +66,7 @@ module _ (base : ℕ) (small : base < 2 ^ 32) where
       (λ e near′. raised-falls _ r (λ k. newer-ahead small (near′ k) (near k) e))
       (λ _ _. invalid-falls r)
 
-  pub error-falls : (named : List NumberedAddress) (r : Row) → InWindow base r → InWindow base (erred named r) → Falls r (erred named r)
+  pub error-falls : (named : List LostDestination) (r : Row) → InWindow base r → InWindow base (erred named r) → Falls r (erred named r)
   unfolding erred
   error-falls named r = erred-with-falls (numberBeside (r .destination) named) r
 

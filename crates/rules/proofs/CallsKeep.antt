@@ -16,23 +16,27 @@ use Rattle.counters.specs.Numbers.{stepped, nextNumber, nextRequest}
 use Rattle.counters.specs.Numbering.{advancedFor}
 use Rattle.table.specs.declared.address.Address.{Address}
 use Rattle.table.specs.declared.row.Row.{Row}
-use Rattle.table.specs.Row.{headWith}
+use Rattle.table.specs.Row.{headWith, isThrough}
 use Rattle.table.specs.Layout.{headAt, putHead}
 use Rattle.table.specs.Table.{number, requestId, clock, rowFor}
 use Rattle.table.proofs.HeadAndRows.{FitRow}
 use Rattle.table.proofs.Lookup.{row-fits-its-octets}
 use Rattle.element.specs.declared.Item.{Item}
+use Rattle.element.specs.declared.Kind.the-variants.{Rreq, Rrep, Rerr}
+use Rattle.element.specs.declared.LostDestination.{LostDestination}
 use Rattle.element.specs.declared.NumberedAddress.{NumberedAddress}
 use Rattle.element.specs.declared.PathInfo.{PathInfo}
 use Rattle.element.specs.declared.RreqFields.{RreqFields}
 use Rattle.element.specs.declared.RrepFields.{RrepFields}
+use Rattle.element.specs.declared.RerrFields.{RerrFields}
 use Rattle.element.specs.declared.Target.{Target}
 use Rattle.element.specs.Element.{Element, rann, rreq, rrep, rerr}
 use Rattle.element.specs.Octets.{readElement}
 use Rattle.element.specs.Layout.{itemWidths}
 use Rattle.element.specs.Entries.{All, itemAt, itemsIn}
+use Rattle.element.proofs.Lengths.{count-range}
 use Rattle.element.proofs.Scans.{each-length}
-use Rattle.element.proofs.ListParts.{FitsTarget, FitsNumbered}
+use Rattle.element.proofs.ListParts.{FitsTarget, FitsLost}
 use Rattle.element.proofs.ReadBack.{Fits, all-each}
 use Rattle.rules.specs.Decision.{Check, accepted}
 use Rattle.rules.specs.Lists.{any, those}
@@ -51,7 +55,7 @@ use Rattle.rules.proofs.Branches.{cond-cases}
 use Rattle.rules.proofs.Alls.{all-append, all-map, all-those, those-fewer, those-some}
 use Rattle.rules.proofs.Tables.{Whole, whole, Keeps, Leaves, own-fits, number-fits, request-fits, clock-small, head-leaves}
 use Rattle.rules.proofs.Learning.{PathFits, Heard, learnt-keeps}
-use Rattle.rules.proofs.Falling.{next-fits, break-keeps, error-keeps}
+use Rattle.rules.proofs.Falling.{next-fits, through-acts, break-keeps, error-keeps}
 use Rattle.rules.proofs.Emitting.{to-all-emitted}
 use Rattle.rules.proofs.Sending.{FramesFit, AnsweredFits, replies-fit, rann-fits, rreq-fits, rerr-fits, rann-onward-fits, rreq-onward-fits, rrep-onward-fits, all-answered-fits, entries-fit, errors-fit}
 use Rattle.rules.proofs.Accepted.{Accepted, accepted-element}
@@ -86,7 +90,7 @@ module _ (t : List ℕ) (a : Arrival) where
       record {
         leaves = at-clock (rrep f dependents) ok (learnt a (f .path) t) (learnt-keeps t a (f .path) h) (number t) (number-fits t (ok .whole));
         frames = rrep-onward-fits a f (h .fits) (h .hops) (h .metric) (learnt a (f .path) t) dependents
-            (g .1 .1 .1 .1 .1 .1 .1 .0, (g .1 .1 .1 .1 .1 .1 .1 .1 .0, tt)) (ok .fits .entries) (ok .fits .count);
+            (g .1 .1 .1 .1 .1 .1 .1 .0, (g .1 .1 .1 .1 .1 .1 .1 .1 .0, tt)) (ok .fits .entries) (count-range Rrep (length dependents) (ok .fits .count) .1);
       }
 
   rreq-kept : (f : RreqFields) (targets : List Target) → Accepted t a (rreq f targets) → Kept t (rreqReceived t a f targets)
@@ -97,7 +101,7 @@ module _ (t : List ℕ) (a : Arrival) where
       let k : Keeps t u = learnt-keeps t a (f .path) h in
       let done : Answered = allAnswered u a (f .path) (number t) targets in
       let fit : AnsweredFits (length targets) done = all-answered-fits u a (f .path) (number t) (number-fits t (ok .whole)) targets (ok .fits .entries) in
-      let few = leb-true (length targets) 20 (and-eq-true-iff (leb 1 (length targets)) (leb (length targets) 20) .0 (ok .fits .count) .1) in
+      let few = count-range Rreq (length targets) (ok .fits .count) .1 in
       record {
         leaves = at-clock (rreq f targets) ok u k (done .number) (fit .number);
         frames = all-append (λ (x : Frame). Fits (x .element)) (done .replies) (rreqOnward u a f (done .kept))
@@ -106,16 +110,16 @@ module _ (t : List ℕ) (a : Arrival) where
             (omega (arith, few, fit .fewer)));
       }
 
-  rerr-kept : (flags : ℕ) (destinations : List NumberedAddress) → Accepted t a (rerr flags destinations) → Kept t (rerrReceived t a flags destinations)
+  rerr-kept : (f : RerrFields) (destinations : List LostDestination) → Accepted t a (rerr f destinations) → Kept t (rerrReceived t a f destinations)
   unfolding rerrReceived matchesNothing FitFields
-  rerr-kept flags destinations ok =
-      let test : NumberedAddress → Bool = matches t (a .clock) (a .transmitter) in
-      let few = leb-true (length destinations) 25 (and-eq-true-iff (leb 1 (length destinations)) (leb (length destinations) 25) .0 (ok .fits .count) .1) in
+  rerr-kept f destinations ok =
+      let test : LostDestination → Bool = matches t (a .clock) (a .transmitter) in
+      let few = count-range Rerr (length destinations) (ok .fits .count) .1 in
       record {
-        leaves = at-clock (rerr flags destinations) ok _
+        leaves = at-clock (rerr f destinations) ok _
             (error-keeps (a .clock) (a .transmitter) destinations (ok .fits .entries) t (ok .whole)) (number t) (number-fits t (ok .whole));
-        frames = to-all-emitted Fits (rerr flags (those test destinations))
-            (rerr-fits flags (those test destinations) (ok .fits .fields .0) (all-those FitsNumbered test destinations (ok .fits .entries))
+        frames = to-all-emitted Fits (rerr f (those test destinations))
+            (rerr-fits f (those test destinations) (ok .fits .fields .0) (all-those FitsLost test destinations (ok .fits .entries))
             (those-some test destinations (not-false (any test destinations) (ok .matched))) (omega (arith, few, those-fewer test destinations))) .each;
       }
 
@@ -124,7 +128,7 @@ module _ (t : List ℕ) (a : Arrival) where
   received-kept (rann p) ok = rann-kept p ok
   received-kept (rreq f targets) ok = rreq-kept f targets ok
   received-kept (rrep f dependents) ok = rrep-kept f dependents ok
-  received-kept (rerr flags destinations) ok = rerr-kept flags destinations ok
+  received-kept (rerr f destinations) ok = rerr-kept f destinations ok
 
 -- ---- originating
 
@@ -259,9 +263,9 @@ module _ (t : List ℕ) (octets : Octets t) (room : ℕ) where
       let w : Whole t = whole t octets (passed-check 1 checks (p .0)) (passed-check 21 checks (p .0)) in
       rw (← p .1)
       (record {
-        leaves = head-leaves t _ w (break-keeps c neighbour t w) (number t) (requestId t) c (number-fits t w) (request-fits t w)
+        leaves = head-leaves t _ w (break-keeps (isThrough c neighbour) c (through-acts c neighbour) t w) (number t) (requestId t) c (number-fits t w) (request-fits t w)
             (ltb-false (2 ^ 48 - 1) c (passed-check 3 checks (p .0)));
-        frames = errors-fit (brokenEntries t c neighbour) (entries-fit t octets c neighbour);
+        frames = errors-fit (brokenEntries (isThrough c neighbour) t) (entries-fit t octets (isThrough c neighbour));
       })
 
   pub call-kept : (call : Call) → OperandsFit call → (e : Effect) → outcome t room call ≡ accepted e → Kept t e

@@ -10,9 +10,9 @@ use Rattle.table.specs.Row.{headWith, headOk, isFree, isUnnumbered, isOther, st
 use Rattle.table.specs.Places.{first, count, every}
 use Rattle.table.specs.Table.{vacant, holds, findRow, rowFor, activeNext, freeRows, firstFree, alone, isTable, fresh, placeFor, store, freed, changeBelow, changeWhere}
 use Rattle.element.specs.Layout.{known, kindWith, fits}
-use Rattle.element.specs.Entries.{each, numberedAt, numberedOctets, targetAt, targetOctets, itemAt}
+use Rattle.element.specs.Entries.{each, lostAt, lostOctets, numberedAt, numberedOctets, targetAt, targetOctets, itemAt}
 use Rattle.element.specs.Octets.{wrongLength, otherId, misfit, readAs, readElement, fixedOctets, writeElement, writeFrame}
-use Rattle.element.specs.Lists.{entriesIn, addressesFrom, allowed, anyForbidden, among, twice, onesBesideOthers}
+use Rattle.element.specs.Lists.{addressesFrom, allowed, anyForbidden, among, twice, onesBesideOthers}
 use Rattle.rules.specs.Lists.{any, all, those}
 use Rattle.element.specs.Flags.{bit, withDO}
 use Rattle.rules.specs.Outcome.{frameOctets, atExit}
@@ -36,8 +36,8 @@ unfolding flatMap numberOctets numberAt over withNumber fieldsAt withFields fiel
     individual sized headAt putHead allZero rowAt putRow headWith headOk isFree isUnnumbered isOther statusOk boundsOk isHeld rowOk
     active renewed numbered invalidated raised first count every vacant holds findRow rowFor activeNext freeRows firstFree alone
     isTable fresh placeFor store freed changeBelow changeWhere
-    known kindWith fits each numberedAt numberedOctets targetAt targetOctets itemAt wrongLength otherId misfit readAs readElement
-    fixedOctets writeElement writeFrame entriesIn addressesFrom allowed anyForbidden among twice onesBesideOthers
+    known kindWith fits each lostAt lostOctets numberedAt numberedOctets targetAt targetOctets itemAt wrongLength otherId misfit
+    readAs readElement fixedOctets writeElement writeFrame addressesFrom allowed anyForbidden among twice onesBesideOthers
     any all those bit withDO frameOctets atExit makeFresh forget nextHop
     expiryOf subjectRow transmitterRow takesLink subjectLearnt transmitterLearnt learnt
     reply answeredNumber answersFor forOneself forAllOnes forAnother answered allAnswered

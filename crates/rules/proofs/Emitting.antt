@@ -15,6 +15,7 @@ use Rattle.table.specs.declared.row.Row.{Row}
 use Rattle.table.specs.Address.{same}
 use Rattle.table.specs.Row.{active}
 use Rattle.table.specs.Table.{own, rowFor, activeNext}
+use Rattle.element.specs.declared.LostDestination.{LostDestination}
 use Rattle.element.specs.declared.NumberedAddress.{NumberedAddress}
 use Rattle.element.specs.declared.PathInfo.{PathInfo}
 use Rattle.element.specs.declared.RreqFields.{RreqFields}
@@ -29,7 +30,7 @@ use Rattle.rules.specs.Outcome.{Frame}
 use Rattle.rules.specs.declared.Arrival.{Arrival}
 use Rattle.rules.specs.Destinations.{Answered, ownReply, rowReply, answeredNumber, answersFor, forOneself, forAllOnes, forAnother, answered, allAnswered}
 use Rattle.rules.specs.Onward.{onward, sentTo, toAll, ifTtlLeft, rannOnward, rreqOnward, rrepOnward}
-use Rattle.rules.specs.Errors.{errorAt, errorsFor}
+use Rattle.rules.specs.Errors.{errorAt, errorsTaken, errorsFor}
 use Rattle.rules.proofs.Branches.{cond-cases}
 use Rattle.rules.proofs.Alls.{all-append, all-between}
 
@@ -136,11 +137,11 @@ module _ (Q : Element → Type 0) where
 
   -- ---- the errors of a break
 
-  pub errors-emitted : (entries : List NumberedAddress) → ((i : ℕ) → i < (length entries + 24) / 25 → Q (errorAt entries i .element))
-      → Emits Q ((length entries + 24) / 25) (errorsFor entries)
+  pub errors-emitted : (entries : List LostDestination) → ((i : ℕ) → i < errorsTaken (length entries) → Q (errorAt entries i .element))
+      → Emits Q (errorsTaken (length entries)) (errorsFor entries)
   unfolding errorsFor
   errors-emitted entries h =
-      let n : ℕ = (length entries + 24) / 25 in
+      let n : ℕ = errorsTaken (length entries) in
       record {
         each = all-between (λ (f : Frame). Q (f .element)) (errorAt entries) 0 n (λ k _ l. h k (omega (arith, l)));
         few = omega (arith, each-length (errorAt entries) 0 n);

@@ -18,9 +18,9 @@ use Rattle.table.specs.Table.{own, changeWhere}
 use Rattle.table.proofs.Changes.{KeepsRows, change-length, change-head, change-octets, change-legal}
 use Rattle.table.proofs.HeadAndRows.{FitRow}
 use Rattle.table.proofs.HeldRows.{Held, held-says, held-is, invalid-fits, raised-fits, invalid-held, raised-held}
-use Rattle.element.specs.declared.NumberedAddress.{NumberedAddress}
+use Rattle.element.specs.declared.LostDestination.{LostDestination}
 use Rattle.element.specs.Entries.{All}
-use Rattle.element.proofs.ListParts.{FitsNumbered}
+use Rattle.element.proofs.ListParts.{FitsLost}
 use Rattle.rules.specs.Lists.{isThere}
 use Rattle.rules.specs.Errors.{isLostBy, numberBeside, isMatch, erredWith, erred, broken}
 use Rattle.rules.proofs.Branches.{cond-cases}
@@ -96,20 +96,21 @@ broken-loses : (r : Row) → Lost r (broken r)
 unfolding broken
 broken-loses r = cond-cases (Lost r) (eqb (r .known) 1) (λ k. higher _ (next-fits (r .number)) k refl) (λ _. invalid refl)
 
-through-acts : (c : ℕ) (hop : Address) (r : Row) → isThrough c hop r ≡ true → active c r ≡ true
+pub through-acts : (c : ℕ) (hop : Address) (r : Row) → isThrough c hop r ≡ true → active c r ≡ true
 unfolding isThrough
 through-acts c hop r e = and-eq-true-iff (active c r) (same (r .next) hop) .0 e .0
 
-module _ (c : ℕ) (neighbour : Address) where
-  pub break-keeps-rows : KeepsRows (isThrough c neighbour) broken
-  break-keeps-rows = lost-keeps-rows (isThrough c neighbour) broken c (through-acts c neighbour) (λ r _. broken-loses r)
+-- a break of active rows, whichever
+module _ (test : Row → Bool) (c : ℕ) (acts : (r : Row) → test r ≡ true → active c r ≡ true) where
+  pub break-keeps-rows : KeepsRows test broken
+  break-keeps-rows = lost-keeps-rows test broken c acts (λ r _. broken-loses r)
 
-  pub break-keeps : (t : List ℕ) → Whole t → Keeps t (changeWhere (isThrough c neighbour) broken t)
-  break-keeps = lost-keeps (isThrough c neighbour) broken c (through-acts c neighbour) (λ r _. broken-loses r)
+  pub break-keeps : (t : List ℕ) → Whole t → Keeps t (changeWhere test broken t)
+  break-keeps = lost-keeps test broken c acts (λ r _. broken-loses r)
 
 -- ---- a received error, whose entries fit their octets
 
-beside-fits : (d : Address) (named : List NumberedAddress) → All FitsNumbered named → (n : SequenceNumber) → numberBeside d named ≡ some n → n .0 < 256 ^ 4
+beside-fits : (d : Address) (named : List LostDestination) → All FitsLost named → (n : SequenceNumber) → numberBeside d named ≡ some n → n .0 < 256 ^ 4
 unfolding numberBeside All FitFields
 beside-fits d [] f n = λ e. absurd (Option·none-ne-some n e)
 beside-fits d (m ∷ named) f n =
@@ -117,7 +118,7 @@ beside-fits d (m ∷ named) f n =
     (λ _ e. subst (λ (k : SequenceNumber). k .0 < 256 ^ 4) (Option·some-injective (m .number) n e) (f .0 .1 .0))
     (λ _. beside-fits d named (f .1) n)
 
-module _ (c : ℕ) (transmitter : Address) (named : List NumberedAddress) (fit : All FitsNumbered named) where
+module _ (c : ℕ) (transmitter : Address) (named : List LostDestination) (fit : All FitsLost named) where
   erred-with-loses : (r : Row) → eqb (r .known) 1 ≡ true → (o : Option SequenceNumber) → numberBeside (r .destination) named ≡ o → Lost r (erredWith o r)
   unfolding erredWith
   erred-with-loses r k none e = unchanged refl

@@ -13,11 +13,11 @@ use Rattle.table.specs.declared.row.Row.{Row}
 use Rattle.table.specs.Address.{same}
 use Rattle.table.specs.Table.{rowFor}
 use Rattle.table.proofs.Lookup.{row-destination}
-use Rattle.element.specs.declared.NumberedAddress.{NumberedAddress}
+use Rattle.element.specs.declared.LostDestination.{LostDestination}
 use Rattle.element.specs.Entries.{All}
 use Rattle.element.specs.Lists.{among, twice}
 use Rattle.rules.specs.Errors.{isLostBy, matches, numberBeside, isMatch, erredWith, erred}
-use Rattle.rules.specs.Receive.{numberedAddresses}
+use Rattle.rules.specs.Receive.{lostAddresses}
 use Rattle.rules.proofs.Alls.{all-implies}
 
 -- the first of two tests that both fail, and the second
@@ -31,19 +31,19 @@ second-fails true false e = refl
 second-fails true true e = e
 
 -- an address that is not among those of a list is none of them
-apart : (d : Address) (named : List NumberedAddress) → among d (numberedAddresses named) ≡ false → All (λ (m : NumberedAddress). same (m .address) d ≡ false) named
+apart : (d : Address) (named : List LostDestination) → among d (lostAddresses named) ≡ false → All (λ (m : LostDestination). same (m .address) d ≡ false) named
 unfolding among All
 apart d [] e = tt
 apart d (m ∷ named) e = (
-  first-fails (same (m .address) d) (among d (numberedAddresses named)) e,
-  apart d named (second-fails (same (m .address) d) (among d (numberedAddresses named)) e),
+  first-fails (same (m .address) d) (among d (lostAddresses named)) e,
+  apart d named (second-fails (same (m .address) d) (among d (lostAddresses named)) e),
 )
 
 -- the number beside a destination that is named once
-module _ (m : NumberedAddress) (named : List NumberedAddress) where
-  beside-others : (l : List NumberedAddress) → All (λ (k : NumberedAddress). same (k .address) (m .address) ≡ false) l
-      → All (λ (k : NumberedAddress). numberBeside (k .address) named ≡ some (k .number)) l
-      → All (λ (k : NumberedAddress). numberBeside (k .address) (m ∷ named) ≡ some (k .number)) l
+module _ (m : LostDestination) (named : List LostDestination) where
+  beside-others : (l : List LostDestination) → All (λ (k : LostDestination). same (k .address) (m .address) ≡ false) l
+      → All (λ (k : LostDestination). numberBeside (k .address) named ≡ some (k .number)) l
+      → All (λ (k : LostDestination). numberBeside (k .address) (m ∷ named) ≡ some (k .number)) l
   unfolding All numberBeside
   beside-others [] others rest = tt
   beside-others (k ∷ l) others rest = (
@@ -51,17 +51,17 @@ module _ (m : NumberedAddress) (named : List NumberedAddress) where
     beside-others l (others .1) (rest .1),
   )
 
-beside-each : (named : List NumberedAddress) → twice (numberedAddresses named) ≡ false
-    → All (λ (m : NumberedAddress). numberBeside (m .address) named ≡ some (m .number)) named
+beside-each : (named : List LostDestination) → twice (lostAddresses named) ≡ false
+    → All (λ (m : LostDestination). numberBeside (m .address) named ≡ some (m .number)) named
 unfolding All numberBeside twice
 beside-each [] e = tt
 beside-each (m ∷ named) e =
-    let once = first-fails (among (m .address) (numberedAddresses named)) (twice (numberedAddresses named)) e in
-    let rest = beside-each named (second-fails (among (m .address) (numberedAddresses named)) (twice (numberedAddresses named)) e) in
+    let once = first-fails (among (m .address) (lostAddresses named)) (twice (lostAddresses named)) e in
+    let rest = beside-each named (second-fails (among (m .address) (lostAddresses named)) (twice (lostAddresses named)) e) in
     (rw (eq-eqb (m .address .0) (m .address .0) refl), beside-others m named named (apart (m .address) named once) rest)
 
 -- the row of a destination that is named, with the number beside it
-module _ (t : List ℕ) (c : ℕ) (transmitter : Address) (named : List NumberedAddress) (m : NumberedAddress) (b : numberBeside (m .address) named ≡ some (m .number))
+module _ (t : List ℕ) (c : ℕ) (transmitter : Address) (named : List LostDestination) (m : LostDestination) (b : numberBeside (m .address) named ≡ some (m .number))
     (r : Row) (f : rowFor t (m .address) ≡ some r) where
   beside : numberBeside (r .destination) named ≡ some (m .number)
   beside = ap (λ (d : Address). numberBeside d named) (row-destination t (m .address) r f) ∙ b
@@ -75,12 +75,12 @@ module _ (t : List ℕ) (c : ℕ) (transmitter : Address) (named : List Numbered
   changed = ap (λ (o : Option SequenceNumber). erredWith o r) beside
 
 -- each destination that is named is a match exactly if its row is changed, and its row is changed by the number beside it
-pub record AsMatched (t : List ℕ) (c : ℕ) (transmitter : Address) (named : List NumberedAddress) (m : NumberedAddress) : Type 0 where
+pub record AsMatched (t : List ℕ) (c : ℕ) (transmitter : Address) (named : List LostDestination) (m : LostDestination) : Type 0 where
   pub test : (r : Row) → rowFor t (m .address) ≡ some r → isMatch c transmitter named r ≡ matches t c transmitter m
   pub change : (r : Row) → rowFor t (m .address) ≡ some r → erred named r ≡ erredWith (some (m .number)) r
 
-pub matched-alike : (t : List ℕ) (c : ℕ) (transmitter : Address) (named : List NumberedAddress) → twice (numberedAddresses named) ≡ false
+pub matched-alike : (t : List ℕ) (c : ℕ) (transmitter : Address) (named : List LostDestination) → twice (lostAddresses named) ≡ false
     → All (AsMatched t c transmitter named) named
 matched-alike t c transmitter named e =
-    all-implies (λ (m : NumberedAddress). numberBeside (m .address) named ≡ some (m .number)) (AsMatched t c transmitter named)
+    all-implies (λ (m : LostDestination). numberBeside (m .address) named ≡ some (m .number)) (AsMatched t c transmitter named)
     (λ m b. record { test = tested t c transmitter named m b; change = changed t c transmitter named m b }) named (beside-each named e)

@@ -1,7 +1,7 @@
 -- The frames of an accepted call take at most 1,560 octets: an output that passes refusal 2 has room for them. Assumes nothing.
 use Prim.Native.Nat.{ℕ, _+_, _*_, _≤_}
 use mathlib.Core.Path.{_≡_, refl, ap, subst}
-use mathlib.Core.Bool.{true, and-eq-true-iff}
+use mathlib.Core.Bool.{Bool, true, and-eq-true-iff}
 use mathlib.Core.List.{List, [], _∷_, flatMap}
 use lib.Dec.{leb}
 use lib.ListN.{length, length-append}
@@ -14,7 +14,7 @@ use Rattle.table.specs.declared.row.Row.{Row}
 use Rattle.table.specs.Layout.{sized, rows, rowAt}
 use Rattle.table.specs.Table.{number}
 use Rattle.table.proofs.Cases.{of-size}
-use Rattle.element.specs.declared.NumberedAddress.{NumberedAddress}
+use Rattle.element.specs.declared.LostDestination.{LostDestination}
 use Rattle.element.specs.declared.Kind.{Kind}
 use Rattle.element.specs.declared.Kind.the-variants.{Rann, Rreq, Rrep, Rerr}
 use Rattle.element.specs.Layout.{lengthWith}
@@ -81,22 +81,21 @@ fitting-frames frames fit =
 
 -- ---- at most 128 entries in the errors of a break, so at most six errors
 
-pub entry-one : (c : ℕ) (neighbour : Address) (r : Row) → length (brokenEntry c neighbour r) ≤ 1
+pub entry-one : (test : Row → Bool) (r : Row) → length (brokenEntry test r) ≤ 1
 unfolding brokenEntry
-entry-one c neighbour r =
-    cond-cases (λ (l : List NumberedAddress). length l ≤ 1) (isThrough c neighbour r) (λ _. omega arith) (λ _. omega arith)
+entry-one test r = cond-cases (λ (l : List LostDestination). length l ≤ 1) (test r) (λ _. omega arith) (λ _. omega arith)
 
-pub entries-few : (c : ℕ) (neighbour : Address) (l : List Row) → length (flatMap (brokenEntry c neighbour) l) ≤ length l
-entries-few c neighbour = flat-fewer (brokenEntry c neighbour) (entry-one c neighbour)
+pub entries-few : (test : Row → Bool) (l : List Row) → length (flatMap (brokenEntry test) l) ≤ length l
+entries-few test = flat-fewer (brokenEntry test) (entry-one test)
 
 rows-few : (t : List ℕ) → sized t ≡ true → rows t ≤ 128
 rows-few t e = omega (arith, of-size t (sized t) refl e .not-longer)
 
-entries-128 : (t : List ℕ) → sized t ≡ true → (c : ℕ) (neighbour : Address) → length (brokenEntries t c neighbour) ≤ 128
+entries-128 : (t : List ℕ) → sized t ≡ true → (test : Row → Bool) → length (brokenEntries test t) ≤ 128
 unfolding brokenEntries
-entries-128 t size c neighbour =
+entries-128 t size test =
     let l : List Row = each (rowAt t) 0 (rows t) in
-    omega (arith, entries-few c neighbour l, each-length (rowAt t) 0 (rows t), rows-few t size)
+    omega (arith, entries-few test l, each-length (rowAt t) 0 (rows t), rows-few t size)
 
 -- ---- every call
 
@@ -113,7 +112,7 @@ module _ (t : List ℕ) (octets : Octets t) (room : ℕ) where
   unfolding received rannReceived rrepReceived rerrReceived rreqReceived reply
   received-room a (rann p) ok fit = few-frames 1 (omega arith) _ (rann-emitted Anything a p tt .few) fit
   received-room a (rrep f dependents) ok fit = few-frames 1 (omega arith) _ (rrep-emitted Anything (learnt a (f .path) t) a f dependents tt .few) fit
-  received-room a (rerr flags destinations) ok fit = few-frames 1 (omega arith) _ (omega arith) fit
+  received-room a (rerr f destinations) ok fit = few-frames 1 (omega arith) _ (omega arith) fit
   received-room a (rreq f targets) ok fit =
       let u : List ℕ = learnt a (f .path) t in
       let done : Answered = allAnswered u a (f .path) (number t) targets in
@@ -156,6 +155,6 @@ module _ (t : List ℕ) (octets : Octets t) (room : ℕ) where
   call-room (makes (breaks c neighbour)) fit e is =
       let p = passed (breaking t room c neighbour) e is in
       let size = not-false (sized t) (passed-check 1 (breaking t room c neighbour .checks) (p .0)) in
-      let entries : List NumberedAddress = brokenEntries t c neighbour in
+      let entries : List LostDestination = brokenEntries (isThrough c neighbour) t in
       let errors = errors-emitted Anything entries (λ _ _. tt) .few in
-      call-few 6 (omega arith) (makes (breaks c neighbour)) fit e _ is (p .1) (omega (arith, errors, entries-128 t size c neighbour))
+      call-few 6 (omega arith) (makes (breaks c neighbour)) fit e _ is (p .1) (omega (arith, errors, entries-128 t size (isThrough c neighbour)))

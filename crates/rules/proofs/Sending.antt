@@ -1,7 +1,7 @@
 -- Every element that a call emits fits its octets and has as many entries as it may have. Assumes nothing.
 use Prim.Native.Nat.{ℕ, _+_, _-_, _*_, _/_, _^_, _<_, _≤_}
 use mathlib.Core.Path.{_≡_, refl}
-use mathlib.Core.Bool.{true}
+use mathlib.Core.Bool.{Bool, true}
 use mathlib.Core.List.{List, [], _∷_}
 use mathlib.Core.Option.{Option, none, some}
 use lib.Dec.{eqb, leb}
@@ -22,15 +22,17 @@ use Rattle.table.specs.Layout.{rows, rowAt}
 use Rattle.table.specs.Table.{own, rowFor}
 use Rattle.table.proofs.HeadAndRows.{FitRow, row-fits}
 use Rattle.table.proofs.Lookup.{row-fits-its-octets}
+use Rattle.element.specs.declared.LostDestination.{LostDestination}
 use Rattle.element.specs.declared.NumberedAddress.{NumberedAddress}
 use Rattle.element.specs.declared.PathInfo.{PathInfo}
 use Rattle.element.specs.declared.RreqFields.{RreqFields}
 use Rattle.element.specs.declared.RrepFields.{RrepFields}
+use Rattle.element.specs.declared.RerrFields.{RerrFields}
 use Rattle.element.specs.declared.Target.{Target}
 use Rattle.element.specs.Element.{rann, rreq, rrep, rerr}
 use Rattle.element.specs.Lists.{allOnes}
 use Rattle.element.specs.Entries.{each, All}
-use Rattle.element.proofs.ListParts.{FitsTarget, FitsNumbered}
+use Rattle.element.proofs.ListParts.{FitsTarget, FitsNumbered, FitsLost}
 use Rattle.element.proofs.ReadBack.{Fits, all-each}
 use Rattle.element.specs.Flags.{replyWanted, hasRF, withDO}
 use Rattle.rules.specs.Outcome.{Frame}
@@ -38,7 +40,7 @@ use Rattle.rules.specs.declared.Arrival.{Arrival}
 use Rattle.rules.specs.Learn.{metricHere}
 use Rattle.rules.specs.Destinations.{Answered, rowReply, reply, answeredNumber, answersFor, forOneself, forAllOnes, forAnother, answered, allAnswered, keptAfterReply}
 use Rattle.rules.specs.Onward.{onward, rannOnward, rreqOnward, rrepOnward}
-use Rattle.rules.specs.Errors.{broken, brokenEntry, brokenEntries, errorAt, errorsFor}
+use Rattle.rules.specs.Errors.{broken, brokenEntry, brokenEntries, ownError, errorAt, errorsTaken, errorsFor}
 use Rattle.rules.proofs.Branches.{cond-cases}
 use Rattle.rules.proofs.Alls.{all-one, all-append, all-take, all-drop, all-flat-map}
 use Rattle.rules.proofs.Tables.{Whole, own-fits}
@@ -71,19 +73,19 @@ rreq-fits f targets i p entries one few =
     }
 
 rrep-fits : (f : RrepFields) (dependents : List NumberedAddress) → PathFits (f .path) → FitsNumbered (f .source) → All FitsNumbered dependents
-    → leb (length dependents) 22 ≡ true → Fits (rrep f dependents)
+    → length dependents ≤ 22 → Fits (rrep f dependents)
 unfolding FitFields
 rrep-fits f dependents p source entries few =
     record {
       fields = (p .flags, (p .hops, (p .ttl, (p .subject, (p .number, (p .lifetime, (p .metric, (source .0, (source .1 .0, tt)))))))));
       entries = entries;
-      count = few;
+      count = rw (le-leb 0 (length dependents) (omega arith), le-leb (length dependents) 22 few);
     }
 
-pub rerr-fits : (flags : ℕ) (entries : List NumberedAddress) → flags < 256 ^ 1 → All FitsNumbered entries → 1 ≤ length entries → length entries ≤ 25
-    → Fits (rerr flags entries)
+pub rerr-fits : (g : RerrFields) (entries : List LostDestination) → g .flags < 256 ^ 1 → All FitsLost entries → 1 ≤ length entries → length entries ≤ 25
+    → Fits (rerr g entries)
 unfolding FitFields
-rerr-fits flags entries f fit one few =
+rerr-fits g entries f fit one few =
     record { fields = (f, tt); entries = fit; count = rw (le-leb 1 (length entries) one, le-leb (length entries) 25 few) }
 
 -- ---- what goes on
@@ -115,7 +117,7 @@ module _ (a : Arrival) (f : RreqFields) (request : f .request .0 < 256 ^ 4) (fit
 module _ (a : Arrival) (f : RrepFields) (fits : PathFits (f .path)) (hops : f .path .hops .0 < 255)
     (metric : metricHere a (f .path) .0 ≤ 2 ^ 32 - 2) where
   pub rrep-onward-fits : (t : List ℕ) (dependents : List NumberedAddress) → FitsNumbered (f .source) → All FitsNumbered dependents
-      → leb (length dependents) 22 ≡ true → FramesFit (rrepOnward t a f dependents)
+      → length dependents ≤ 22 → FramesFit (rrepOnward t a f dependents)
   rrep-onward-fits t dependents source fit few =
       rrep-emitted Fits t a f dependents (rrep-fits _ dependents (onward-fits a (f .path) fits hops metric) source fit few) .each
 
@@ -129,7 +131,7 @@ module _ (t : List ℕ) (w : Whole t) (a : Arrival) (p : PathInfo) (f : PathFits
   reply-fits d n hops metric d-fits n-fits hops-fit metric-fits =
       rrep-fits _ []
       (record { flags = omega arith; hops = hops-fit; ttl = omega arith; subject = d-fits; number = n-fits; lifetime = f .lifetime; metric = metric-fits })
-      (f .subject, (f .number, tt)) tt refl
+      (f .subject, (f .number, tt)) tt (omega arith)
 
   row-reply-fits : (r : Row) → FitRow r → Fits (rowReply a p r .element)
   unfolding FitRow FitFields
@@ -202,25 +204,25 @@ unfolding broken raised invalidated FitRow FitFields
 broken-number-fits r f =
     cond-cases (λ (q : Row). q .number .0 < 256 ^ 4) (eqb (r .known) 1) (λ _. next-fits (r .number)) (λ _. f .1 .1 .1 .1 .1 .1 .0)
 
-module _ (t : List ℕ) (o : Octets t) (c : ℕ) (neighbour : Address) where
-  entry-fits : (r : Row) → FitRow r → All FitsNumbered (brokenEntry c neighbour r)
+module _ (t : List ℕ) (o : Octets t) (test : Row → Bool) where
+  entry-fits : (r : Row) → FitRow r → All FitsLost (brokenEntry test r)
   unfolding brokenEntry All FitFields FitRow
   entry-fits r f =
-      cond-cases (All FitsNumbered) (isThrough c neighbour r) (λ _. ((f .1 .1 .1 .1 .0, (broken-number-fits r f, tt)), tt)) (λ _. tt)
+      cond-cases (All FitsLost) (test r) (λ _. ((f .1 .1 .1 .1 .0, (broken-number-fits r f, tt)), tt)) (λ _. tt)
 
-  pub entries-fit : All FitsNumbered (brokenEntries t c neighbour)
+  pub entries-fit : All FitsLost (brokenEntries test t)
   unfolding brokenEntries
   entries-fit =
-      all-flat-map FitsNumbered FitRow (brokenEntry c neighbour) entry-fits (each (rowAt t) 0 (rows t))
+      all-flat-map FitsLost FitRow (brokenEntry test) entry-fits (each (rowAt t) 0 (rows t))
       (all-each FitRow (rowAt t) (λ i. row-fits t i o) 0 (rows t))
 
-error-at-fits : (entries : List NumberedAddress) → All FitsNumbered entries → (i : ℕ) → i < (length entries + 24) / 25 → Fits (errorAt entries i .element)
+error-at-fits : (entries : List LostDestination) → All FitsLost entries → (i : ℕ) → i < errorsTaken (length entries) → Fits (errorAt entries i .element)
 unfolding errorAt
 error-at-fits entries fit i l =
-    let part : List NumberedAddress = drop (25 * i) entries in
+    let part : List LostDestination = drop (25 * i) entries in
     let long : length part ≡ length entries - 25 * i = length-drop (25 * i) entries in
-    rerr-fits 0 (take 25 part) (omega arith) (all-take FitsNumbered 25 part (all-drop FitsNumbered (25 * i) entries fit))
+    rerr-fits ownError (take 25 part) (omega arith) (all-take FitsLost 25 part (all-drop FitsLost (25 * i) entries fit))
     (omega (arith, long, length-take 25 part)) (omega (arith, length-take 25 part))
 
-pub errors-fit : (entries : List NumberedAddress) → All FitsNumbered entries → FramesFit (errorsFor entries)
+pub errors-fit : (entries : List LostDestination) → All FitsLost entries → FramesFit (errorsFor entries)
 errors-fit entries fit = errors-emitted Fits entries (error-at-fits entries fit) .each

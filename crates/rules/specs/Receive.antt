@@ -11,11 +11,13 @@ use Rattle.table.specs.declared.row.Row.{Row}
 use Rattle.table.specs.Address.{individual, same}
 use Rattle.table.specs.Table.{own, number, rowFor, newRows, freeRows, changeWhere}
 use Rattle.element.specs.declared.PathInfo.{PathInfo}
+use Rattle.element.specs.declared.LostDestination.{LostDestination}
 use Rattle.element.specs.declared.NumberedAddress.{NumberedAddress}
 use Rattle.element.specs.declared.Target.{Target}
 use Rattle.element.specs.declared.RreqFields.{RreqFields}
 use Rattle.element.specs.declared.RrepFields.{RrepFields}
-use Rattle.element.specs.declared.list.ListKind.the-variants.{Targets, NumberedAddresses}
+use Rattle.element.specs.declared.RerrFields.{RerrFields}
+use Rattle.element.specs.declared.list.ListKind.the-variants.{Targets, LostDestinations}
 use Rattle.element.specs.Element.{Element, rann, rreq, rrep, rerr}
 use Rattle.element.specs.Octets.{wrongLength, otherId, misfit, readElement}
 use Rattle.element.specs.Lists.{allOnes, anyForbidden, among, twice, onesBesideOthers}
@@ -37,7 +39,7 @@ abbrev pub pathOf : Element → Option PathInfo
 pathOf (rann p) = some p
 pathOf (rreq f targets) = some (f .path)
 pathOf (rrep f dependents) = some (f .path)
-pathOf (rerr flags destinations) = none
+pathOf (rerr f destinations) = none
 
 -- ---- turned away by the input
 
@@ -58,15 +60,15 @@ octetChecks octets =
 abbrev pub targetAddresses : List Target → List Address
 targetAddresses targets = map (λ (q : Target). q .address) targets
 
-abbrev pub numberedAddresses : List NumberedAddress → List Address
-numberedAddresses l = map (λ (m : NumberedAddress). m .address) l
+abbrev pub lostAddresses : List LostDestination → List Address
+lostAddresses l = map (λ (m : LostDestination). m .address) l
 
 -- 9. an originator, source or destination isn't individual; as a RREQ destination all ones is allowed too
 unfoldable pub hasBadAddress : Element → Bool
 hasBadAddress (rann p) = not (individual (p .subject))
 hasBadAddress (rreq f targets) = not (individual (f .path .subject)) || anyForbidden Targets (targetAddresses targets)
 hasBadAddress (rrep f dependents) = not (individual (f .path .subject)) || not (individual (f .source .address))
-hasBadAddress (rerr flags destinations) = anyForbidden NumberedAddresses (numberedAddresses destinations)
+hasBadAddress (rerr f destinations) = anyForbidden LostDestinations (lostAddresses destinations)
 
 -- several destinations or all ones
 unfoldable pub severalOrAll : List Address → Bool
@@ -81,14 +83,14 @@ hasBadList (rreq f targets) =
     twice addresses || onesBesideOthers addresses || among (f .path .subject) addresses
     || (unicast (f .path) && severalOrAll addresses)
 hasBadList (rrep f dependents) = same (f .path .subject) (f .source .address)
-hasBadList (rerr flags destinations) = twice (numberedAddresses destinations)
+hasBadList (rerr f destinations) = twice (lostAddresses destinations)
 
 -- 14. RREP with TTL 0 or 1
 unfoldable pub isLowTtlReply : Element → Bool
 isLowTtlReply (rann p) = false
 isLowTtlReply (rreq f targets) = false
 isLowTtlReply (rrep f dependents) = ltb (f .path .ttl) 2
-isLowTtlReply (rerr flags destinations) = false
+isLowTtlReply (rerr f destinations) = false
 
 -- of an element's own fields: 9, 10 and 14 as its type decides them, the others by its path
 unfoldable pub fieldChecks : (badAddress badList lowTtl : Bool) → Arrival → Option PathInfo → List Check
@@ -117,7 +119,7 @@ unfoldable pub matchesNothing : List ℕ → Arrival → Element → Bool
 matchesNothing t a (rann p) = false
 matchesNothing t a (rreq f targets) = false
 matchesNothing t a (rrep f dependents) = false
-matchesNothing t a (rerr flags destinations) = not (any (matches t (a .clock) (a .transmitter)) destinations)
+matchesNothing t a (rerr f destinations) = not (any (matches t (a .clock) (a .transmitter)) destinations)
 
 -- 27. new rows needed: the originator's (for RREP: destination's), and the transmitter's if that is a different address
 unfoldable pub rowsNeeded : List ℕ → Arrival → PathInfo → ℕ
@@ -157,18 +159,18 @@ module _ (t : List ℕ) (a : Arrival) where
       }
 
   -- RERR: each match is invalidated; one RERR goes to all ones with the matches and flags as received, in that order
-  unfoldable pub rerrReceived : ℕ → List NumberedAddress → Effect
-  rerrReceived flags destinations =
+  unfoldable pub rerrReceived : RerrFields → List LostDestination → Effect
+  rerrReceived f destinations =
       record {
         table = underHead t (number t) (a .clock) (changeWhere (isMatch (a .clock) (a .transmitter) destinations) (erred destinations) t);
-        frames = toAll (rerr flags (those (matches t (a .clock) (a .transmitter)) destinations));
+        frames = toAll (rerr f (those (matches t (a .clock) (a .transmitter)) destinations));
       }
 
   unfoldable pub received : Element → Effect
   received (rann p) = rannReceived p
   received (rreq f targets) = rreqReceived f targets
   received (rrep f dependents) = rrepReceived f dependents
-  received (rerr flags destinations) = rerrReceived flags destinations
+  received (rerr f destinations) = rerrReceived f destinations
 
 -- ---- the call
 

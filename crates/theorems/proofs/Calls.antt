@@ -1,7 +1,7 @@
 -- Each accepted call is `Fine`. Assumes nothing.
 use Prim.Native.Nat.{ℕ, _^_, _<_}
 use mathlib.Core.Path.{_≡_, refl, sym, ap, subst, _∙_}
-use mathlib.Core.Bool.{Bool}
+use mathlib.Core.Bool.{Bool, true}
 use mathlib.Core.List.{List, _++_, List·Memᴰ}
 use mathlib.Core.Option.{some, Option·map}
 use mathlib.Core.Logic.{inl, inr}
@@ -9,7 +9,7 @@ use Rattle.octets.specs.LittleEndian.{Octets}
 use Rattle.table.specs.declared.address.Address.{Address}
 use Rattle.table.specs.declared.row.Head.{Head}
 use Rattle.table.specs.declared.row.Row.{Row}
-use Rattle.table.specs.Row.{headWith, isThrough}
+use Rattle.table.specs.Row.{active, headWith, isThrough}
 use Rattle.table.specs.Layout.{putHead}
 use Rattle.table.specs.Table.{own, number, rowFor, changeWhere}
 use Rattle.table.proofs.Heads.{head-found}
@@ -36,7 +36,7 @@ use Rattle.rules.proofs.Rulings.{listed, passed}
 use Rattle.rules.proofs.Alls.{all-append}
 use Rattle.rules.proofs.AsGood.{InWindow, Falls, stays, break-falls, error-falls}
 use Rattle.rules.proofs.Learning.{Heard, learnt-keeps}
-use Rattle.rules.proofs.Falling.{break-keeps-rows, error-keeps-rows}
+use Rattle.rules.proofs.Falling.{through-acts, break-keeps-rows, error-keeps-rows}
 use Rattle.rules.proofs.Emitting.{to-all-emitted, rann-emitted, rreq-emitted, rrep-emitted, errors-emitted}
 use Rattle.rules.proofs.Accepted.{Accepted, accepted-element}
 use Rattle.rules.proofs.CallsKeep.{Kept, call-kept}
@@ -91,12 +91,13 @@ module _ (d : Address) (base : ℕ) (small : base < 2 ^ 32) (log : List Sent) (t
       falls-or-stays : (r : Row) → InWindow base r → InWindow base (changed p f r) → Falls base small r (changed p f r)
       falls-or-stays r near = by-test p f (λ (q : Row). InWindow base q → Falls base small r q) r (λ _. stays refl) (λ _. fall r near)
 
-  break-sound : (c : ℕ) (neighbour : Address) → Near base (rowFor (brokenOff t c neighbour .table) d)
-      → Sound d base log t (brokenOff t c neighbour)
+  -- a break of active rows, whichever
+  break-sound : (c : ℕ) (test : Row → Bool) → ((r : Row) → test r ≡ true → active c r ≡ true)
+      → Near base (rowFor (brokenOff t c test .table) d) → Sound d base log t (brokenOff t c test)
   unfolding brokenOff errorAt
-  break-sound c neighbour =
-      fallen-sound (isThrough c neighbour) broken (break-keeps-rows c neighbour) (break-falls base small) _ _
-      (errors-emitted (λ (x : Element). Backed d base (own t) _ (pathOf x)) (brokenEntries t c neighbour) (λ i l. backed-none) .each)
+  break-sound c test acts =
+      fallen-sound test broken (break-keeps-rows test c acts) (break-falls base small) _ _
+      (errors-emitted (λ (x : Element). Backed d base (own t) _ (pathOf x)) (brokenEntries test t) (λ i l. backed-none) .each)
 
   -- ---- an element from the log
 
@@ -161,7 +162,7 @@ module _ (d : Address) (base : ℕ) (small : base < 2 ^ 32) (log : List Sent) (t
     received-sound (rann p) is ok = rann-sound p (ap pathOf is) (ok .heard p refl)
     received-sound (rreq f targets) is ok = rreq-sound f targets (ap pathOf is) (ok .heard (f .path) refl)
     received-sound (rrep f dependents) is ok = rrep-sound f dependents (ap pathOf is) (ok .heard (f .path) refl)
-    received-sound (rerr flags destinations) is ok =
+    received-sound (rerr g destinations) is ok =
         fallen-sound (isMatch (a .clock) (a .transmitter) destinations) (erred destinations)
         (error-keeps-rows (a .clock) (a .transmitter) destinations (ok .fits .entries)) (error-falls base small destinations) _ _
         (to-all-emitted (λ (x : Element). Backed d base (own t) _ (pathOf x)) _ backed-none .each)
@@ -188,7 +189,7 @@ module _ (d : Address) (base : ℕ) (small : base < 2 ^ 32) (log : List Sent) (t
         (λ _. requested-sound d base log t _ _ _)
     call-sound (makes (breaks c neighbour)) fit from e is =
         subst (λ (x : Effect). Near base (rowFor (x .table) d) → Sound d base log t x) (passed (breaking t room c neighbour) e is .1)
-        (break-sound c neighbour)
+        (break-sound c (isThrough c neighbour) (through-acts c neighbour))
 
     pub call-fine : (call : Call) → OperandsFit call → FromLog log call → (e : Effect) → outcome t room call ≡ accepted e → Fine d base log t e
     call-fine call fit from e is =

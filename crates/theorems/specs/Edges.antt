@@ -14,7 +14,7 @@ use Rattle.table.specs.Layout.{putRow}
 use Rattle.table.specs.Row.{freeRow}
 use Rattle.table.specs.Places.{every}
 use Rattle.table.specs.Table.{number, rowFor, holds, fresh}
-use Rattle.element.specs.declared.NumberedAddress.{NumberedAddress}
+use Rattle.element.specs.declared.LostDestination.{LostDestination}
 use Rattle.element.specs.declared.PathInfo.{PathInfo}
 use Rattle.element.specs.declared.Target.{Target}
 use Rattle.element.specs.Element.{Element, rann, rreq, rrep, rerr, countOf}
@@ -23,6 +23,7 @@ use Rattle.element.specs.Octets.{wrongLength, otherId, misfit, writeElement}
 use Rattle.rules.specs.Decision.{Decision, refused, accepted}
 use Rattle.rules.specs.Lists.{all, has}
 use Rattle.rules.specs.Outcome.{Frame, Effect}
+use Rattle.rules.specs.Errors.{ownError}
 use Rattle.rules.specs.Receive.{receive}
 use Rattle.rules.specs.Break.{breakNeighbour}
 
@@ -106,11 +107,11 @@ abbrev requestFor : ℕ → List ℕ
 requestFor n = request (each (λ i. target (other i) 0) 0 n)
 
 -- a RERR that names d with number n
-abbrev lost : Address → ℕ → NumberedAddress
+abbrev lost : Address → ℕ → LostDestination
 lost d n = record { address = d; number = record { 0 = n } }
 
-abbrev error : List NumberedAddress → List ℕ
-error destinations = writeElement (rerr 0 destinations)
+abbrev error : List LostDestination → List ℕ
+error destinations = writeElement (rerr ownError destinations)
 
 -- ---- a call
 
@@ -147,7 +148,7 @@ abbrev isReply : ℕ → Element → Bool
 isReply n (rann p) = false
 isReply n (rreq f targets) = false
 isReply n (rrep f dependents) = same (f .path .subject) point && eqb (f .path .number .0) n
-isReply n (rerr flags destinations) = false
+isReply n (rerr f destinations) = false
 
 -- the first frame has such a reply
 abbrev firstIsReply : ℕ → List Frame → Bool

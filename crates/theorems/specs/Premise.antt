@@ -12,6 +12,7 @@ use Rattle.table.specs.declared.row.Row.{Row}
 use Rattle.table.specs.Address.{same}
 use Rattle.table.specs.Table.{own, number, rowFor}
 use Rattle.element.specs.declared.PathInfo.{PathInfo}
+use Rattle.element.specs.declared.LostDestination.{LostDestination}
 use Rattle.element.specs.declared.NumberedAddress.{NumberedAddress}
 use Rattle.element.specs.declared.Target.{Target}
 use Rattle.element.specs.Element.{Element, rann, rreq, rrep, rerr}
@@ -40,16 +41,20 @@ pathNumber d p = beside d (p .subject) (p .number)
 abbrev pub targetNumber : Address → Target → List SequenceNumber
 targetNumber d q = beside d (q .address) (q .number)
 
--- of a RREP's source or dependent, or a RERR's destination
+-- of a RREP's source or dependent
 abbrev pub entryNumber : Address → NumberedAddress → List SequenceNumber
 entryNumber d m = beside d (m .address) (m .number)
+
+-- of a RERR's destination
+abbrev pub lostNumber : Address → LostDestination → List SequenceNumber
+lostNumber d m = beside d (m .address) (m .number)
 
 -- all numbers that an element carries beside the address d
 unfoldable pub carried : Address → Element → List SequenceNumber
 carried d (rann p) = pathNumber d p
 carried d (rreq f targets) = pathNumber d (f .path) ++ flatMap (targetNumber d) targets
 carried d (rrep f dependents) = pathNumber d (f .path) ++ entryNumber d (f .source) ++ flatMap (entryNumber d) dependents
-carried d (rerr flags destinations) = flatMap (entryNumber d) destinations
+carried d (rerr f destinations) = flatMap (lostNumber d) destinations
 
 -- all numbers for d, held in a table or carried in an element sent so far
 unfoldable pub numbersFor : Address → Mesh → List SequenceNumber

@@ -54,7 +54,7 @@ with25 stale = ruledBy (receivingBy stale) breaking
 abbrev pub breakingBy : (Row → Row) → List ℕ → ℕ → ℕ → Address → Ruling Effect
 breakingBy f t room c neighbour =
     let u : List ℕ = changeWhere (isThrough c neighbour) f t in
-    withOutcome (record { table = underHead t (number t) c u; frames = brokenOff t c neighbour .frames }) (breaking t room c neighbour)
+    withOutcome (record { table = underHead t (number t) c u; frames = brokenOff t c (isThrough c neighbour) .frames }) (breaking t room c neighbour)
 
 abbrev pub withBroken : (Row → Row) → Rules
 withBroken f = ruledBy receiving (breakingBy f)
@@ -68,7 +68,7 @@ abbrev pub isReply : Element → Bool
 isReply (rann p) = false
 isReply (rreq f targets) = false
 isReply (rrep f dependents) = true
-isReply (rerr flags destinations) = false
+isReply (rerr f destinations) = false
 
 -- numbers are compared as plain numbers, in refusal 25 alone
 abbrev pub comparesPlainly : Rules

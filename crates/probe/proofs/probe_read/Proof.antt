@@ -1,6 +1,6 @@
 -- `probe::probe_read` meets its contract: answer by answer of the reader. Assumes nothing.
 use borrow.Author.Needs.{needs}
-use Rattle.element.proofs.Readings.{request-short, reply-short, error-short}
+use Rattle.element.proofs.Readings.{request-part, reply-part, error-part}
 use Rattle.probe.proofs.Elements.{read-rann, read-rreq, read-rrep, read-rerr, read-refused}
 use Rattle.probe.proofs.probe_read.Statement.{statement}
 use Rattle.probe.proofs.probe_read.Tie as tie
@@ -14,13 +14,13 @@ probe-read-spec =
     (λ c κs. search needs)
     (λ c. search needs)
     (λ c κs. search needs)
-    (λ c κs. search (needs, request-short))
+    (λ c κs. search (needs, request-part))
     (λ c. search needs)
     (λ c κs. search needs)
-    (λ c κs. search (needs, reply-short))
+    (λ c κs. search (needs, reply-part))
     (λ c. search needs)
     (λ c κs. search needs)
-    (λ c κs. search (needs, error-short))
+    (λ c κs. search (needs, error-part))
     (λ c. search needs)
     (λ c. search read-rann)
     (λ c. search read-rreq)

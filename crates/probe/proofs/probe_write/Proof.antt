@@ -1,6 +1,6 @@
 -- `probe::probe_write` meets its contract: answer by answer of the reader. Assumes nothing.
 use borrow.Author.Needs.{needs}
-use Rattle.element.proofs.Readings.{request-some, request-short, request-whole, reply-short, reply-whole, error-some, error-short, error-whole}
+use Rattle.element.proofs.Readings.{request-part, reply-part, error-part}
 use Rattle.probe.proofs.Frames.{again-rann, again-rreq, again-rrep, again-rerr, again-refused}
 use Rattle.probe.proofs.probe_write.Statement.{statement}
 use Rattle.probe.proofs.probe_write.Tie as tie
@@ -15,13 +15,13 @@ probe-write-spec =
     (λ c κs. search needs)
     (λ c. search needs)
     (λ c κs. search needs)
-    (λ c κs. search (request-some, request-short, request-whole))
+    (λ c κs. search (request-part))
     (λ c. search needs)
     (λ c κs. search needs)
-    (λ c κs. search (reply-short, reply-whole))
+    (λ c κs. search (reply-part))
     (λ c. search needs)
     (λ c κs. search needs)
-    (λ c κs. search (error-some, error-short, error-whole))
+    (λ c κs. search (error-part))
     (λ c. search needs)
     (λ c. search needs)
     (λ c. search again-rann)

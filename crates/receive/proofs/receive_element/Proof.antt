@@ -1,6 +1,6 @@
 -- `receive::receive_element` meets its contract: by what is read. Assumes nothing.
 use borrow.Author.Needs.{needs}
-use Rattle.element.proofs.Readings.{request-some, request-short, reply-short, reply-whole, error-short}
+use Rattle.element.proofs.Readings.{request-part, reply-part, error-part}
 use Rattle.receive.proofs.Calling.{rann-read, rreq-read, rrep-read, rerr-read, read-refused}
 use Rattle.receive.proofs.receive_element.Statement.{statement}
 use Rattle.receive.proofs.receive_element.Tie as tie
@@ -14,13 +14,13 @@ receive-element-spec =
     (λ c κs. search needs)
     (λ c. search needs)
     (λ c κs. search needs)
-    (λ c κs. (search needs, (search needs, (search needs, (search request-some, search request-short)))))
+    (λ c κs. (search needs, (search needs, (search needs, search request-part))))
     (λ c. search needs)
     (λ c κs. search needs)
-    (λ c κs. (search needs, (search needs, (search needs, (search reply-short, search reply-whole)))))
+    (λ c κs. (search needs, (search needs, (search needs, search reply-part))))
     (λ c. search needs)
     (λ c κs. search needs)
-    (λ c κs. (search needs, (search needs, search error-short)))
+    (λ c κs. (search needs, (search needs, search error-part)))
     (λ c. search needs)
     (λ c. search needs)
     (λ c. search needs)

@@ -9,7 +9,8 @@ begin-if-full-spec =
     tie.close
     (tie.spec
     (λ c κs. search needs)
-    (λ c. search (next-there, next-same))
+    (λ c. search needs)
+    (λ c. (search next-there, search next-same))
     (λ c κs. search needs)
     (λ c. search needs)
-    (λ c. search (next-begun, next-starts)))
+    (λ c. (search next-begun, search next-starts)))

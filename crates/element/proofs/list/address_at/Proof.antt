@@ -1,6 +1,6 @@
 -- `element::list::address_at` meets its contract: kind by kind. Assumes nothing.
 use borrow.Author.Needs.{needs}
-use Rattle.element.proofs.Scans.{target-within, numbered-within, item-within, target-address, numbered-address, item-address}
+use Rattle.element.proofs.Scans.{target-within, numbered-within, lost-within, item-within, target-address, numbered-address, lost-address, item-address}
 use Rattle.element.proofs.list.address_at.Statement.{statement}
 use Rattle.element.proofs.list.address_at.Tie as tie
 
@@ -13,7 +13,10 @@ address-at-spec =
     (λ c. search needs)
     (λ c κs. search numbered-within)
     (λ c. search needs)
+    (λ c κs. search lost-within)
+    (λ c. search needs)
     (λ c κs. search item-within)
     (λ c. search target-address)
     (λ c. search numbered-address)
+    (λ c. search lost-address)
     (λ c. search item-address))

@@ -1,6 +1,6 @@
 -- `element::list::entries_in` meets its contract: kind by kind. Assumes nothing.
 use borrow.Author.Needs.{needs}
-use Rattle.element.proofs.Scans.{targets-many, numbered-many, items-many}
+use Rattle.element.proofs.Scans.{entries-many}
 use Rattle.element.proofs.list.entries_in.Statement.{statement}
 use Rattle.element.proofs.list.entries_in.Tie as tie
 
@@ -11,6 +11,8 @@ entries-in-spec =
     (λ c. search needs)
     (λ c. search needs)
     (λ c. search needs)
-    (λ c. search targets-many)
-    (λ c. search numbered-many)
-    (λ c. search items-many))
+    (λ c. search needs)
+    (λ c. search entries-many)
+    (λ c. search entries-many)
+    (λ c. search entries-many)
+    (λ c. search entries-many))

@@ -1,6 +1,6 @@
 -- `element::read::read_fixed_fields` meets its contract: type by type. Assumes nothing.
 use borrow.Author.Needs.{needs}
-use Rattle.element.proofs.Cases.{rann-there, rreq-there, rrep-there, rerr-there, rann-fields, rreq-fields, rrep-fields, rerr-flags}
+use Rattle.element.proofs.Cases.{rann-there, rreq-there, rrep-there, rerr-there, rann-fields, rreq-fields, rrep-fields, rerr-fields}
 use Rattle.element.proofs.read.read_fixed_fields.Statement.{statement}
 use Rattle.element.proofs.read.read_fixed_fields.Tie as tie
 
@@ -19,4 +19,4 @@ read-fixed-fields-spec =
     (λ c. search rann-fields)
     (λ c. search rreq-fields)
     (λ c. search rrep-fields)
-    (λ c. search rerr-flags))
+    (λ c. search rerr-fields))

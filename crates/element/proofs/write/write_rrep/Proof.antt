@@ -10,6 +10,7 @@ write-rrep-spec =
     (tie.spec
     (λ c κs. search needs)
     (λ c κs. search needs)
+    (λ c κs. search needs)
     (λ c. search needs)
     (λ c. search needs)
     (λ c. search (needs, rrep-written)))

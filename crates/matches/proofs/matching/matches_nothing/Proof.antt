@@ -2,7 +2,7 @@
 use Prim.Native.Nat.{_-_}
 use mathlib.Core.Path.{_≡_}
 use borrow.Author.Needs.{needs}
-use Rattle.element.specs.Entries.{each, numberedAt}
+use Rattle.element.specs.Entries.{each, lostAt}
 use Rattle.rules.specs.Errors.{matches}
 use Rattle.rules.specs.Lists.{any}
 use Rattle.rules.proofs.AnyOf.{any-start}
@@ -12,8 +12,8 @@ use Rattle.matches.proofs.matching.matches_nothing.Tie as tie
 
 abbrev Inv-loop : tie.InvT-loop
 Inv-loop table a part n i₀ i =
-    any (matches table (a .clock) (a .transmitter)) (each (numberedAt part) i (n - i))
-    ≡ any (matches table (a .clock) (a .transmitter)) (each (numberedAt part) 0 n)
+    any (matches table (a .clock) (a .transmitter)) (each (lostAt part) i (n - i))
+    ≡ any (matches table (a .clock) (a .transmitter)) (each (lostAt part) 0 n)
 
 abbrev μ-loop : tie.MeasureT-loop
 μ-loop table a part n i₀ i = n - i

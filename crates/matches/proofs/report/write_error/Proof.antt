@@ -1,6 +1,6 @@
 -- `matches::report::write_error` meets its contract: the matches, and the start before them. Assumes nothing.
 use borrow.Author.Needs.{needs}
-use Rattle.matches.proofs.Listed.{error-some, error-few, error-short, error-place, error-written}
+use Rattle.matches.proofs.Listed.{error-few, error-short, error-long, error-written}
 use Rattle.matches.proofs.report.write_error.Statement.{statement}
 use Rattle.matches.proofs.report.write_error.Tie as tie
 
@@ -8,8 +8,10 @@ pub write-error-spec : {M : Type 1} → statement M
 write-error-spec =
     tie.close
     (tie.spec
+    (λ c. search needs)
     (λ c κs. search needs)
     (λ c. search needs)
-    (λ c κs. (search error-some, (search error-few, search needs)))
+    (λ c κs. (search error-few, search needs))
     (λ c. search needs)
-    (λ c. (search error-short, (search error-place, search error-written))))
+    (λ c. search needs)
+    (λ c. (search error-short, (search error-long, search error-written))))

@@ -5,7 +5,7 @@ use lib.ListN.{length}
 use borrow.Author.Needs.{needs}
 use Rattle.table.specs.Table.{changeBelow}
 use Rattle.table.proofs.Changes.{below-start, below-more, below-ended}
-use Rattle.element.specs.Entries.{numberedIn}
+use Rattle.element.specs.Entries.{lostIn}
 use Rattle.rules.specs.Errors.{isMatch, erred}
 use Rattle.matches.proofs.rows.lose_rows.Statement.{statement}
 use Rattle.matches.proofs.rows.lose_rows.Tie as tie
@@ -13,7 +13,7 @@ use Rattle.matches.proofs.rows.lose_rows.Tie as tie
 abbrev Inv-loop : tie.InvT-loop
 Inv-loop table₀ n a part i₀ table i =
     (length table ≡ length table₀) × (i ≤ n)
-    × (table ≡ changeBelow (isMatch (a .clock) (a .transmitter) (numberedIn part)) (erred (numberedIn part)) i table₀)
+    × (table ≡ changeBelow (isMatch (a .clock) (a .transmitter) (lostIn part)) (erred (lostIn part)) i table₀)
 
 abbrev μ-loop : tie.MeasureT-loop
 μ-loop table₀ n a part i₀ table i = n - i

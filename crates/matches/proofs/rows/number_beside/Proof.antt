@@ -2,14 +2,14 @@
 use Prim.Native.Nat.{_-_}
 use mathlib.Core.Path.{_≡_}
 use borrow.Author.Needs.{needs}
-use Rattle.element.specs.Entries.{each, numberedAt}
+use Rattle.element.specs.Entries.{each, lostAt}
 use Rattle.rules.specs.Errors.{numberBeside}
 use Rattle.matches.proofs.LostRows.{beside-start, beside-found, beside-more, beside-ended}
 use Rattle.matches.proofs.rows.number_beside.Statement.{statement}
 use Rattle.matches.proofs.rows.number_beside.Tie as tie
 
 abbrev Inv-loop : tie.InvT-loop
-Inv-loop part d n i₀ i = numberBeside d (each (numberedAt part) i (n - i)) ≡ numberBeside d (each (numberedAt part) 0 n)
+Inv-loop part d n i₀ i = numberBeside d (each (lostAt part) i (n - i)) ≡ numberBeside d (each (lostAt part) 0 n)
 
 abbrev μ-loop : tie.MeasureT-loop
 μ-loop part d n i₀ i = n - i

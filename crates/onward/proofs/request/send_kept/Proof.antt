@@ -1,6 +1,6 @@
 -- `onward::request::send_kept` meets its contract: the kept destinations, and the start after them. Assumes nothing.
 use borrow.Author.Needs.{needs}
-use Rattle.onward.proofs.Requests.{nothing-kept, nothing-written, count-some, count-few, kept-room, kept-counted, kept-sent}
+use Rattle.onward.proofs.Requests.{nothing-kept, nothing-written, count-few, kept-room, kept-counted, kept-sent}
 use Rattle.onward.proofs.request.send_kept.Statement.{statement}
 use Rattle.onward.proofs.request.send_kept.Tie as tie
 
@@ -14,7 +14,7 @@ send-kept-spec =
     (λ c. search needs)
     (λ c. (search nothing-kept, search nothing-written))
     (λ c. search needs)
-    (λ c κs. (search count-some, (search count-few, search needs)))
+    (λ c κs. (search count-few, search needs))
     (λ c. search needs)
     (λ c κs. search kept-room)
     (λ c. search needs)

@@ -1,6 +1,6 @@
 -- `receive::error::receive` meets its contract: by its check, and by what an accepted one does. Assumes nothing.
 use borrow.Author.Needs.{needs}
-use Rattle.receive.proofs.Judging.{element-refused, element-accepted, some-match}
+use Rattle.receive.proofs.Judging.{element-refused, element-accepted}
 use Rattle.receive.proofs.error.receive.Statement.{statement}
 use Rattle.receive.proofs.error.receive.Tie as tie
 
@@ -10,7 +10,7 @@ receive-spec =
     (tie.spec
     (λ c κs. search needs)
     (λ c. search needs)
-    (λ c κs. (search needs, (search needs, (search needs, search some-match))))
+    (λ c κs. (search needs, (search needs, search needs)))
     (λ c. search needs)
     (λ c. search needs)
     (λ c. search needs)

@@ -10,7 +10,7 @@ receive-spec =
     (tie.spec
     (λ c κs. search needs)
     (λ c. search needs)
-    (λ c κs. (search needs, (search needs, (search needs, (search metric-small, (search (hops-small, needs, c .before .before .before .before .before .before .before .before .before .good .1 .1 .1 .0), (search ttl-left, (search needs, search needs))))))))
+    (λ c κs. (search needs, (search needs, (search needs, (search metric-small, (search (hops-small, needs, c .before .before .before .before .before .before .before .before .before .good .1 .1 .1 .0), (search ttl-left, search needs)))))))
     (λ c. search needs)
     (λ c. search needs)
     (λ c. search needs)

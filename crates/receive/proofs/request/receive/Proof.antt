@@ -10,7 +10,7 @@ receive-spec =
     (tie.spec
     (λ c κs. search needs)
     (λ c. search needs)
-    (λ c κs. (search needs, (search needs, (search needs, (search needs, (search one-destination, (search needs, (search metric-small, search (hops-small, needs)))))))))
+    (λ c κs. (search needs, (search needs, (search needs, (search one-destination, (search needs, (search metric-small, search (hops-small, needs))))))))
     (λ c. search needs)
     (λ c. search needs)
     (λ c. search needs)

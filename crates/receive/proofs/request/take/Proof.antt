@@ -10,7 +10,7 @@ take-spec =
     (tie.spec
     (λ c κs. search needs)
     (λ c κs. search needs)
-    (λ c κs. (search needs, (search needs, (search needs, (search needs, (search needs, (search needs, search needs)))))))
+    (λ c κs. (search needs, (search needs, (search needs, (search needs, (search needs, search needs))))))
     (λ c κs. search needs)
     (λ c. search needs)
     (λ c. search needs)

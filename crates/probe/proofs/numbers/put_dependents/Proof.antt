@@ -1,4 +1,4 @@
--- `probe::numbers::put_addresses` meets its contract: what is left to write makes the whole. Assumes nothing.
+-- `probe::numbers::put_dependents` meets its contract: what is left to write makes the whole. Assumes nothing.
 use Prim.Native.Nat.{_+_, _-_, _*_, _≤_}
 use mathlib.Core.Path.{_≡_}
 use mathlib.Core.List.{flatMap}
@@ -9,8 +9,8 @@ use Rattle.element.specs.Element.{numberedNumbers}
 use Rattle.element.specs.Entries.{each, numberedAt}
 use Rattle.element.proofs.Written.{entries-start, entries-ended}
 use Rattle.probe.proofs.Entries.{numbered-numbers-more}
-use Rattle.probe.proofs.numbers.put_addresses.Statement.{statement}
-use Rattle.probe.proofs.numbers.put_addresses.Tie as tie
+use Rattle.probe.proofs.numbers.put_dependents.Statement.{statement}
+use Rattle.probe.proofs.numbers.put_dependents.Tie as tie
 
 abbrev Inv-loop : tie.InvT-loop
 Inv-loop numbers₀ at part n place₀ i₀ numbers place i =
@@ -20,8 +20,8 @@ Inv-loop numbers₀ at part n place₀ i₀ numbers place i =
 abbrev μ-loop : tie.MeasureT-loop
 μ-loop numbers₀ at part n place₀ i₀ numbers place i = n - i
 
-pub put-addresses-spec : {M : Type 1} → statement M
-put-addresses-spec =
+pub put-dependents-spec : {M : Type 1} → statement M
+put-dependents-spec =
     tie.close
     (tie.spec
     Inv-loop

@@ -1,8 +1,8 @@
--- `breaking::break_neighbour::broken` meets its contract: each return is a case of `broken`. Assumes nothing.
+-- `breaking::rows::broken` meets its contract: each return is a case of `broken`. Assumes nothing.
 use borrow.Author.Needs.{needs}
 use Rattle.breaking.proofs.Broken.{broken-unknown, broken-known}
-use Rattle.breaking.proofs.break_neighbour.broken.Statement.{statement}
-use Rattle.breaking.proofs.break_neighbour.broken.Tie as tie
+use Rattle.breaking.proofs.rows.broken.Statement.{statement}
+use Rattle.breaking.proofs.rows.broken.Tie as tie
 
 pub broken-spec : {M : Type 1} → statement M
 broken-spec =

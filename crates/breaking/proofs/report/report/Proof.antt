@@ -1,0 +1,15 @@
+-- `breaking::report::report` meets its contract: all rows, and the errors closed. Assumes nothing.
+use borrow.Author.Needs.{needs}
+use Rattle.breaking.proofs.Broken.{lost-few, lost-counted, errors-closed}
+use Rattle.breaking.proofs.report.report.Statement.{statement}
+use Rattle.breaking.proofs.report.report.Tie as tie
+
+pub report-spec : {M : Type 1} → statement M
+report-spec =
+    tie.close
+    (tie.spec
+    (λ c κs. search needs)
+    (λ c κs. search needs)
+    (λ c κs. search (needs, lost-few))
+    (λ c. search needs)
+    (λ c. (search lost-counted, (search lost-few, search errors-closed))))

@@ -1,0 +1,56 @@
+// The rows that a break loses.
+use table::address::Address;
+use table::row;
+use table::row::Row;
+use table::search;
+ghost use mathlib.Core.Path.{_≡_};
+ghost use Prim.Native.Nat.{_+_, _≤_};
+ghost use lib.ListN.{length};
+ghost use Rattle.table.specs.Layout.{place, rowOctets, Sized};
+ghost use Rattle.table.specs.Row.{isThrough};
+ghost use Rattle.table.specs.Table.{changeAt, changeBelow, changeWhere};
+ghost use Rattle.rules.specs.Errors.{broken};
+
+// The row stays held, and a known number is stepped: what was learnt under the old one is stale.
+pub fn broken(r: Row) -> Row
+    ensures { λ s. ⌜ s ≡ broken r ⌝ }
+{
+    let number = r.number;
+    if r.known != 1 {
+        return r.invalidated();
+    }
+    r.invalidated().raised(number.next())
+}
+
+// Breaks row i if it leads through the neighbour.
+fn break_row(table: &mut [u8], i: usize, clock: u64, neighbour: Address)
+    requires { ⌜ place i + rowOctets ≤ length (now table) ⌝ }
+    ensures { λ _. ⌜ now (table .exit) ≡ changeAt (isThrough clock neighbour) broken i (now (table .entry)) ⌝ }
+{
+    let r = row::read_row(table, i);
+    if !r.is_through(clock, neighbour) {
+        return;
+    }
+    row::write_row(table, i, broken(r));
+}
+
+// Breaks those of the n first rows that lead through the neighbour.
+fn break_rows(table: &mut [u8], n: usize, clock: u64, neighbour: Address)
+    requires { ⌜ place n ≤ length (now table) ⌝ }
+    ensures { λ _. ⌜ now (table .exit) ≡ changeBelow (isThrough clock neighbour) broken n (now (table .entry)) ⌝ }
+{
+    let mut i = 0;
+    while i < n {
+        break_row(table, i, clock, neighbour);
+        i += 1;
+    }
+}
+
+// Breaks every row that leads through the neighbour.
+pub fn lose_rows(table: &mut [u8], clock: u64, neighbour: Address)
+    requires { ⌜ Sized (now table) ⌝ }
+    ensures { λ _. ⌜ now (table .exit) ≡ changeWhere (isThrough clock neighbour) broken (now (table .entry)) ⌝ }
+{
+    let n = search::rows_of(table);
+    break_rows(table, n, clock, neighbour);
+}

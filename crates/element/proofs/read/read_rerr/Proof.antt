@@ -1,0 +1,13 @@
+-- `element::read::read_rerr` meets its contract: field by field. Assumes nothing.
+use borrow.Author.Needs.{needs}
+use Rattle.octets.specs.LittleEndian.{fieldsAt}
+use Rattle.element.proofs.read.read_rerr.Statement.{statement}
+use Rattle.element.proofs.read.read_rerr.Tie as tie
+
+pub read-rerr-spec : {M : Type 1} → statement M
+unfolding fieldsAt
+read-rerr-spec =
+    tie.close
+    (tie.spec
+    (λ c κs. search needs)
+    (λ c. cc))
