@@ -1,7 +1,7 @@
 -- Refusal 27, case by case, as the code asks it. Assumes nothing.
 use Prim.Native.Nat.{ℕ, _+_}
 use mathlib.Core.Path.{_≡_, refl, sym, ap₂, _∙_}
-use mathlib.Core.Bool.{false}
+use mathlib.Core.Bool.{false, cond}
 use mathlib.Core.List.{List}
 use lib.Dec.{ltb}
 use native.Mathlib.Nat.{add-zero}
@@ -11,18 +11,23 @@ use Rattle.table.specs.declared.address.Address.{Address}
 use Rattle.table.specs.declared.search.Found.{Found}
 use Rattle.table.specs.declared.search.Found.the-variants.{At, Nothing}
 use Rattle.table.specs.Layout.{rowAt}
+use Rattle.table.specs.Places.{isNothing}
 use Rattle.table.specs.Table.{findRow, rowFor, newRows, freeRows}
 use Rattle.table.proofs.Cases.{row-at, row-none}
 use Rattle.element.specs.declared.PathInfo.{PathInfo}
 use Rattle.rules.specs.declared.Arrival.{Arrival}
 use Rattle.rules.specs.Receive.{rowsNeeded}
 
-module _ (t : List ℕ) (d : Address) (f : Found) (fe : f ≡ findRow t d) where
-  pub row-there : (i : ℕ) → f ≡ At i → 0 ≡ newRows (rowFor t d)
-  row-there i e = rw (row-at t d f fe i e (rowAt t i) refl)
+module _ (f : Found) where
+  pub row-there : (i : ℕ) → f ≡ At i → _≡_ {A = ℕ} 0 (cond (isNothing f) 1 0)
+  row-there i e = rw e
 
-  pub row-absent : f ≡ Nothing → 1 ≡ newRows (rowFor t d)
-  row-absent e = rw (row-none t d f fe e)
+  pub row-absent : f ≡ Nothing → _≡_ {A = ℕ} 1 (cond (isNothing f) 1 0)
+  row-absent e = rw e
+
+pub new-rows : (t : List ℕ) (d : Address) (f : Found) → f ≡ findRow t d → (n : ℕ) → n ≡ cond (isNothing f) 1 0 → n ≡ newRows (rowFor t d)
+new-rows t d (At i) fe n ne = rw (row-at t d (At i) fe i refl (rowAt t i) refl) ne
+new-rows t d Nothing fe n ne = rw (row-none t d Nothing fe refl) ne
 
 module _ (t : List ℕ) (a : Arrival) (p : PathInfo) (n : ℕ) (ne : n ≡ newRows (rowFor t (p .subject))) where
   pub one-address : a .transmitter .0 ≡ p .subject .0 → n ≡ rowsNeeded t a p

@@ -1,45 +1,47 @@
 // Refusal 27: more new rows are needed than are free.
 use element::PathInfo;
 use rules::Arrival;
-use table::address::Address;
 use table::search;
 use table::search::Found;
 ghost use mathlib.Core.Path.{_≡_};
+ghost use mathlib.Core.Bool.{cond};
 ghost use Prim.Native.Nat.{_≤_};
 ghost use lib.Dec.{ltb};
-ghost use Rattle.table.specs.Table.{freeRows, newRows, rowFor};
+ghost use Rattle.table.specs.Places.{isNothing};
+ghost use Rattle.table.specs.Table.{findRow, freeRows};
 ghost use Rattle.table.specs.Layout.{Sized};
 ghost use Rattle.rules.specs.Receive.{rowsNeeded};
 
-// How many new rows a destination needs: one if it has none.
-fn new_rows(table: &[u8], destination: Address) -> usize
-    requires { ⌜ Sized (now table) ⌝ }
-    ensures { λ r. ⌜ r ≡ newRows (rowFor (now (table .entry)) destination) ⌝ }
+// How many new rows a destination needs where its row was looked for: one if it has none.
+fn new_rows(found: Found) -> usize
+    ensures { λ r. ⌜ r ≡ cond (isNothing found) 1 0 ⌝ }
     ensures { λ r. ⌜ r ≤ 1 ⌝ }
 {
-    match search::find_row(table, destination) {
+    match found {
         Found::At(_) => 0,
         Found::Nothing => 1,
     }
 }
 
-// For the subject, and for the transmitter if that is a different address.
-fn rows_needed(table: &[u8], a: Arrival, p: PathInfo) -> usize
+// For the subject, by the place where it was found, and for the transmitter if that is a different address.
+fn rows_needed(table: &[u8], found: Found, a: Arrival, p: PathInfo) -> usize
     requires { ⌜ Sized (now table) ⌝ }
+    requires { ⌜ found ≡ findRow (now table) (p .subject) ⌝ }
     ensures { λ r. ⌜ r ≡ rowsNeeded (now (table .entry)) a p ⌝ }
 {
-    let needed = new_rows(table, p.subject);
+    let needed = new_rows(found);
     if a.transmitter.0 == p.subject.0 {
         return needed;
     }
-    needed + new_rows(table, a.transmitter)
+    needed + new_rows(search::find_row(table, a.transmitter))
 }
 
-pub fn lacks_rows(table: &[u8], a: Arrival, p: PathInfo) -> bool
+pub fn lacks_rows(table: &[u8], found: Found, a: Arrival, p: PathInfo) -> bool
     requires { ⌜ Sized (now table) ⌝ }
+    requires { ⌜ found ≡ findRow (now table) (p .subject) ⌝ }
     ensures { λ r. ⌜ r ≡ ltb (freeRows (now (table .entry))) (rowsNeeded (now (table .entry)) a p) ⌝ }
 {
-    let needed = rows_needed(table, a, p);
+    let needed = rows_needed(table, found, a, p);
     if needed == 0 {
         return false;
     }

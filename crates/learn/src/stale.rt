@@ -3,11 +3,11 @@ use element::PathInfo;
 use rules::Arrival;
 use table::row;
 use table::row::Row;
-use table::search;
 use table::search::Found;
 ghost use mathlib.Core.Path.{_≡_};
 ghost use Rattle.rules.specs.Receive.{isStale, isStaleFor};
 ghost use Rattle.table.specs.Layout.{Sized};
+ghost use Rattle.table.specs.Table.{findRow};
 
 // By the row, active or not: an older number, or an equal one with a metric that is not smaller.
 fn is_stale_for(a: Arrival, p: PathInfo, r: Row) -> bool
@@ -25,11 +25,13 @@ fn is_stale_for(a: Arrival, p: PathInfo, r: Row) -> bool
     (received.0 == stored.0) & (r.metric.0 as u64 <= metric)
 }
 
-pub fn is_stale(table: &[u8], a: Arrival, p: PathInfo) -> bool
+// By the place where the subject was found.
+pub fn is_stale(table: &[u8], found: Found, a: Arrival, p: PathInfo) -> bool
     requires { ⌜ Sized (now table) ⌝ }
+    requires { ⌜ found ≡ findRow (now table) (p .subject) ⌝ }
     ensures { λ b. ⌜ b ≡ isStale (now (table .entry)) a p ⌝ }
 {
-    let Found::At(i) = search::find_row(table, p.subject) else {
+    let Found::At(i) = found else {
         return false;
     };
     is_stale_for(a, p, row::read_row(table, i))

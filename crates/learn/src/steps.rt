@@ -75,14 +75,14 @@ fn subject_row(a: Arrival, p: PathInfo, r: Row) -> Row
     renewed.numbered(p.number)
 }
 
-fn learn_subject(table: &mut [u8], a: Arrival, p: PathInfo)
+fn learn_subject(table: &mut [u8], found: Found, a: Arrival, p: PathInfo)
     requires { ⌜ Sized (now table) ⌝ }
+    requires { ⌜ found ≡ findRow (now table) (p .subject) ⌝ }
     requires { ⌜ a .clock ≤ 281474976710655 ⌝ }
     requires { ⌜ p .metric .0 + a .link .0 ≤ 4294967294 ⌝ }
     requires { ⌜ p .hops .0 < 255 ⌝ }
     ensures { λ _. ⌜ now (table .exit) ≡ subjectLearnt a p (now (table .entry)) ⌝ }
 {
-    let found = search::find_row(table, p.subject);
     let r = row_or_new(table, found, p.subject);
     store::put_row(table, found, subject_row(a, p, r));
 }
@@ -127,15 +127,17 @@ fn learn_transmitter(table: &mut [u8], a: Arrival, lifetime: u32)
     store::put_row(table, found, transmitter_row(a, lifetime, r));
 }
 
-// Step 1, and step 2 if the transmitter is a different address. The subject comes first: it takes the lower of two free rows.
-pub fn learn(table: &mut [u8], a: Arrival, p: PathInfo)
+// Step 1 where the subject was found, and step 2 if the transmitter is a different address. The subject comes first: it takes
+// the lower of two free rows.
+pub fn learn(table: &mut [u8], found: Found, a: Arrival, p: PathInfo)
     requires { ⌜ Sized (now table) ⌝ }
+    requires { ⌜ found ≡ findRow (now table) (p .subject) ⌝ }
     requires { ⌜ a .clock ≤ 281474976710655 ⌝ }
     requires { ⌜ p .metric .0 + a .link .0 ≤ 4294967294 ⌝ }
     requires { ⌜ p .hops .0 < 255 ⌝ }
     ensures { λ _. ⌜ now (table .exit) ≡ learnt a p (now (table .entry)) ⌝ }
 {
-    learn_subject(table, a, p);
+    learn_subject(table, found, a, p);
     if a.transmitter.0 != p.subject.0 {
         learn_transmitter(table, a, p.lifetime);
     }

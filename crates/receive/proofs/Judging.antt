@@ -9,6 +9,7 @@ use lib.ListN.{length}
 use native.Mathlib.Omega.{arith}
 use borrow.Author.Tests.{ltb-false, eqb-false, not-false}
 use Rattle.table.specs.declared.address.Address.{Address}
+use Rattle.table.specs.declared.search.Found.{Found}
 use Rattle.element.specs.declared.PathInfo.{PathInfo}
 use Rattle.element.specs.declared.NumberedAddress.{NumberedAddress}
 use Rattle.element.specs.declared.RreqFields.{RreqFields}
@@ -29,21 +30,23 @@ use Rattle.rules.specs.Receive.{pathOf, targetAddresses, hasBadAddress, hasBadL
 use Rattle.rules.proofs.Rulings.{listed, Passed, passed-check}
 use Rattle.calls.specs.declared.Outcome.{Outcome}
 use Rattle.calls.specs.declared.Answer.{Answer}
-use Rattle.calls.specs.declared.Answer.the-variants.{Accepted, Refused}
+use Rattle.calls.specs.declared.Answer.the-variants.{Accepted}
 use Rattle.calls.specs.Answers.{answerTo, exits}
 use Rattle.calls.proofs.Checks.{answer-passed, refusal, acceptance}
 use Rattle.onward.specs.Sent.{unicastToSeveral}
 use Rattle.receive.specs.declared.faults.Faults.{Faults}
-use Rattle.receive.specs.Checks.{faultsOf, pathChecks}
+use Rattle.receive.specs.declared.path.Judged.{Judged}
+use Rattle.receive.specs.Checks.{faultsOf, pathChecks, judgedBy}
+use Rattle.receive.proofs.Subjects.{answered, answers}
 
 -- ---- the parts are the checks of an element
 
 -- with a path: nothing of it is skipped, and 26 is
-pub path-checked : (t : List ℕ) (a : Arrival) (r : Answer) (e : Element) (p : PathInfo) → pathOf e ≡ some p → matchesNothing t a e ≡ false
-    → (x : Faults) → x ≡ faultsOf e → r ≡ answerTo (pathChecks x t a p) → r ≡ answerTo (judging t a e .checks)
+pub path-checked : (t : List ℕ) (a : Arrival) (r : Judged) (e : Element) (p : PathInfo) → pathOf e ≡ some p → matchesNothing t a e ≡ false
+    → (x : Faults) → x ≡ faultsOf e → r ≡ judgedBy t p (pathChecks x t a p) → r ≡ judgedBy t p (judging t a e .checks)
 unfolding judging pathChecks faultsOf
 path-checked t a r e p pe unmatched x xe re =
-    re ∙ ap (λ (y : Faults). answerTo (pathChecks y t a p)) xe ∙ rw (pe, unmatched)
+    re ∙ ap (λ (y : Faults). judgedBy t p (pathChecks y t a p)) xe ∙ rw (pe, unmatched)
 
 -- a RREP's dependents play no part
 pub dependents-aside : (f : RrepFields) (x : Faults) → x ≡ faultsOf (rrep f []) → (dependents : List NumberedAddress) → x ≡ faultsOf (rrep f dependents)
@@ -62,19 +65,26 @@ module _ (f : RerrFields) (part : List ℕ) (b v : Bool) where
 
 -- ---- what the answer says
 
-module _ (t : List ℕ) (a : Arrival) (e : Element) (r : Answer) (re : r ≡ answerTo (judging t a e .checks)) where
-  pub element-refused : (output : List ℕ) (n : ℕ) → r ≡ Refused n → exits (Outcome.Refused n) t output ≡ atExit t output (decide (judging t a e))
-  element-refused output = refusal t output (judging t a e) r re
+none-applied : (t : List ℕ) (a : Arrival) (e : Element) (r : Answer) → r ≡ answerTo (judging t a e .checks) → r ≡ Accepted → Passed (judging t a e .checks)
+none-applied t a e r re ok = answer-passed (judging t a e .checks) (sym ok ∙ re)
 
-  module _ (ok : r ≡ Accepted) where
-    pub element-accepted : (output : List ℕ) (x : Exit) → x ≡ atExit t output (accepted (received t a e)) → x ≡ atExit t output (decide (judging t a e))
+-- an element with the path p
+module _ (t : List ℕ) (a : Arrival) (e : Element) (p : PathInfo) (r : Judged) (re : r ≡ judgedBy t p (judging t a e .checks)) where
+  answer : answered r ≡ answerTo (judging t a e .checks)
+  answer = answers t p (judging t a e .checks) r re
+
+  pub path-refused : (output : List ℕ) (n : ℕ) → r ≡ Judged.Refused n → exits (Outcome.Refused n) t output ≡ atExit t output (decide (judging t a e))
+  path-refused output n q = refusal t output (judging t a e) (answered r) answer n (ap answered q)
+
+  module _ (f : Found) (ok : r ≡ Judged.Accepted f) where
+    pub path-accepted : (output : List ℕ) (x : Exit) → x ≡ atExit t output (accepted (received t a e)) → x ≡ atExit t output (decide (judging t a e))
     unfolding judging
-    element-accepted output = acceptance t output (judging t a e) r re ok
+    path-accepted output = acceptance t output (judging t a e) (answered r) answer (ap answered ok)
 
-    none-applied : Passed (judging t a e .checks)
-    none-applied = answer-passed (judging t a e .checks) (sym ok ∙ re)
+    path-passed : Passed (judging t a e .checks)
+    path-passed = none-applied t a e (answered r) answer (ap answered ok)
 
-    module _ (p : PathInfo) (pe : pathOf e ≡ some p) where
+    module _ (pe : pathOf e ≡ some p) where
       -- a test of the path that did not apply
       of-path : (test : PathInfo → Bool) → has test (pathOf e) ≡ false → test p ≡ false
       of-path test passes = ap (has test) (sym pe) ∙ passes
@@ -83,26 +93,27 @@ module _ (t : List ℕ) (a : Arrival) (e : Element) (r : Answer) (re : r ≡ ans
       unfolding listed
       metric-small =
           ltb-false 4294967294 (p .metric .0 + a .link .0)
-          (of-path (λ q. ltb 4294967294 (q .metric .0 + a .link .0)) (passed-check 13 (judging t a e .checks) none-applied))
+          (of-path (λ q. ltb 4294967294 (q .metric .0 + a .link .0)) (passed-check 13 (judging t a e .checks) path-passed))
 
       pub hops-small : p .hops .0 < 256 → p .hops .0 < 255
       unfolding listed
       hops-small l =
-          let other = eqb-false (p .hops .0) 255 (of-path (λ q. eqb (q .hops .0) 255) (passed-check 12 (judging t a e .checks) none-applied)) in
+          let other = eqb-false (p .hops .0) 255 (of-path (λ q. eqb (q .hops .0) 255) (passed-check 12 (judging t a e .checks) path-passed)) in
           omega (arith, l, other)
 
 -- a RREP has TTL left, a unicast RREQ has one destination
-module _ (t : List ℕ) (a : Arrival) (r : Answer) (ok : r ≡ Accepted) where
-  pub ttl-left : (f : RrepFields) (part : List ℕ) → r ≡ answerTo (judging t a (rrep f (numberedIn part)) .checks) → 2 ≤ f .path .ttl
+module _ (t : List ℕ) (a : Arrival) (r : Judged) (found : Found) (ok : r ≡ Judged.Accepted found) where
+  pub ttl-left : (f : RrepFields) (part : List ℕ) → r ≡ judgedBy t (f .path) (judging t a (rrep f (numberedIn part)) .checks) → 2 ≤ f .path .ttl
   unfolding listed isLowTtlReply
   ttl-left f part re =
-      ltb-false (f .path .ttl) 2 (passed-check 14 (judging t a (rrep f (numberedIn part)) .checks) (none-applied t a (rrep f (numberedIn part)) r re ok))
+      let e : Element = rrep f (numberedIn part) in
+      ltb-false (f .path .ttl) 2 (passed-check 14 (judging t a e .checks) (path-passed t a e (f .path) r re found ok))
 
-  pub one-destination : (f : RreqFields) (part : List ℕ) → r ≡ answerTo (judging t a (rreq f (targetsIn part)) .checks) → unicastToSeveral (f .path) part ≡ false
+  pub one-destination : (f : RreqFields) (part : List ℕ) → r ≡ judgedBy t (f .path) (judging t a (rreq f (targetsIn part)) .checks) → unicastToSeveral (f .path) part ≡ false
   unfolding listed hasBadList severalOrAll unicastToSeveral
   one-destination f part re =
       let addresses : List Address = targetAddresses (targetsIn part) in
-      let good = passed-check 10 (judging t a (rreq f (targetsIn part)) .checks) (none-applied t a (rreq f (targetsIn part)) r re ok) in
+      let good = passed-check 10 (judging t a (rreq f (targetsIn part)) .checks) (path-passed t a (rreq f (targetsIn part)) (f .path) r re found ok) in
       let many : length addresses ≡ length part / 11 =
       ap length (target-addresses part) ∙ addresses-many Targets part in
       ap (λ (n : ℕ). unicast (f .path) && ltb 1 n) (sym many)

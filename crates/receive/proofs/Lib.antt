@@ -1,4 +1,5 @@
 mod Faulty
+mod Subjects
 mod Judging
 mod Calling
 mod Taken

@@ -7,6 +7,8 @@ use learn::room;
 use learn::stale;
 use rules::Arrival;
 use table::row;
+use table::search;
+use table::search::Found;
 ghost use mathlib.Core.Path.{_≡_};
 ghost use mathlib.Core.Bool.{false};
 ghost use mathlib.Core.Option.{some};
@@ -14,8 +16,14 @@ ghost use lib.Dec.{ltb};
 ghost use Rattle.rules.specs.Learn.{metricHere};
 ghost use Rattle.rules.specs.Receive.{fieldChecks, rowChecks};
 ghost use Rattle.calls.specs.Answers.{answerTo};
-ghost use Rattle.receive.specs.Checks.{pathChecks, pathStateChecks};
+ghost use Rattle.receive.specs.Checks.{judgedBy, pathChecks, pathStateChecks};
 ghost use Rattle.table.specs.Layout.{Sized};
+
+// The answer of the checks of a path. An acceptance carries the place where the subject was found.
+pub enum Judged {
+    Accepted(Found),
+    Refused(u32),
+}
 
 // Received metric + link metric above 4,294,967,294.
 fn is_too_far(a: Arrival, p: PathInfo) -> bool
@@ -50,39 +58,40 @@ fn check_fields(a: Arrival, p: PathInfo, faults: Faults) -> Answer
 }
 
 // By the rows: 24, 25 and 27.
-fn check_rows(table: &[u8], a: Arrival, p: PathInfo) -> Answer
+fn check_rows(table: &[u8], a: Arrival, p: PathInfo) -> Judged
     requires { ⌜ Sized (now table) ⌝ }
-    ensures { λ r. ⌜ r ≡ answerTo (rowChecks (now (table .entry)) a false (some p)) ⌝ }
+    ensures { λ r. ⌜ r ≡ judgedBy (now (table .entry)) p (rowChecks (now (table .entry)) a false (some p)) ⌝ }
 {
     if p.subject.0 == row::read_head(table).own.0 {
-        return Answer::Refused(24);
+        return Judged::Refused(24);
     }
-    if stale::is_stale(table, a, p) {
-        return Answer::Refused(25);
+    let found = search::find_row(table, p.subject);
+    if stale::is_stale(table, found, a, p) {
+        return Judged::Refused(25);
     }
-    if room::lacks_rows(table, a, p) {
-        return Answer::Refused(27);
+    if room::lacks_rows(table, found, a, p) {
+        return Judged::Refused(27);
     }
-    Answer::Accepted
+    Judged::Accepted(found)
 }
 
 // By the state: 21 to 25 and 27.
-fn check_state(table: &[u8], a: Arrival, p: PathInfo) -> Answer
+fn check_state(table: &[u8], a: Arrival, p: PathInfo) -> Judged
     requires { ⌜ Sized (now table) ⌝ }
-    ensures { λ r. ⌜ r ≡ answerTo (pathStateChecks (now (table .entry)) a p) ⌝ }
+    ensures { λ r. ⌜ r ≡ judgedBy (now (table .entry)) p (pathStateChecks (now (table .entry)) a p) ⌝ }
 {
     if let Answer::Refused(n) = clocked::check_state(table, a.clock, a.transmitter) {
-        return Answer::Refused(n);
+        return Judged::Refused(n);
     }
     check_rows(table, a, p)
 }
 
-pub fn check(table: &[u8], a: Arrival, p: PathInfo, faults: Faults) -> Answer
+pub fn check(table: &[u8], a: Arrival, p: PathInfo, faults: Faults) -> Judged
     requires { ⌜ Sized (now table) ⌝ }
-    ensures { λ r. ⌜ r ≡ answerTo (pathChecks faults (now (table .entry)) a p) ⌝ }
+    ensures { λ r. ⌜ r ≡ judgedBy (now (table .entry)) p (pathChecks faults (now (table .entry)) a p) ⌝ }
 {
     if let Answer::Refused(n) = check_fields(a, p, faults) {
-        return Answer::Refused(n);
+        return Judged::Refused(n);
     }
     check_state(table, a, p)
 }

@@ -1,7 +1,7 @@
 // A received RREP.
 use crate::faults;
 use crate::path;
-use calls::Answer;
+use crate::path::Judged;
 use calls::Outcome;
 use calls::clocked;
 use element::RrepFields;
@@ -9,6 +9,7 @@ use learn::steps;
 use onward::reply;
 use rules::Arrival;
 use table::row;
+use table::search::Found;
 ghost use mathlib.Core.Path.{_≡_};
 ghost use Prim.Native.Nat.{_+_, _<_, _≤_};
 ghost use lib.ListN.{length};
@@ -19,30 +20,40 @@ ghost use Rattle.element.specs.Entries.{numberedIn};
 ghost use Rattle.rules.specs.Decision.{accepted, decide};
 ghost use Rattle.rules.specs.Outcome.{atExit};
 ghost use Rattle.rules.specs.Receive.{judging, received};
-ghost use Rattle.calls.specs.Answers.{answerTo, exits};
+ghost use Rattle.calls.specs.Answers.{exits};
+ghost use Rattle.receive.specs.Checks.{judgedBy};
 ghost use Rattle.table.specs.Layout.{Sized};
+ghost use Rattle.table.specs.Table.{findRow};
 
 // Dependents play no part; the contract names the element.
-fn check(table: &[u8], a: Arrival, f: RrepFields, part: &[u8]) -> Answer
+fn check(table: &[u8], a: Arrival, f: RrepFields, part: &[u8]) -> Judged
     requires { ⌜ Sized (now table) ⌝ }
-    ensures { λ r. ⌜ r ≡ answerTo (judging (now (table .entry)) a (rrep f (numberedIn (now (part .entry)))) .checks) ⌝ }
+    ensures { λ r. ⌜ r ≡ judgedBy (now (table .entry)) (f .path) (judging (now (table .entry)) a (rrep f (numberedIn (now (part .entry)))) .checks) ⌝ }
 {
     path::check(table, a, f.path, faults::of_rrep(f))
 }
 
 // Steps 1 and 2, and it goes on.
-fn take(table: &mut [u8], output: &mut [u8], a: Arrival, f: RrepFields, part: &[u8]) -> Outcome
+fn take(
+    table: &mut [u8],
+    output: &mut [u8],
+    found: Found,
+    a: Arrival,
+    f: RrepFields,
+    part: &[u8],
+) -> Outcome
     requires { ⌜ Sized (now table) ⌝ }
     requires { ⌜ 1560 ≤ length (now output) ⌝ }
-    requires { ⌜ a .clock ≤ 281474976710655 ⌝ }
     requires { ⌜ f .path .metric .0 + a .link .0 ≤ 4294967294 ⌝ }
     requires { ⌜ f .path .hops .0 < 255 ⌝ }
     requires { ⌜ 2 ≤ f .path .ttl ⌝ }
     requires { ⌜ PartOf Kind.Rrep (now part) ⌝ }
+    requires { ⌜ a .clock ≤ 281474976710655 ⌝ }
+    requires { ⌜ found ≡ findRow (now table) (f .path .subject) ⌝ }
     ensures { λ r. ⌜ exits r (now (table .exit)) (now (output .exit)) ≡ atExit (now (table .entry)) (now (output .entry)) (accepted (received (now (table .entry)) a (rrep f (numberedIn (now (part .entry)))))) ⌝ }
 {
     let head = row::read_head(table);
-    steps::learn(table, a, f.path);
+    steps::learn(table, found, a, f.path);
     let emitted = reply::send_on(output, 0, table, a, f, part);
     clocked::store_head(table, head, head.number, a.clock);
     Outcome::Accepted(emitted)
@@ -62,7 +73,7 @@ pub fn receive(
     ensures { λ r. ⌜ exits r (now (table .exit)) (now (output .exit)) ≡ atExit (now (table .entry)) (now (output .entry)) (decide (judging (now (table .entry)) a (rrep f (numberedIn (now (part .entry)))))) ⌝ }
 {
     match check(table, a, f, part) {
-        Answer::Accepted => take(table, output, a, f, part),
-        Answer::Refused(n) => Outcome::Refused(n),
+        Judged::Accepted(found) => take(table, output, found, a, f, part),
+        Judged::Refused(n) => Outcome::Refused(n),
     }
 }

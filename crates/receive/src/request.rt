@@ -1,7 +1,7 @@
 // A received RREQ.
 use crate::faults;
 use crate::path;
-use calls::Answer;
+use crate::path::Judged;
 use calls::Emitted;
 use calls::Outcome;
 use calls::clocked;
@@ -13,6 +13,7 @@ use learn::steps;
 use onward::request;
 use rules::Arrival;
 use table::row;
+use table::search::Found;
 ghost use mathlib.Core.Bool.{false};
 ghost use mathlib.Core.Path.{_≡_};
 ghost use Prim.Native.Nat.{_+_, _<_, _≤_};
@@ -26,10 +27,12 @@ ghost use Rattle.rules.specs.Decision.{accepted, decide};
 ghost use Rattle.rules.specs.Destinations.{allAnswered};
 ghost use Rattle.rules.specs.Outcome.{atExit, frameOctets};
 ghost use Rattle.rules.specs.Receive.{judging, received};
-ghost use Rattle.calls.specs.Answers.{answerTo, exits};
+ghost use Rattle.calls.specs.Answers.{exits};
+ghost use Rattle.receive.specs.Checks.{judgedBy};
 ghost use Rattle.onward.specs.Sent.{unicastToSeveral};
 ghost use Rattle.receive.specs.Sent.{framesAfter, sentFor, together};
 ghost use Rattle.table.specs.Layout.{Sized};
+ghost use Rattle.table.specs.Table.{findRow};
 
 // What a RREQ was answered with: the own number after it, and what was written.
 pub struct Sent {
@@ -37,9 +40,9 @@ pub struct Sent {
     pub emitted: Emitted,
 }
 
-fn check(table: &[u8], a: Arrival, f: RreqFields, part: &[u8]) -> Answer
+fn check(table: &[u8], a: Arrival, f: RreqFields, part: &[u8]) -> Judged
     requires { ⌜ Sized (now table) ⌝ }
-    ensures { λ r. ⌜ r ≡ answerTo (judging (now (table .entry)) a (rreq f (targetsIn (now (part .entry)))) .checks) ⌝ }
+    ensures { λ r. ⌜ r ≡ judgedBy (now (table .entry)) (f .path) (judging (now (table .entry)) a (rreq f (targetsIn (now (part .entry)))) .checks) ⌝ }
 {
     path::check(table, a, f.path, faults::of_rreq(f, part))
 }
@@ -86,7 +89,14 @@ fn answer(
 }
 
 // Steps 1 and 2, the replies, and it goes on.
-fn take(table: &mut [u8], output: &mut [u8], a: Arrival, f: RreqFields, part: &[u8]) -> Outcome
+fn take(
+    table: &mut [u8],
+    output: &mut [u8],
+    found: Found,
+    a: Arrival,
+    f: RreqFields,
+    part: &[u8],
+) -> Outcome
     requires { ⌜ Sized (now table) ⌝ }
     requires { ⌜ 1560 ≤ length (now output) ⌝ }
     requires { ⌜ PartOf Kind.Rreq (now part) ⌝ }
@@ -94,10 +104,11 @@ fn take(table: &mut [u8], output: &mut [u8], a: Arrival, f: RreqFields, part: &[
     requires { ⌜ a .clock ≤ 281474976710655 ⌝ }
     requires { ⌜ f .path .metric .0 + a .link .0 ≤ 4294967294 ⌝ }
     requires { ⌜ f .path .hops .0 < 255 ⌝ }
+    requires { ⌜ found ≡ findRow (now table) (f .path .subject) ⌝ }
     ensures { λ r. ⌜ exits r (now (table .exit)) (now (output .exit)) ≡ atExit (now (table .entry)) (now (output .entry)) (accepted (received (now (table .entry)) a (rreq f (targetsIn (now (part .entry)))))) ⌝ }
 {
     let head = row::read_head(table);
-    steps::learn(table, a, f.path);
+    steps::learn(table, found, a, f.path);
     let sent = answer(output, 0, table, a, f, head.number, part);
     let number = sent.number;
     clocked::store_head(table, head, number, a.clock);
@@ -119,7 +130,7 @@ pub fn receive(
     ensures { λ r. ⌜ exits r (now (table .exit)) (now (output .exit)) ≡ atExit (now (table .entry)) (now (output .entry)) (decide (judging (now (table .entry)) a (rreq f (targetsIn (now (part .entry)))))) ⌝ }
 {
     match check(table, a, f, part) {
-        Answer::Accepted => take(table, output, a, f, part),
-        Answer::Refused(n) => Outcome::Refused(n),
+        Judged::Accepted(found) => take(table, output, found, a, f, part),
+        Judged::Refused(n) => Outcome::Refused(n),
     }
 }

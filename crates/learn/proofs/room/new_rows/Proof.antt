@@ -9,7 +9,6 @@ pub new-rows-spec : {M : Type 1} → statement M
 new-rows-spec =
     tie.close
     (tie.spec
-    (λ c κs. search needs)
     (λ c. search needs)
     (λ c. search needs)
     (λ c. (search row-there, omega arith))

@@ -1,6 +1,6 @@
 -- `learn::room::rows_needed` meets its contract: of one address, or of two. Assumes nothing.
 use borrow.Author.Needs.{needs}
-use Rattle.learn.proofs.NewRows.{one-address, two-addresses}
+use Rattle.learn.proofs.NewRows.{new-rows, one-address, two-addresses}
 use Rattle.learn.proofs.room.rows_needed.Statement.{statement}
 use Rattle.learn.proofs.room.rows_needed.Tie as tie
 
@@ -9,7 +9,8 @@ rows-needed-spec =
     tie.close
     (tie.spec
     (λ c κs. search needs)
-    (λ c. search one-address)
+    (λ c. search (one-address, new-rows))
+    (λ c κs. search needs)
     (λ c κs. search needs)
     (λ c. search needs)
-    (λ c. search two-addresses))
+    (λ c. search (two-addresses, new-rows)))

@@ -9,7 +9,6 @@ pub is-stale-spec : {M : Type 1} → statement M
 is-stale-spec =
     tie.close
     (tie.spec
-    (λ c κs. search needs)
     (λ c. search needs)
     (λ c. search needs)
     (λ c. search stale-absent)

@@ -10,7 +10,6 @@ learn-subject-spec =
     (tie.spec
     (λ c κs. search needs)
     (λ c κs. search needs)
-    (λ c κs. search needs)
     (λ c κs. (search needs, search subject-place))
     (λ c. search needs)
     (λ c. search subject-stored))

@@ -1,10 +1,12 @@
 -- `receive::error::receive` meets its contract: by its check, and by what an accepted one does. Assumes nothing.
 use borrow.Author.Needs.{needs}
-use Rattle.receive.proofs.Judging.{element-refused, element-accepted}
+use Rattle.rules.specs.Receive.{judging}
+use Rattle.calls.proofs.Checks.{refusal, acceptance}
 use Rattle.receive.proofs.error.receive.Statement.{statement}
 use Rattle.receive.proofs.error.receive.Tie as tie
 
 pub receive-spec : {M : Type 1} → statement M
+unfolding judging
 receive-spec =
     tie.close
     (tie.spec
@@ -14,6 +16,6 @@ receive-spec =
     (λ c. search needs)
     (λ c. search needs)
     (λ c. search needs)
-    (λ c. search element-accepted)
+    (λ c. search acceptance)
     (λ c. search needs)
-    (λ c. search element-refused))
+    (λ c. search refusal))

@@ -1,6 +1,7 @@
 -- `receive::path::check_state` meets its contract: the checks that calls with a clock have in common, then those of the rows. Assumes nothing.
 use borrow.Author.Needs.{needs}
-use Rattle.calls.proofs.Checks.{refused-first, passed-first}
+use Rattle.calls.proofs.Checks.{refused-first}
+use Rattle.receive.proofs.Subjects.{judged-refused, judged-after}
 use Rattle.receive.proofs.path.check_state.Statement.{statement}
 use Rattle.receive.proofs.path.check_state.Tie as tie
 
@@ -10,7 +11,7 @@ check-state-spec =
     (tie.spec
     (λ c κs. search needs)
     (λ c. search needs)
-    (λ c. search refused-first)
+    (λ c. search (judged-refused, refused-first))
     (λ c. search needs)
     (λ c κs. search needs)
-    (λ c. search passed-first))
+    (λ c. search judged-after))
