@@ -9,7 +9,7 @@ use Rattle.octets.specs.LittleEndian.{zeros}
 use Rattle.table.specs.declared.address.Address.{Address}
 use Rattle.table.specs.Address.{addressOf}
 use Rattle.rules.specs.Decision.{Decision}
-use Rattle.rules.specs.Outcome.{Effect, atExit}
+use Rattle.rules.specs.Outcome.{lend, Effect, atExit}
 use Rattle.rules.specs.Walk.{tableAt}
 use Rattle.rules.specs.declared.Arrival.{Arrival}
 use Rattle.rules.specs.Originate.{ask, announce}
@@ -47,33 +47,33 @@ module _ (s : State) (tables slots : List ℕ) (p : ℕ) where
     after = doneIn r (putMid (544 * p) (544 * p + 544 - 544 * p) tables u) slots′
 
     -- of any call, by the table and the output that it was lent
-    called : (call : List ℕ → ℕ → Decision Effect) → exits o u output ≡ atExit t output₀ (call t n) → t ≡ tableAt tables 544 p → output₀ ≡ zeros 1560
+    called : (call : List ℕ → ℕ → Decision Effect) → exits o (lend u) output ≡ atExit (lend t) output₀ (call t n) → t ≡ tableAt tables 544 p → output₀ ≡ zeros 1560
         → n ≡ 1560 → after ≡ settled (benchOf s tables slots) p (calledBy (benchOf s tables slots) p (call (tableAt tables 544 p) 1560))
     called call xe te ue ne = settled-so s few tables slots p o u output _ (xe ∙ rw (te, ue, ne)) r re slots′ se
 
-    pub announce-done : (lifetime : ℕ) → exits o u output ≡ atExit t output₀ (announce t n 0 lifetime) → t ≡ tableAt tables 544 p → output₀ ≡ zeros 1560
+    pub announce-done : (lifetime : ℕ) → exits o (lend u) output ≡ atExit (lend t) output₀ (announce (lend t) n 0 lifetime) → t ≡ tableAt tables 544 p → output₀ ≡ zeros 1560
         → n ≡ 1560 → after ≡ announceSelf (benchOf s tables slots) p lifetime
     unfolding announceSelf
     announce-done lifetime xe te ue ne =
-        called (λ t n. announce t n 0 lifetime) xe te ue ne ∙ rw (lt-ltb p (s .points) a-point)
+        called (λ t n. announce (lend t) n 0 lifetime) xe te ue ne ∙ rw (lt-ltb p (s .points) a-point)
 
-    pub ask-done : (item : List ℕ) (lifetime : ℕ) → exits o u output ≡ atExit t output₀ (ask t n lifetime item) → t ≡ tableAt tables 544 p
+    pub ask-done : (item : List ℕ) (lifetime : ℕ) → exits o (lend u) output ≡ atExit (lend t) output₀ (ask (lend t) n lifetime item) → t ≡ tableAt tables 544 p
         → output₀ ≡ zeros 1560 → n ≡ 1560 → after ≡ askFor (benchOf s tables slots) p item lifetime
     unfolding askFor
-    ask-done item lifetime xe te ue ne = called (λ t n. ask t n lifetime item) xe te ue ne ∙ rw (lt-ltb p (s .points) a-point)
+    ask-done item lifetime xe te ue ne = called (λ t n. ask (lend t) n lifetime item) xe te ue ne ∙ rw (lt-ltb p (s .points) a-point)
 
-    pub break-done : (q c : ℕ) (neighbour : Address) → exits o u output ≡ atExit t output₀ (breakNeighbour t n c neighbour) → q < s .points → c ≡ s .clock
+    pub break-done : (q c : ℕ) (neighbour : Address) → exits o (lend u) output ≡ atExit (lend t) output₀ (breakNeighbour (lend t) n c neighbour) → q < s .points → c ≡ s .clock
         → neighbour ≡ addressOf (tableAt tables 544 q)
         → t ≡ tableAt tables 544 p → output₀ ≡ zeros 1560 → n ≡ 1560 → after ≡ breakOff (benchOf s tables slots) p q
     unfolding breakOff
     break-done q c neighbour xe l ce qe te ue ne =
-        called (λ t n. breakNeighbour t n c neighbour) xe te ue ne
+        called (λ t n. breakNeighbour (lend t) n c neighbour) xe te ue ne
         ∙ rw (lt-ltb p (s .points) a-point, lt-ltb q (s .points) l, ce, qe)
 
-    pub handed-over : (k : ℕ) (a : Arrival) (e : List ℕ) → exits o u output ≡ atExit t output₀ (receive t n a e) → e ≡ elementOf slots k
+    pub handed-over : (k : ℕ) (a : Arrival) (e : List ℕ) → exits o (lend u) output ≡ atExit (lend t) output₀ (receive (lend t) n a e) → e ≡ elementOf slots k
         → t ≡ tableAt tables 544 p → output₀ ≡ zeros 1560 → n ≡ 1560 → after ≡ handedOver (benchOf s tables slots) k p a
     unfolding handedOver
-    handed-over k a e xe ee te ue ne = called (λ t n. receive t n a e) xe te ue ne ∙ rw ee
+    handed-over k a e xe ee te ue ne = called (λ t n. receive (lend t) n a e) xe te ue ne ∙ rw ee
 
 -- a frame with its sender
 module _ (s : State) (tables slots : List ℕ) (k p : ℕ) (kl : k < s .frames) (pl : p < s .points) (sender : ℕ) (we : sender ≡ senderOf slots k)

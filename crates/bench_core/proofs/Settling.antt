@@ -8,7 +8,7 @@ use native.Mathlib.Omega.{arith}
 use native.Mathlib.Nat.{add-zero}
 use borrow.Author.Tests.{lt-ltb, le-ltb}
 use borrow.Rule.Slice.PartMut.{putMid}
-use Rattle.rules.specs.Outcome.{Exit}
+use Rattle.rules.specs.Outcome.{lend, Exit}
 use Rattle.calls.specs.declared.Emitted.{Emitted}
 use Rattle.calls.specs.declared.Outcome.{Outcome}
 use Rattle.calls.specs.declared.Outcome.the-variants.{Accepted, Refused}
@@ -17,7 +17,7 @@ use Rattle.bench_core.specs.declared.State.{State}
 use Rattle.bench_core.specs.declared.Done.{Done}
 use Rattle.bench_core.specs.declared.Done.the-variants.{Fault}
 use Rattle.bench_core.specs.Frames.{keep}
-use Rattle.bench_core.specs.Bench.{withTable, settled}
+use Rattle.bench_core.specs.Bench.{withTableAt, settled}
 use Rattle.bench_core.specs.InCode.{benchOf, doneIn, printed, keptAs, keptSlots, settledAs, settledSlots}
 
 -- ---- the frames of a call
@@ -56,23 +56,23 @@ module _ (s : State) (o : Outcome) (sender : ℕ) (output slots : List ℕ) wher
 -- ---- the table of a point
 
 -- lent to a call as that part of the tables, and back
-pub put-back : (tables u : List ℕ) (p : ℕ) → putMid (544 * p) (544 * p + 544 - 544 * p) tables u ≡ withTable tables p u
-unfolding withTable
+pub put-back : (tables u : List ℕ) (p : ℕ) → putMid (544 * p) (544 * p + 544 - 544 * p) tables u ≡ withTableAt tables p u
+unfolding withTableAt
 put-back tables u p = let n : 544 * p + 544 - 544 * p ≡ 544 = omega arith in rw n
 
 -- the point's call gave outcome o, table u and output, which is the exit x
-module _ (s : State) (few : s .frames ≤ 128) (tables slots : List ℕ) (p : ℕ) (o : Outcome) (u output : List ℕ) (x : Exit) (xe : exits o u output ≡ x)
+module _ (s : State) (few : s .frames ≤ 128) (tables slots : List ℕ) (p : ℕ) (o : Outcome) (u output : List ℕ) (x : Exit) (xe : exits o (lend u) output ≡ x)
     (r : Done) (re : r ≡ settledAs s o) (slots′ : List ℕ) (se : slots′ ≡ settledSlots s o p output slots) where
-  kept-so : doneIn r (withTable tables p u) slots′ ≡ settled (benchOf s tables slots) p x
+  kept-so : doneIn r (withTableAt tables p u) slots′ ≡ settled (benchOf s tables slots) p x
   unfolding settled keep
   kept-so = by o xe re se
     where
-      by : (o : Outcome) → exits o u output ≡ x → r ≡ settledAs s o → slots′ ≡ settledSlots s o p output slots
-          → doneIn r (withTable tables p u) slots′ ≡ settled (benchOf s tables slots) p x
+      by : (o : Outcome) → exits o (lend u) output ≡ x → r ≡ settledAs s o → slots′ ≡ settledSlots s o p output slots
+          → doneIn r (withTableAt tables p u) slots′ ≡ settled (benchOf s tables slots) p x
       by (Refused n) xe re se = rw (re, se, ← xe, add-zero (s .frames), le-ltb 128 (s .frames) few)
       by (Accepted e) xe re se = cases (ltb 128 (s .frames + e .frames)) refl
         where
-          cases : (b : Bool) → ltb 128 (s .frames + e .frames) ≡ b → doneIn r (withTable tables p u) slots′ ≡ settled (benchOf s tables slots) p x
+          cases : (b : Bool) → ltb 128 (s .frames + e .frames) ≡ b → doneIn r (withTableAt tables p u) slots′ ≡ settled (benchOf s tables slots) p x
           cases true be = rw (re, ← xe, be)
           cases false be = rw (re, se, ← xe, be)
 

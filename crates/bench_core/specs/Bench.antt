@@ -8,7 +8,7 @@ use Rattle.octets.specs.LittleEndian.{zeros}
 use Rattle.table.specs.declared.address.Address.{Address}
 use Rattle.table.specs.Address.{addressOf}
 use Rattle.rules.specs.Decision.{Decision, _above_}
-use Rattle.rules.specs.Outcome.{Effect, Exit, atExit}
+use Rattle.rules.specs.Outcome.{lend, Effect, Exit, atExit}
 use Rattle.rules.specs.Walk.{tableAt}
 use Rattle.bench_core.specs.Frames.{keep}
 
@@ -43,14 +43,14 @@ abbrev pub isPoint : Bench → ℕ → Bool
 isPoint b p = ltb p (b .points)
 
 -- the tables with u as that of point p
-unfoldable pub withTable : List ℕ → ℕ → List ℕ → List ℕ
-withTable tables p u = take (544 * p) tables ++ (u ++ drop 544 (drop (544 * p) tables))
+unfoldable pub withTableAt : List ℕ → ℕ → List ℕ → List ℕ
+withTableAt tables p u = take (544 * p) tables ++ (u ++ drop 544 (drop (544 * p) tables))
 
 -- ---- a call of point p that may emit frames
 
 -- The output that the bench lends has the least length, and is zero.
 abbrev pub calledBy : Bench → ℕ → Decision Effect → Exit
-calledBy b p d = atExit (tableOf b p) (zeros 1560) d
+calledBy b p d = atExit (lend (tableOf b p)) (zeros 1560) d
 
 -- its table is kept, and its frames with their sender, unless there were more than 128
 unfoldable pub settled : Bench → ℕ → Exit → Done
@@ -58,7 +58,7 @@ settled b p x =
     cond ((b .frames + x .frames) above 128) fault
     (line (x .answer) (x .frames)
     (record {
-      tables = withTable (b .tables) p (x .table);
+      tables = withTableAt (b .tables) p (x .lent .table);
       points = b .points;
       slots = keep (b .slots) (x .output) p (b .frames) (x .frames) 0;
       frames = b .frames + x .frames;

@@ -8,6 +8,7 @@ use lib.ListN.{take}
 use Rattle.counters.specs.declared.SequenceNumber.{SequenceNumber}
 use Rattle.table.specs.declared.address.Address.{Address}
 use Rattle.table.specs.Address.{addressOf}
+use Rattle.rules.specs.Outcome.{lend}
 use Rattle.rules.specs.Decision.{Decision, refused, accepted, _above_, _below_}
 use Rattle.rules.specs.declared.Arrival.{Arrival}
 use Rattle.rules.specs.Fresh.{makeFresh}
@@ -17,7 +18,7 @@ use Rattle.rules.specs.Break.{breakNeighbour}
 use Rattle.rules.specs.Walk.{Walked, tableAt, walkedAtExit, walk}
 use Rattle.bench_core.specs.Links.{metricOf, linked}
 use Rattle.bench_core.specs.Frames.{senderOf, elementOf}
-use Rattle.bench_core.specs.Bench.{Bench, Done, fault, line, WithLinks, tableOf, addressIn, isPoint, withTable, calledBy, settled}
+use Rattle.bench_core.specs.Bench.{Bench, Done, fault, line, WithLinks, tableOf, addressIn, isPoint, withTableAt, calledBy, settled}
 
 -- 1 point. If refused, it is not added.
 abbrev pub added : Bench → Decision (List ℕ) → Done
@@ -25,7 +26,7 @@ added b (refused n) = line n 0 b
 added b (accepted u) =
     line 0 0
     (record {
-      tables = withTable (b .tables) (b .points) u;
+      tables = withTableAt (b .tables) (b .points) u;
       points = b .points + 1;
       slots = b .slots;
       frames = b .frames;
@@ -55,15 +56,15 @@ link b links p q metric =
 
 -- 4 ask for one destination: its item is flags and address
 unfoldable pub askFor : Bench → ℕ → (item : List ℕ) → (lifetime : ℕ) → Done
-askFor b p item lifetime = cond (isPoint b p) (settled b p (calledBy b p (ask (tableOf b p) 1560 lifetime item))) fault
+askFor b p item lifetime = cond (isPoint b p) (settled b p (calledBy b p (ask (lend (tableOf b p)) 1560 lifetime item))) fault
 
 -- 5 announce, flags 0
 unfoldable pub announceSelf : Bench → ℕ → (lifetime : ℕ) → Done
-announceSelf b p lifetime = cond (isPoint b p) (settled b p (calledBy b p (announce (tableOf b p) 1560 0 lifetime))) fault
+announceSelf b p lifetime = cond (isPoint b p) (settled b p (calledBy b p (announce (lend (tableOf b p)) 1560 0 lifetime))) fault
 
 -- 6 deliver frame k: from its sender, over the link between the two, whoever its receiver is
 unfoldable pub handedOver : Bench → (k p : ℕ) → Arrival → Done
-handedOver b k p arrival = settled b p (calledBy b p (receive (tableOf b p) 1560 arrival (elementOf (b .slots) k)))
+handedOver b k p arrival = settled b p (calledBy b p (receive (lend (tableOf b p)) 1560 arrival (elementOf (b .slots) k)))
 
 abbrev pub arrivalFrom : (tables : List ℕ) → List (List ℕ) → (clock sender p : ℕ) → Arrival
 arrivalFrom tables links clock sender p =
@@ -78,7 +79,7 @@ deliver b links k p =
 -- 7 break: the neighbour is a point
 unfoldable pub breakOff : Bench → (p q : ℕ) → Done
 breakOff b p q =
-    cond (isPoint b p && isPoint b q) (settled b p (calledBy b p (breakNeighbour (tableOf b p) 1560 (b .clock) (addressIn b q)))) fault
+    cond (isPoint b p && isPoint b q) (settled b p (calledBy b p (breakNeighbour (lend (tableOf b p)) 1560 (b .clock) (addressIn b q)))) fault
 
 -- 8 walk over the points, from one to another
 abbrev pub walkedLine : Bench → Walked → Done

@@ -23,7 +23,7 @@ use Rattle.element.specs.declared.LostDestination.{LostDestination}
 use Rattle.element.specs.Entries.{each}
 use Rattle.element.proofs.Scans.{each-length, each-next, each-end}
 use Rattle.rules.specs.Errors.{broken, brokenEntry, brokenEntries, errorsTaken, errorsFor}
-use Rattle.rules.specs.Outcome.{Exit, frameOctets, atExit}
+use Rattle.rules.specs.Outcome.{lend, Exit, frameOctets, atExit}
 use Rattle.rules.specs.Break.{brokenOff, breaking, breakNeighbour}
 use Rattle.rules.specs.Decision.{accepted}
 use Rattle.rules.proofs.Room.{entry-one, entries-few}
@@ -188,18 +188,19 @@ pub broken-exit : (t output w u v : List ℕ) (c : ℕ) (test : Row → Bool) (h
     → (lost : ℕ) → lost ≡ length (brokenEntries test t) → lost ≤ mostRows
     → w ≡ changeWhere test broken t → v ≡ over output 0 (frameOctets (errorsFor (brokenEntries test t)))
     → u ≡ putHead w (headWith (h .number) (h .request) c h) → (e : Emitted) → e ≡ record { frames = errorsTaken lost; octets = octetsFor lost }
-    → exits (Outcome.Accepted e) u v ≡ atExit t output (accepted (brokenOff t c test))
+    → exits (Outcome.Accepted e) (lend u) v ≡ atExit (lend t) output (accepted (brokenOff (lend t) c test))
 unfolding brokenOff
 broken-exit t output w u v c test h he lost le few we ve ue e ee =
     let entries : List LostDestination = brokenEntries test t in
     let frames : errorsTaken lost ≡ length (errorsFor entries) = ap errorsTaken le ∙ sym (errors-many entries) in
     let octets : octetsFor lost ≡ length (frameOctets (errorsFor entries)) = ap octetsFor le ∙ sym (errors-long 6 entries (omega (arith, le, few))) in
-    accepted-exit t output (brokenOff t c test) u v e (same-number t c h he w (changeWhere test broken t) u we ue) ve
+    accepted-exit (lend t) output (brokenOff (lend t) c test) (lend u) v e
+    (ap lend (same-number t c h he w (changeWhere test broken t) u we ue)) ve
     (ee ∙ ap₂ (λ (m n : ℕ). record { frames = m; octets = n }) frames octets)
 
 -- ---- decided by the check
 
-module _ (t output : List ℕ) (c : ℕ) (neighbour : Address) (a : Answer) (ae : a ≡ answerTo (breaking t (length output) c neighbour .checks)) where
+module _ (t output : List ℕ) (c : ℕ) (neighbour : Address) (a : Answer) (ae : a ≡ answerTo (breaking (lend t) (length output) c neighbour .checks)) where
   module _ (ok : a ≡ Accepted) where
     pub break-table-sized : Sized t
     unfolding listed
@@ -209,11 +210,11 @@ module _ (t output : List ℕ) (c : ℕ) (neighbour : Address) (a : Answer) (ae 
     unfolding listed
     break-output-long = output-long t output _ a ae ok
 
-  pub break-refused : (n : ℕ) → a ≡ Refused n → exits (Outcome.Refused n) t output ≡ atExit t output (breakNeighbour t (length output) c neighbour)
+  pub break-refused : (n : ℕ) → a ≡ Refused n → exits (Outcome.Refused n) (lend t) output ≡ atExit (lend t) output (breakNeighbour (lend t) (length output) c neighbour)
   unfolding breakNeighbour
-  break-refused = refusal t output (breaking t (length output) c neighbour) a ae
+  break-refused = refusal (lend t) output (breaking (lend t) (length output) c neighbour) a ae
 
-  pub break-accepted : a ≡ Accepted → (x : Exit) → x ≡ atExit t output (accepted (brokenOff t c (isThrough c neighbour)))
-      → x ≡ atExit t output (breakNeighbour t (length output) c neighbour)
+  pub break-accepted : a ≡ Accepted → (x : Exit) → x ≡ atExit (lend t) output (accepted (brokenOff (lend t) c (isThrough c neighbour)))
+      → x ≡ atExit (lend t) output (breakNeighbour (lend t) (length output) c neighbour)
   unfolding breaking breakNeighbour
-  break-accepted = acceptance t output (breaking t (length output) c neighbour) a ae
+  break-accepted = acceptance (lend t) output (breaking (lend t) (length output) c neighbour) a ae

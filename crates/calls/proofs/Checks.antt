@@ -12,7 +12,7 @@ use Rattle.table.specs.Layout.{sized, headOctets, Sized}
 use Rattle.table.proofs.Cases.{of-size}
 use Rattle.rules.specs.Decision.{Decision, refused, accepted, Check, Ruling, judged, decide}
 use Rattle.rules.specs.Checks.{bufferChecks}
-use Rattle.rules.specs.Outcome.{Effect, frameOctets, Exit, atExit}
+use Rattle.rules.specs.Outcome.{Lent, Effect, frameOctets, Exit, atExit}
 use Rattle.rules.proofs.Rulings.{Passed, passed}
 use Rattle.calls.specs.declared.Outcome.{Outcome}
 use Rattle.calls.specs.declared.Answer.{Answer}
@@ -116,19 +116,19 @@ answer-passed checks e = passed {A = ℕ} (record { checks = checks; otherwise =
 pub decided-as : {A : Type 0} (r : Ruling A) (a : Answer) → a ≡ answerTo (r .checks) → decide r ≡ as-decision (r .otherwise) a
 decided-as r a ae = answer-decides (r .otherwise) (r .checks) a ae
 
-module _ (t output : List ℕ) (r : Ruling Effect) (a : Answer) (ae : a ≡ answerTo (r .checks)) where
-  pub refusal : (n : ℕ) → a ≡ Refused n → exits (Outcome.Refused n) t output ≡ atExit t output (decide r)
+module _ (l : Lent) (output : List ℕ) (r : Ruling Effect) (a : Answer) (ae : a ≡ answerTo (r .checks)) where
+  pub refusal : (n : ℕ) → a ≡ Refused n → exits (Outcome.Refused n) l output ≡ atExit l output (decide r)
   unfolding atExit
-  refusal n e = sym (ap (atExit t output) (decided-as r a ae ∙ ap (as-decision (r .otherwise)) e))
+  refusal n e = sym (ap (atExit l output) (decided-as r a ae ∙ ap (as-decision (r .otherwise)) e))
 
-  pub acceptance : a ≡ Accepted → (x : Exit) → x ≡ atExit t output (accepted (r .otherwise)) → x ≡ atExit t output (decide r)
-  acceptance e x h = h ∙ sym (ap (atExit t output) (decided-as r a ae ∙ ap (as-decision (r .otherwise)) e))
+  pub acceptance : a ≡ Accepted → (x : Exit) → x ≡ atExit l output (accepted (r .otherwise)) → x ≡ atExit l output (decide r)
+  acceptance e x h = h ∙ sym (ap (atExit l output) (decided-as r a ae ∙ ap (as-decision (r .otherwise)) e))
 
--- an accepted call by the table, the output and the frames that it leaves
-pub accepted-exit : (t output : List ℕ) (x : Effect) (u v : List ℕ) (e : Emitted) → u ≡ x .table → v ≡ over output 0 (frameOctets (x .frames))
-    → e ≡ emitted (x .frames) → exits (Outcome.Accepted e) u v ≡ atExit t output (accepted x)
+-- an accepted call by what it leaves in what it was lent and in the output, and by its frames
+pub accepted-exit : (l : Lent) (output : List ℕ) (x : Effect) (m : Lent) (v : List ℕ) (e : Emitted) → m ≡ x .lent
+    → v ≡ over output 0 (frameOctets (x .frames)) → e ≡ emitted (x .frames) → exits (Outcome.Accepted e) m v ≡ atExit l output (accepted x)
 unfolding atExit
-accepted-exit t output x u v e ue ve ee = rw (ue, ve, ee)
+accepted-exit l output x m v e me ve ee = rw (me, ve, ee)
 
 -- check 1 tells the size of a table
 pub passes-1 : (t : List ℕ) (a : Bool) → a ≡ sized t → not a ≡ false → Sized t

@@ -4,7 +4,7 @@ use mathlib.Core.Bool.{cond}
 use mathlib.Core.List.{List, [], _∷_}
 use lib.ListN.{length}
 use Rattle.rules.specs.Decision.{Check, Left}
-use Rattle.rules.specs.Outcome.{Frame, frameOctets, Exit}
+use Rattle.rules.specs.Outcome.{Frame, Lent, frameOctets, Exit}
 use Rattle.calls.specs.declared.Answer.{Answer}
 use Rattle.calls.specs.declared.Answer.the-variants.{Accepted, Refused}
 use Rattle.calls.specs.declared.Emitted.{Emitted}
@@ -28,7 +28,7 @@ answerTo (k ∷ checks) = cond (k .applies) (Refused (k .number)) (answerTo chec
 abbrev pub emitted : List Frame → Emitted
 emitted frames = record { frames = length frames; octets = length (frameOctets frames) }
 
--- this outcome with the table and the output that the call leaves
-abbrev pub exits : Outcome → List ℕ → List ℕ → Exit
-exits (Outcome.Accepted e) t output = record { answer = 0; frames = e .frames; octets = e .octets; table = t; output = output }
-exits (Outcome.Refused n) t output = record { answer = n; frames = 0; octets = 0; table = t; output = output }
+-- this outcome with what the call leaves in what it was lent and in the output
+abbrev pub exits : Outcome → Lent → List ℕ → Exit
+exits (Outcome.Accepted e) l output = record { answer = 0; frames = e .frames; octets = e .octets; lent = l; output = output }
+exits (Outcome.Refused n) l output = record { answer = n; frames = 0; octets = 0; lent = l; output = output }

@@ -7,7 +7,7 @@ use Rattle.table.specs.declared.address.Address.{Address}
 use Rattle.table.specs.Address.{addressOf}
 use native.Mathlib.Omega.{arith}
 use Rattle.rules.specs.Decision.{Decision, refused, accepted}
-use Rattle.rules.specs.Outcome.{Effect, Exit, atExit}
+use Rattle.rules.specs.Outcome.{Lent, Effect, Exit, atExit}
 use Rattle.rules.specs.Break.{breakNeighbour}
 use Rattle.rules.specs.Receive.{receive}
 use Rattle.rules.specs.Walk.{Walked, walk, walkedAtExit}
@@ -21,23 +21,23 @@ use Rattle.walk.specs.Answers.{decisionOf, numbersOf}
 use Rattle.hwmp.specs.declared.HwmpOutcome.{HwmpOutcome}
 use Rattle.hwmp.specs.ForC.{outcomeFor, leaving}
 
-pub handed-on : (o : Outcome) (r : HwmpOutcome) → r ≡ outcomeFor o → (t output : List ℕ) (x : Exit) → exits o t output ≡ x → leaving r t output ≡ x
-handed-on (Accepted e) r re t output x h = ap (λ (q : HwmpOutcome). leaving q t output) re ∙ h
-handed-on (Refused n) r re t output x h = ap (λ (q : HwmpOutcome). leaving q t output) re ∙ h
+pub handed-on : (o : Outcome) (r : HwmpOutcome) → r ≡ outcomeFor o → (l : Lent) (output : List ℕ) (x : Exit) → exits o l output ≡ x → leaving r l output ≡ x
+handed-on (Accepted e) r re l output x h = ap (λ (q : HwmpOutcome). leaving q l output) re ∙ h
+handed-on (Refused n) r re l output x h = ap (λ (q : HwmpOutcome). leaving q l output) re ∙ h
 
 -- of a call with a neighbour or a transmitter, by the octets of its address
-module _ (o : Outcome) (r : HwmpOutcome) (re : r ≡ outcomeFor o) (t output t₀ output₀ s : List ℕ) (a : Address) (ae : a ≡ addressOf s) where
-  by-address : (call : Address → Decision Effect) → exits o t output ≡ atExit t₀ output₀ (call a) → leaving r t output ≡ atExit t₀ output₀ (call (addressOf s))
-  by-address call h = handed-on o r re t output _ (h ∙ ap (λ (b : Address). atExit t₀ output₀ (call b)) ae)
+module _ (o : Outcome) (r : HwmpOutcome) (re : r ≡ outcomeFor o) (l l₀ : Lent) (output output₀ s : List ℕ) (a : Address) (ae : a ≡ addressOf s) where
+  by-address : (call : Address → Decision Effect) → exits o l output ≡ atExit l₀ output₀ (call a) → leaving r l output ≡ atExit l₀ output₀ (call (addressOf s))
+  by-address call h = handed-on o r re l output _ (h ∙ ap (λ (b : Address). atExit l₀ output₀ (call b)) ae)
 
-  pub break-handed-on : (n c : ℕ) → exits o t output ≡ atExit t₀ output₀ (breakNeighbour t₀ n c a)
-      → leaving r t output ≡ atExit t₀ output₀ (breakNeighbour t₀ n c (addressOf s))
-  break-handed-on n c = by-address (breakNeighbour t₀ n c)
+  pub break-handed-on : (n c : ℕ) → exits o l output ≡ atExit l₀ output₀ (breakNeighbour l₀ n c a)
+      → leaving r l output ≡ atExit l₀ output₀ (breakNeighbour l₀ n c (addressOf s))
+  break-handed-on n c = by-address (breakNeighbour l₀ n c)
 
   pub receive-handed-on : (n c : ℕ) (link : Metric) (e : List ℕ)
-      → exits o t output ≡ atExit t₀ output₀ (receive t₀ n (record { clock = c; transmitter = a; link = link }) e)
-      → leaving r t output ≡ atExit t₀ output₀ (receive t₀ n (record { clock = c; transmitter = addressOf s; link = link }) e)
-  receive-handed-on n c link e = by-address (λ (b : Address). receive t₀ n (record { clock = c; transmitter = b; link = link }) e)
+      → exits o l output ≡ atExit l₀ output₀ (receive l₀ n (record { clock = c; transmitter = a; link = link }) e)
+      → leaving r l output ≡ atExit l₀ output₀ (receive l₀ n (record { clock = c; transmitter = addressOf s; link = link }) e)
+  receive-handed-on n c link e = by-address (λ (b : Address). receive l₀ n (record { clock = c; transmitter = b; link = link }) e)
 
 -- no more hops than points, refused or not
 pub hops-few : (s : List ℕ) (count c : ℕ) (start d : Address) (e : Ending) → decisionOf e ≡ walk s count c start d

@@ -5,7 +5,7 @@ use Rattle.octets.specs.LittleEndian.{zeros}
 use Rattle.table.specs.declared.address.Address.{Address}
 use Rattle.table.specs.Address.{octetsOf}
 use Rattle.rules.specs.Decision.{Decision, refused, accepted}
-use Rattle.rules.specs.Outcome.{Exit}
+use Rattle.rules.specs.Outcome.{Lent, Exit}
 use Rattle.calls.specs.declared.Outcome.{Outcome}
 use Rattle.calls.specs.declared.Outcome.the-variants.{Accepted, Refused}
 use Rattle.hwmp.specs.declared.HwmpHop.{HwmpHop}
@@ -21,6 +21,6 @@ abbrev pub outcomeFor : Outcome → HwmpOutcome
 outcomeFor (Accepted e) = record { answer = 0; frames = e .frames; octets = e .octets }
 outcomeFor (Refused n) = record { answer = n; frames = 0; octets = 0 }
 
--- what C gets, with the table and the output that the call leaves
-abbrev pub leaving : HwmpOutcome → List ℕ → List ℕ → Exit
-leaving r t output = record { answer = r .answer; frames = r .frames; octets = r .octets; table = t; output = output }
+-- what C gets, with what the call leaves in what it was lent and in the output
+abbrev pub leaving : HwmpOutcome → Lent → List ℕ → Exit
+leaving r l output = record { answer = r .answer; frames = r .frames; octets = r .octets; lent = l; output = output }

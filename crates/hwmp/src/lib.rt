@@ -18,7 +18,7 @@ ghost use Prim.Native.Nat.{_≤_};
 ghost use lib.ListN.{length};
 ghost use Rattle.table.specs.Address.{addressOf};
 ghost use Rattle.rules.specs.Decision.{left};
-ghost use Rattle.rules.specs.Outcome.{atExit};
+ghost use Rattle.rules.specs.Outcome.{atExit, lend};
 ghost use Rattle.rules.specs.Fresh.{makeFresh};
 ghost use Rattle.rules.specs.Forget.{forget};
 ghost use Rattle.rules.specs.NextHop.{nextHop};
@@ -107,7 +107,7 @@ pub extern "C" fn hwmp_receive(
     link: u32,
     element: &[u8],
 ) -> HwmpOutcome
-    ensures { λ r. ⌜ leaving r (now (table .exit)) (now (output .exit)) ≡ atExit (now (table .entry)) (now (output .entry)) (receive (now (table .entry)) (length (now (output .entry))) (record { clock = clock; transmitter = addressOf (now (transmitter .entry)); link = record { 0 = link } }) (now (element .entry))) ⌝ }
+    ensures { λ r. ⌜ leaving r (lend (now (table .exit))) (now (output .exit)) ≡ atExit (lend (now (table .entry))) (now (output .entry)) (receive (lend (now (table .entry))) (length (now (output .entry))) (record { clock = clock; transmitter = addressOf (now (transmitter .entry)); link = record { 0 = link } }) (now (element .entry))) ⌝ }
 {
     let arrival = Arrival {
         clock,
@@ -124,7 +124,7 @@ pub extern "C" fn hwmp_ask(
     lifetime: u32,
     items: &[u8],
 ) -> HwmpOutcome
-    ensures { λ r. ⌜ leaving r (now (table .exit)) (now (output .exit)) ≡ atExit (now (table .entry)) (now (output .entry)) (ask (now (table .entry)) (length (now (output .entry))) lifetime (now (items .entry))) ⌝ }
+    ensures { λ r. ⌜ leaving r (lend (now (table .exit))) (now (output .exit)) ≡ atExit (lend (now (table .entry))) (now (output .entry)) (ask (lend (now (table .entry))) (length (now (output .entry))) lifetime (now (items .entry))) ⌝ }
 {
     outcome_for(ask::ask(table, output, lifetime, items))
 }
@@ -136,7 +136,7 @@ pub extern "C" fn hwmp_announce(
     flags: u8,
     lifetime: u32,
 ) -> HwmpOutcome
-    ensures { λ r. ⌜ leaving r (now (table .exit)) (now (output .exit)) ≡ atExit (now (table .entry)) (now (output .entry)) (announce (now (table .entry)) (length (now (output .entry))) flags lifetime) ⌝ }
+    ensures { λ r. ⌜ leaving r (lend (now (table .exit))) (now (output .exit)) ≡ atExit (lend (now (table .entry))) (now (output .entry)) (announce (lend (now (table .entry))) (length (now (output .entry))) flags lifetime) ⌝ }
 {
     outcome_for(announce::announce(table, output, flags, lifetime))
 }
@@ -148,7 +148,7 @@ pub extern "C" fn hwmp_root_request(
     flags: u8,
     lifetime: u32,
 ) -> HwmpOutcome
-    ensures { λ r. ⌜ leaving r (now (table .exit)) (now (output .exit)) ≡ atExit (now (table .entry)) (now (output .entry)) (rootRequest (now (table .entry)) (length (now (output .entry))) flags lifetime) ⌝ }
+    ensures { λ r. ⌜ leaving r (lend (now (table .exit))) (now (output .exit)) ≡ atExit (lend (now (table .entry))) (now (output .entry)) (rootRequest (lend (now (table .entry))) (length (now (output .entry))) flags lifetime) ⌝ }
 {
     outcome_for(root_request::root_request(table, output, flags, lifetime))
 }
@@ -160,7 +160,7 @@ pub extern "C" fn hwmp_break(
     clock: u64,
     neighbour: &[u8; 6],
 ) -> HwmpOutcome
-    ensures { λ r. ⌜ leaving r (now (table .exit)) (now (output .exit)) ≡ atExit (now (table .entry)) (now (output .entry)) (breakNeighbour (now (table .entry)) (length (now (output .entry))) clock (addressOf (now (neighbour .entry)))) ⌝ }
+    ensures { λ r. ⌜ leaving r (lend (now (table .exit))) (now (output .exit)) ≡ atExit (lend (now (table .entry))) (now (output .entry)) (breakNeighbour (lend (now (table .entry))) (length (now (output .entry))) clock (addressOf (now (neighbour .entry)))) ⌝ }
 {
     outcome_for(break_neighbour::break_neighbour(table, output, clock, address::read(neighbour)))
 }

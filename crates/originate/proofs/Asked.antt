@@ -27,7 +27,7 @@ use Rattle.element.proofs.Scans.{each-length}
 use Rattle.element.proofs.Written.{entries-more, target-length}
 use Rattle.rules.specs.Decision.{accepted, Check}
 use Rattle.rules.specs.Lists.{any}
-use Rattle.rules.specs.Outcome.{Exit, atExit}
+use Rattle.rules.specs.Outcome.{lend, Exit, atExit}
 use Rattle.rules.specs.Originate.{numberedHead, ownRequest, requested, itemsFit, hasHighFlags, knownNumber, askedFor, itemChecks, asking, ask}
 use Rattle.rules.proofs.AnyOf.{any-found, any-more}
 use Rattle.rules.proofs.Rulings.{listed, Passed, passed-check}
@@ -102,7 +102,7 @@ module _ (t s output u v : List ℕ) (octets : ℕ) (size : octets ≡ 34 + 11 *
   pub asked-exit : (lifetime : ℕ) (h₀ h : Head) → h₀ ≡ headAt t → h ≡ numberedHead true h₀
       → v ≡ over output 0 (writeFrame allOnes (rreq (ownRequest h 0 lifetime) (map (askedFor t) (itemsIn s)))) → u ≡ putHead t h
       → (em : Emitted) → em ≡ record { frames = 1; octets = octets }
-      → exits (Outcome.Accepted em) u v ≡ atExit t output (accepted (requested t 0 lifetime (map (askedFor t) (itemsIn s))))
+      → exits (Outcome.Accepted em) (lend u) v ≡ atExit (lend t) output (accepted (requested (lend t) 0 lifetime (map (askedFor t) (itemsIn s))))
   asked-exit lifetime h₀ h e₀ he ve ue =
       requested-exit t output u v 0 lifetime h₀ h e₀ he ue (map (askedFor t) (itemsIn s)) (length s / 7) (asked-many t s) ve octets size
 
@@ -117,10 +117,10 @@ pub items-passed : (s : List ℕ) (a : Answer) → a ≡ answerTo (itemChecks s)
     → r ≡ answerTo (itemChecks s ++ checks)
 items-passed s = passed-first (itemChecks s)
 
-module _ (t output s : List ℕ) (lifetime : ℕ) (a : Answer) (ae : a ≡ answerTo (asking t (length output) lifetime s .checks)) where
+module _ (t output s : List ℕ) (lifetime : ℕ) (a : Answer) (ae : a ≡ answerTo (asking (lend t) (length output) lifetime s .checks)) where
   module _ (ok : a ≡ Accepted) where
-    ask-passed : Passed (asking t (length output) lifetime s .checks)
-    ask-passed = answer-passed (asking t (length output) lifetime s .checks) (sym ok ∙ ae)
+    ask-passed : Passed (asking (lend t) (length output) lifetime s .checks)
+    ask-passed = answer-passed (asking (lend t) (length output) lifetime s .checks) (sym ok ∙ ae)
 
     pub ask-table-sized : Sized t
     unfolding asking
@@ -135,7 +135,7 @@ module _ (t output s : List ℕ) (lifetime : ℕ) (a : Answer) (ae : a ≡ answe
     unfolding itemsFit listed
     items-fit =
         and-eq-true-iff (eqb (length s % 7) 0 && leb 7 (length s)) (leb (length s) 140) .0
-        (not-false (itemsFit s) (passed-check 8 (asking t (length output) lifetime s .checks) ask-passed))
+        (not-false (itemsFit s) (passed-check 8 (asking (lend t) (length output) lifetime s .checks) ask-passed))
 
     pub items-some : 7 ≤ length s
     items-some = leb-true 7 (length s) (and-eq-true-iff (eqb (length s % 7) 0) (leb 7 (length s)) .0 (items-fit .0) .1)
@@ -143,11 +143,11 @@ module _ (t output s : List ℕ) (lifetime : ℕ) (a : Answer) (ae : a ≡ answe
     pub items-few : length s ≤ 140
     items-few = leb-true (length s) 140 (items-fit .1)
 
-  pub ask-refused : (n : ℕ) → a ≡ Refused n → exits (Outcome.Refused n) t output ≡ atExit t output (ask t (length output) lifetime s)
+  pub ask-refused : (n : ℕ) → a ≡ Refused n → exits (Outcome.Refused n) (lend t) output ≡ atExit (lend t) output (ask (lend t) (length output) lifetime s)
   unfolding ask
-  ask-refused = refusal t output (asking t (length output) lifetime s) a ae
+  ask-refused = refusal (lend t) output (asking (lend t) (length output) lifetime s) a ae
 
-  pub ask-accepted : a ≡ Accepted → (x : Exit) → x ≡ atExit t output (accepted (requested t 0 lifetime (map (askedFor t) (itemsIn s))))
-      → x ≡ atExit t output (ask t (length output) lifetime s)
+  pub ask-accepted : a ≡ Accepted → (x : Exit) → x ≡ atExit (lend t) output (accepted (requested (lend t) 0 lifetime (map (askedFor t) (itemsIn s))))
+      → x ≡ atExit (lend t) output (ask (lend t) (length output) lifetime s)
   unfolding asking ask
-  ask-accepted = acceptance t output (asking t (length output) lifetime s) a ae
+  ask-accepted = acceptance (lend t) output (asking (lend t) (length output) lifetime s) a ae

@@ -18,7 +18,7 @@ use Rattle.element.specs.Octets.{frameStart, writeFrame}
 use Rattle.element.proofs.Sizes.{frame-length}
 use Rattle.element.proofs.Written.{finished}
 use Rattle.rules.specs.Decision.{accepted}
-use Rattle.rules.specs.Outcome.{Exit, atExit}
+use Rattle.rules.specs.Outcome.{lend, Exit, atExit}
 use Rattle.rules.specs.Onward.{toAll}
 use Rattle.rules.specs.Originate.{numberedHead, ownPath, ownRequest, announced, requested, originating, announcing, announce, isRootFlags, allWithDOAndRF, requestingAsRoot, rootRequest}
 use Rattle.rules.proofs.FrameOctets.{one-frame}
@@ -32,19 +32,19 @@ use Rattle.calls.proofs.Checks.{refusal, acceptance, accepted-exit}
 -- ---- one frame to all ones
 
 one-frame-exit : (t output u v : List ℕ) (n : ℕ) (e : Element) → v ≡ over output 0 (writeFrame allOnes e) → n ≡ length (writeFrame allOnes e)
-    → (em : Emitted) → em ≡ record { frames = 1; octets = n } → exits (Outcome.Accepted em) u v ≡ atExit t output (accepted (record { table = u; frames = toAll e }))
+    → (em : Emitted) → em ≡ record { frames = 1; octets = n } → exits (Outcome.Accepted em) (lend u) v ≡ atExit (lend t) output (accepted (record { lent = lend u; frames = toAll e }))
 one-frame-exit t output u v n e ve ne em eme =
-    accepted-exit t output (record { table = u; frames = toAll e }) u v em refl (rw one-frame ve) (eme ∙ rw (one-frame, ne))
+    accepted-exit (lend t) output (record { lent = lend u; frames = toAll e }) (lend u) v em refl (rw one-frame ve) (eme ∙ rw (one-frame, ne))
 
 -- ---- announce
 
 pub announced-exit : (t output u v : List ℕ) (flags lifetime : ℕ) (h₀ h : Head) → h₀ ≡ headAt t → h ≡ numberedHead false h₀ → u ≡ putHead t h
     → (p : PathInfo) → p ≡ ownPath h flags lifetime → v ≡ over output 0 (writeFrame allOnes (rann p)) → (octets : ℕ) → octets ≡ 0 + 29
-    → (em : Emitted) → em ≡ record { frames = 1; octets = octets } → exits (Outcome.Accepted em) u v ≡ atExit t output (accepted (announced t flags lifetime))
+    → (em : Emitted) → em ≡ record { frames = 1; octets = octets } → exits (Outcome.Accepted em) (lend u) v ≡ atExit (lend t) output (accepted (announced (lend t) flags lifetime))
 unfolding announced
 announced-exit t output u v flags lifetime h₀ h e₀ he ue p pe ve octets size em eme =
     one-frame-exit t output u v octets (rann p) ve (size ∙ sym (frame-length allOnes (rann p))) em eme
-    ∙ ap₂ (λ (w : List ℕ) (q : PathInfo). atExit t output (accepted (record { table = w; frames = toAll (rann q) })))
+    ∙ ap₂ (λ (w : List ℕ) (q : PathInfo). atExit (lend t) output (accepted (record { lent = lend w; frames = toAll (rann q) })))
     (ue ∙ ap (putHead t) stepped) (pe ∙ ap (λ (k : Head). ownPath k flags lifetime) stepped)
   where
     stepped : h ≡ numberedHead false (headAt t)
@@ -69,12 +69,12 @@ request-finished w output v h flags lifetime targets n ne we at ate ve =
 module _ (t output u v : List ℕ) (flags lifetime : ℕ) (h₀ h : Head) (e₀ : h₀ ≡ headAt t) (he : h ≡ numberedHead true h₀) (ue : u ≡ putHead t h) where
   pub requested-exit : (targets : List Target) (n : ℕ) → n ≡ length targets
       → v ≡ over output 0 (writeFrame allOnes (rreq (ownRequest h flags lifetime) targets)) → (octets : ℕ) → octets ≡ 34 + 11 * n
-      → (em : Emitted) → em ≡ record { frames = 1; octets = octets } → exits (Outcome.Accepted em) u v ≡ atExit t output (accepted (requested t flags lifetime targets))
+      → (em : Emitted) → em ≡ record { frames = 1; octets = octets } → exits (Outcome.Accepted em) (lend u) v ≡ atExit (lend t) output (accepted (requested (lend t) flags lifetime targets))
   unfolding requested
   requested-exit targets n ne ve octets size em eme =
       one-frame-exit t output u v octets (rreq (ownRequest h flags lifetime) targets) ve
       (omega (arith, size, ne, frame-length allOnes (rreq (ownRequest h flags lifetime) targets))) em eme
-      ∙ ap₂ (λ (x : List ℕ) (k : Head). atExit t output (accepted (record { table = x; frames = toAll (rreq (ownRequest k flags lifetime) targets) })))
+      ∙ ap₂ (λ (x : List ℕ) (k : Head). atExit (lend t) output (accepted (record { lent = lend x; frames = toAll (rreq (ownRequest k flags lifetime) targets) })))
       (ue ∙ ap (putHead t) stepped) stepped
     where
       stepped : h ≡ numberedHead true (headAt t)
@@ -84,7 +84,7 @@ module _ (t output u v : List ℕ) (flags lifetime : ℕ) (h₀ h : Head) (e₀ 
   pub root-exit : (w : List ℕ) → w ≡ over output 0 (frameStart allOnes Rreq 1 (rreqNumbers (ownRequest h flags lifetime)))
       → (at : ℕ) → at ≡ 34 → v ≡ over w at (targetOctets allWithDOAndRF) → (octets : ℕ) → octets ≡ at + 11
       → (em : Emitted) → em ≡ record { frames = 1; octets = octets }
-      → exits (Outcome.Accepted em) u v ≡ atExit t output (accepted (requested t flags lifetime (allWithDOAndRF ∷ [])))
+      → exits (Outcome.Accepted em) (lend u) v ≡ atExit (lend t) output (accepted (requested (lend t) flags lifetime (allWithDOAndRF ∷ [])))
   unfolding flatMap
   root-exit w we at ate ve octets size =
       requested-exit (allWithDOAndRF ∷ []) 1 refl
@@ -94,26 +94,26 @@ module _ (t output u v : List ℕ) (flags lifetime : ℕ) (h₀ h : Head) (e₀ 
 
 -- ---- decided by the check
 
-module _ (t output : List ℕ) (flags lifetime : ℕ) (a : Answer) (ae : a ≡ answerTo (announcing t (length output) flags lifetime .checks)) where
-  pub announce-refused : (n : ℕ) → a ≡ Refused n → exits (Outcome.Refused n) t output ≡ atExit t output (announce t (length output) flags lifetime)
+module _ (t output : List ℕ) (flags lifetime : ℕ) (a : Answer) (ae : a ≡ answerTo (announcing (lend t) (length output) flags lifetime .checks)) where
+  pub announce-refused : (n : ℕ) → a ≡ Refused n → exits (Outcome.Refused n) (lend t) output ≡ atExit (lend t) output (announce (lend t) (length output) flags lifetime)
   unfolding announce
-  announce-refused = refusal t output (announcing t (length output) flags lifetime) a ae
+  announce-refused = refusal (lend t) output (announcing (lend t) (length output) flags lifetime) a ae
 
-  pub announce-accepted : a ≡ Accepted → (x : Exit) → x ≡ atExit t output (accepted (announced t flags lifetime))
-      → x ≡ atExit t output (announce t (length output) flags lifetime)
+  pub announce-accepted : a ≡ Accepted → (x : Exit) → x ≡ atExit (lend t) output (accepted (announced (lend t) flags lifetime))
+      → x ≡ atExit (lend t) output (announce (lend t) (length output) flags lifetime)
   unfolding announce
-  announce-accepted = acceptance t output (announcing t (length output) flags lifetime) a ae
+  announce-accepted = acceptance (lend t) output (announcing (lend t) (length output) flags lifetime) a ae
 
 module _ (t output : List ℕ) (flags lifetime : ℕ) (b : Bool) (be : b ≡ isRootFlags flags) (a : Answer)
     (ae : a ≡ answerTo (originating {A = Unit {0}} t (length output) (not b) lifetime tt .checks)) where
-  root-checks : a ≡ answerTo (requestingAsRoot t (length output) flags lifetime .checks)
+  root-checks : a ≡ answerTo (requestingAsRoot (lend t) (length output) flags lifetime .checks)
   root-checks = ae ∙ ap (λ (c : Bool). answerTo (originating {A = Unit {0}} t (length output) (not c) lifetime tt .checks)) be
 
-  pub root-refused : (n : ℕ) → a ≡ Refused n → exits (Outcome.Refused n) t output ≡ atExit t output (rootRequest t (length output) flags lifetime)
+  pub root-refused : (n : ℕ) → a ≡ Refused n → exits (Outcome.Refused n) (lend t) output ≡ atExit (lend t) output (rootRequest (lend t) (length output) flags lifetime)
   unfolding rootRequest
-  root-refused = refusal t output (requestingAsRoot t (length output) flags lifetime) a root-checks
+  root-refused = refusal (lend t) output (requestingAsRoot (lend t) (length output) flags lifetime) a root-checks
 
-  pub root-accepted : a ≡ Accepted → (x : Exit) → x ≡ atExit t output (accepted (requested t flags lifetime (allWithDOAndRF ∷ [])))
-      → x ≡ atExit t output (rootRequest t (length output) flags lifetime)
+  pub root-accepted : a ≡ Accepted → (x : Exit) → x ≡ atExit (lend t) output (accepted (requested (lend t) flags lifetime (allWithDOAndRF ∷ [])))
+      → x ≡ atExit (lend t) output (rootRequest (lend t) (length output) flags lifetime)
   unfolding rootRequest
-  root-accepted = acceptance t output (requestingAsRoot t (length output) flags lifetime) a root-checks
+  root-accepted = acceptance (lend t) output (requestingAsRoot (lend t) (length output) flags lifetime) a root-checks

@@ -28,7 +28,7 @@ ghost use Rattle.element.specs.Lists.{allOnes};
 ghost use Rattle.element.specs.Octets.{writeFrame};
 ghost use Rattle.rules.specs.Decision.{accepted};
 ghost use Rattle.rules.specs.Lists.{any};
-ghost use Rattle.rules.specs.Outcome.{atExit};
+ghost use Rattle.rules.specs.Outcome.{atExit, lend};
 ghost use Rattle.rules.specs.Originate.{ask, askedFor, asking, hasHighFlags, itemChecks, itemsFit, knownNumber, ownRequest, requested};
 ghost use Rattle.calls.specs.Answers.{answerTo, exits};
 
@@ -70,7 +70,7 @@ fn check_items(items: &[u8]) -> Answer
 }
 
 fn check(table: &[u8], output: &[u8], lifetime: u32, items: &[u8]) -> Answer
-    ensures { λ r. ⌜ r ≡ answerTo (asking (now (table .entry)) (length (now (output .entry))) lifetime (now (items .entry)) .checks) ⌝ }
+    ensures { λ r. ⌜ r ≡ answerTo (asking (lend (now (table .entry))) (length (now (output .entry))) lifetime (now (items .entry)) .checks) ⌝ }
 {
     if !legal::is_sized(table) {
         return Answer::Refused(1);
@@ -157,7 +157,7 @@ fn send(table: &mut [u8], output: &mut [u8], lifetime: u32, items: &[u8]) -> Out
     requires { ⌜ 1560 ≤ length (now output) ⌝ }
     requires { ⌜ 7 ≤ length (now items) ⌝ }
     requires { ⌜ length (now items) ≤ 140 ⌝ }
-    ensures { λ r. ⌜ exits r (now (table .exit)) (now (output .exit)) ≡ atExit (now (table .entry)) (now (output .entry)) (accepted (requested (now (table .entry)) 0 lifetime (map (askedFor (now (table .entry))) (itemsIn (now (items .entry)))))) ⌝ }
+    ensures { λ r. ⌜ exits r (lend (now (table .exit))) (now (output .exit)) ≡ atExit (lend (now (table .entry))) (now (output .entry)) (accepted (requested (lend (now (table .entry))) 0 lifetime (map (askedFor (now (table .entry))) (itemsIn (now (items .entry)))))) ⌝ }
 {
     let head = common::number_head(row::read_head(table), true);
     let octets = write_request(output, head, lifetime, table, items);
@@ -166,7 +166,7 @@ fn send(table: &mut [u8], output: &mut [u8], lifetime: u32, items: &[u8]) -> Out
 }
 
 pub fn ask(table: &mut [u8], output: &mut [u8], lifetime: u32, items: &[u8]) -> Outcome
-    ensures { λ r. ⌜ exits r (now (table .exit)) (now (output .exit)) ≡ atExit (now (table .entry)) (now (output .entry)) (ask (now (table .entry)) (length (now (output .entry))) lifetime (now (items .entry))) ⌝ }
+    ensures { λ r. ⌜ exits r (lend (now (table .exit))) (now (output .exit)) ≡ atExit (lend (now (table .entry))) (now (output .entry)) (ask (lend (now (table .entry))) (length (now (output .entry))) lifetime (now (items .entry))) ⌝ }
 {
     match check(table, output, lifetime, items) {
         Answer::Accepted => send(table, output, lifetime, items),

@@ -18,7 +18,7 @@ use Rattle.element.specs.Octets.{wrongLength, otherId, misfit, readElement, fix
 use Rattle.element.proofs.Readings.{announcement-element, request-element, reply-element, error-element}
 use Rattle.rules.specs.declared.Arrival.{Arrival}
 use Rattle.rules.specs.Decision.{refused, decide}
-use Rattle.rules.specs.Outcome.{Exit, atExit}
+use Rattle.rules.specs.Outcome.{lend, Exit, atExit}
 use Rattle.rules.specs.Receive.{arrivalChecks, octetChecks, judging, readingOctets, receiving, receive}
 use Rattle.rules.proofs.Rulings.{listed, passed-check}
 use Rattle.calls.specs.declared.Outcome.{Outcome}
@@ -31,17 +31,17 @@ use Rattle.table.specs.Layout.{headOctets, Sized}
 -- ---- the first checks
 
 module _ (t output : List ℕ) (a : Arrival) (r : Answer) (re : r ≡ answerTo (arrivalChecks t (length output) a)) where
-  pub arrival-refused : (s : List ℕ) (n : ℕ) → r ≡ Refused n → exits (Outcome.Refused n) t output ≡ atExit t output (receive t (length output) a s)
+  pub arrival-refused : (s : List ℕ) (n : ℕ) → r ≡ Refused n → exits (Outcome.Refused n) (lend t) output ≡ atExit (lend t) output (receive (lend t) (length output) a s)
   unfolding receive
   arrival-refused s n e =
-      refusal t output (receiving t (length output) a s) (Refused n)
-      (part-refused (arrivalChecks t (length output) a) (readingOctets t a s .checks) n (sym e ∙ re)) n refl
+      refusal (lend t) output (receiving (lend t) (length output) a s) (Refused n)
+      (part-refused (arrivalChecks t (length output) a) (readingOctets (lend t) a s .checks) n (sym e ∙ re)) n refl
 
   module _ (ok : r ≡ Accepted) where
-    pub arrival-accepted : (s : List ℕ) (x : Exit) → x ≡ atExit t output (decide (readingOctets t a s)) → x ≡ atExit t output (receive t (length output) a s)
+    pub arrival-accepted : (s : List ℕ) (x : Exit) → x ≡ atExit (lend t) output (decide (readingOctets (lend t) a s)) → x ≡ atExit (lend t) output (receive (lend t) (length output) a s)
     unfolding receive
     arrival-accepted s x xe =
-        xe ∙ ap (atExit t output) (part-decided (readingOctets t a s .otherwise) (arrivalChecks t (length output) a) (readingOctets t a s .checks) (sym ok ∙ re))
+        xe ∙ ap (atExit (lend t) output) (part-decided (readingOctets (lend t) a s .otherwise) (arrivalChecks t (length output) a) (readingOctets (lend t) a s .checks) (sym ok ∙ re))
 
     pub arrival-table-sized : Sized t
     unfolding listed
@@ -66,20 +66,20 @@ module _ (t : List ℕ) (a : Arrival) (s : List ℕ) (r : Reading) (re : r ≡ r
   never-unread (rrep f dependents) n h = let z : _≡_ {A = ℕ} 0 1 = cc in omega arith
   never-unread (rerr f destinations) n h = let z : _≡_ {A = ℕ} 0 1 = cc in omega arith
 
-  unread : (n : ℕ) → r ≡ Unread n → refused n ≡ decide (readingOctets t a s)
+  unread : (n : ℕ) → r ≡ Unread n → refused n ≡ decide (readingOctets (lend t) a s)
   unfolding reading readingOctets octetChecks
   unread n e = by (wrongLength s) (otherId s) (misfit s) (sym e ∙ re)
     where
       by : (x y z : Bool) → Unread n ≡ cond x (Unread 6) (cond y (Unread 7) (cond z (Unread 8) (fixedFields (readElement s))))
-          → refused n ≡ cond x (refused 6) (cond y (refused 7) (cond z (refused 8) (decide (judging t a (readElement s)))))
+          → refused n ≡ cond x (refused 6) (cond y (refused 7) (cond z (refused 8) (decide (judging (lend t) a (readElement s)))))
       by true y z h = cc
       by false true z h = cc
       by false false true h = cc
       by false false false h = absurd (never-unread (readElement s) n h)
 
-  pub read-refused : (output : List ℕ) (n : ℕ) → r ≡ Unread n → exits (Outcome.Refused n) t output ≡ atExit t output (decide (readingOctets t a s))
+  pub read-refused : (output : List ℕ) (n : ℕ) → r ≡ Unread n → exits (Outcome.Refused n) (lend t) output ≡ atExit (lend t) output (decide (readingOctets (lend t) a s))
   unfolding atExit
-  read-refused output n e = ap (atExit t output) (unread n e)
+  read-refused output n e = ap (atExit (lend t) output) (unread n e)
 
   abbrev isUnread : Reading → Bool
   isUnread (Announcement p) = false
@@ -88,31 +88,31 @@ module _ (t : List ℕ) (a : Arrival) (s : List ℕ) (r : Reading) (re : r ≡ r
   isUnread (Error f) = false
   isUnread (Unread n) = true
 
-  read-so : isUnread r ≡ false → decide (judging t a (readElement s)) ≡ decide (readingOctets t a s)
+  read-so : isUnread r ≡ false → decide (judging (lend t) a (readElement s)) ≡ decide (readingOctets (lend t) a s)
   unfolding reading readingOctets octetChecks
   read-so e = by (wrongLength s) (otherId s) (misfit s) re
     where
       by : (x y z : Bool) → r ≡ cond x (Unread 6) (cond y (Unread 7) (cond z (Unread 8) (fixedFields (readElement s))))
-          → decide (judging t a (readElement s)) ≡ cond x (refused 6) (cond y (refused 7) (cond z (refused 8) (decide (judging t a (readElement s)))))
+          → decide (judging (lend t) a (readElement s)) ≡ cond x (refused 6) (cond y (refused 7) (cond z (refused 8) (decide (judging (lend t) a (readElement s)))))
       by true y z h = absurd (false≢true (sym e ∙ ap isUnread h))
       by false true z h = absurd (false≢true (sym e ∙ ap isUnread h))
       by false false true h = absurd (false≢true (sym e ∙ ap isUnread h))
       by false false false h = refl
 
   module _ (output : List ℕ) (x : Exit) where
-    read-as : (q : Reading) → r ≡ q → isUnread q ≡ false → (e : Element) → readElement s ≡ e → x ≡ atExit t output (decide (judging t a e)) → x ≡ atExit t output (decide (readingOctets t a s))
+    read-as : (q : Reading) → r ≡ q → isUnread q ≡ false → (e : Element) → readElement s ≡ e → x ≡ atExit (lend t) output (decide (judging (lend t) a e)) → x ≡ atExit (lend t) output (decide (readingOctets (lend t) a s))
     read-as q rq so e ee xe =
-        xe ∙ ap (λ (y : Element). atExit t output (decide (judging t a y))) (sym ee) ∙ ap (atExit t output) (read-so (ap isUnread rq ∙ so))
+        xe ∙ ap (λ (y : Element). atExit (lend t) output (decide (judging (lend t) a y))) (sym ee) ∙ ap (atExit (lend t) output) (read-so (ap isUnread rq ∙ so))
 
-    pub rann-read : (p : PathInfo) → r ≡ Announcement p → x ≡ atExit t output (decide (judging t a (rann p))) → x ≡ atExit t output (decide (readingOctets t a s))
+    pub rann-read : (p : PathInfo) → r ≡ Announcement p → x ≡ atExit (lend t) output (decide (judging (lend t) a (rann p))) → x ≡ atExit (lend t) output (decide (readingOctets (lend t) a s))
     rann-read p e = read-as (Announcement p) e refl (rann p) (announcement-element s r re p e)
 
     module _ (part : List ℕ) (pe : part ≡ listPart s) where
-      pub rreq-read : (f : RreqFields) → r ≡ Request f → x ≡ atExit t output (decide (judging t a (rreq f (targetsIn part)))) → x ≡ atExit t output (decide (readingOctets t a s))
+      pub rreq-read : (f : RreqFields) → r ≡ Request f → x ≡ atExit (lend t) output (decide (judging (lend t) a (rreq f (targetsIn part)))) → x ≡ atExit (lend t) output (decide (readingOctets (lend t) a s))
       rreq-read f e = read-as (Request f) e refl (rreq f (targetsIn part)) (request-element s r re f e part pe)
 
-      pub rrep-read : (f : RrepFields) → r ≡ Reply f → x ≡ atExit t output (decide (judging t a (rrep f (numberedIn part)))) → x ≡ atExit t output (decide (readingOctets t a s))
+      pub rrep-read : (f : RrepFields) → r ≡ Reply f → x ≡ atExit (lend t) output (decide (judging (lend t) a (rrep f (numberedIn part)))) → x ≡ atExit (lend t) output (decide (readingOctets (lend t) a s))
       rrep-read f e = read-as (Reply f) e refl (rrep f (numberedIn part)) (reply-element s r re f e part pe)
 
-      pub rerr-read : (f : RerrFields) → r ≡ Error f → x ≡ atExit t output (decide (judging t a (rerr f (lostIn part)))) → x ≡ atExit t output (decide (readingOctets t a s))
+      pub rerr-read : (f : RerrFields) → r ≡ Error f → x ≡ atExit (lend t) output (decide (judging (lend t) a (rerr f (lostIn part)))) → x ≡ atExit (lend t) output (decide (readingOctets (lend t) a s))
       rerr-read f e = read-as (Error f) e refl (rerr f (lostIn part)) (error-element s r re f e part pe)

@@ -25,7 +25,7 @@ use Rattle.rules.specs.Decision.{accepted, decide}
 use Rattle.rules.specs.Errors.{matches}
 use Rattle.element.specs.Flags.{unicast}
 use Rattle.rules.specs.Lists.{any, has}
-use Rattle.rules.specs.Outcome.{Exit, atExit}
+use Rattle.rules.specs.Outcome.{lend, Exit, atExit}
 use Rattle.rules.specs.Receive.{pathOf, targetAddresses, hasBadAddress, hasBadList, severalOrAll, isLowTtlReply, matchesNothing, received, judging}
 use Rattle.rules.proofs.Rulings.{listed, Passed, passed-check}
 use Rattle.calls.specs.declared.Outcome.{Outcome}
@@ -43,7 +43,7 @@ use Rattle.receive.proofs.Subjects.{answered, answers}
 
 -- with a path: nothing of it is skipped, and 26 is
 pub path-checked : (t : List ℕ) (a : Arrival) (r : Judged) (e : Element) (p : PathInfo) → pathOf e ≡ some p → matchesNothing t a e ≡ false
-    → (x : Faults) → x ≡ faultsOf e → r ≡ judgedBy t p (pathChecks x t a p) → r ≡ judgedBy t p (judging t a e .checks)
+    → (x : Faults) → x ≡ faultsOf e → r ≡ judgedBy t p (pathChecks x t a p) → r ≡ judgedBy t p (judging (lend t) a e .checks)
 unfolding judging pathChecks faultsOf
 path-checked t a r e p pe unmatched x xe re =
     re ∙ ap (λ (y : Faults). judgedBy t p (pathChecks y t a p)) xe ∙ rw (pe, unmatched)
@@ -65,23 +65,23 @@ module _ (f : RerrFields) (part : List ℕ) (b v : Bool) where
 
 -- ---- what the answer says
 
-none-applied : (t : List ℕ) (a : Arrival) (e : Element) (r : Answer) → r ≡ answerTo (judging t a e .checks) → r ≡ Accepted → Passed (judging t a e .checks)
-none-applied t a e r re ok = answer-passed (judging t a e .checks) (sym ok ∙ re)
+none-applied : (t : List ℕ) (a : Arrival) (e : Element) (r : Answer) → r ≡ answerTo (judging (lend t) a e .checks) → r ≡ Accepted → Passed (judging (lend t) a e .checks)
+none-applied t a e r re ok = answer-passed (judging (lend t) a e .checks) (sym ok ∙ re)
 
 -- an element with the path p
-module _ (t : List ℕ) (a : Arrival) (e : Element) (p : PathInfo) (r : Judged) (re : r ≡ judgedBy t p (judging t a e .checks)) where
-  answer : answered r ≡ answerTo (judging t a e .checks)
-  answer = answers t p (judging t a e .checks) r re
+module _ (t : List ℕ) (a : Arrival) (e : Element) (p : PathInfo) (r : Judged) (re : r ≡ judgedBy t p (judging (lend t) a e .checks)) where
+  answer : answered r ≡ answerTo (judging (lend t) a e .checks)
+  answer = answers t p (judging (lend t) a e .checks) r re
 
-  pub path-refused : (output : List ℕ) (n : ℕ) → r ≡ Judged.Refused n → exits (Outcome.Refused n) t output ≡ atExit t output (decide (judging t a e))
-  path-refused output n q = refusal t output (judging t a e) (answered r) answer n (ap answered q)
+  pub path-refused : (output : List ℕ) (n : ℕ) → r ≡ Judged.Refused n → exits (Outcome.Refused n) (lend t) output ≡ atExit (lend t) output (decide (judging (lend t) a e))
+  path-refused output n q = refusal (lend t) output (judging (lend t) a e) (answered r) answer n (ap answered q)
 
   module _ (f : Found) (ok : r ≡ Judged.Accepted f) where
-    pub path-accepted : (output : List ℕ) (x : Exit) → x ≡ atExit t output (accepted (received t a e)) → x ≡ atExit t output (decide (judging t a e))
+    pub path-accepted : (output : List ℕ) (x : Exit) → x ≡ atExit (lend t) output (accepted (received (lend t) a e)) → x ≡ atExit (lend t) output (decide (judging (lend t) a e))
     unfolding judging
-    path-accepted output = acceptance t output (judging t a e) (answered r) answer (ap answered ok)
+    path-accepted output = acceptance (lend t) output (judging (lend t) a e) (answered r) answer (ap answered ok)
 
-    path-passed : Passed (judging t a e .checks)
+    path-passed : Passed (judging (lend t) a e .checks)
     path-passed = none-applied t a e (answered r) answer (ap answered ok)
 
     module _ (pe : pathOf e ≡ some p) where
@@ -93,27 +93,27 @@ module _ (t : List ℕ) (a : Arrival) (e : Element) (p : PathInfo) (r : Judged) 
       unfolding listed
       metric-small =
           ltb-false 4294967294 (p .metric .0 + a .link .0)
-          (of-path (λ q. ltb 4294967294 (q .metric .0 + a .link .0)) (passed-check 13 (judging t a e .checks) path-passed))
+          (of-path (λ q. ltb 4294967294 (q .metric .0 + a .link .0)) (passed-check 13 (judging (lend t) a e .checks) path-passed))
 
       pub hops-small : p .hops .0 < 256 → p .hops .0 < 255
       unfolding listed
       hops-small l =
-          let other = eqb-false (p .hops .0) 255 (of-path (λ q. eqb (q .hops .0) 255) (passed-check 12 (judging t a e .checks) path-passed)) in
+          let other = eqb-false (p .hops .0) 255 (of-path (λ q. eqb (q .hops .0) 255) (passed-check 12 (judging (lend t) a e .checks) path-passed)) in
           omega (arith, l, other)
 
 -- a RREP has TTL left, a unicast RREQ has one destination
 module _ (t : List ℕ) (a : Arrival) (r : Judged) (found : Found) (ok : r ≡ Judged.Accepted found) where
-  pub ttl-left : (f : RrepFields) (part : List ℕ) → r ≡ judgedBy t (f .path) (judging t a (rrep f (numberedIn part)) .checks) → 2 ≤ f .path .ttl
+  pub ttl-left : (f : RrepFields) (part : List ℕ) → r ≡ judgedBy t (f .path) (judging (lend t) a (rrep f (numberedIn part)) .checks) → 2 ≤ f .path .ttl
   unfolding listed isLowTtlReply
   ttl-left f part re =
       let e : Element = rrep f (numberedIn part) in
-      ltb-false (f .path .ttl) 2 (passed-check 14 (judging t a e .checks) (path-passed t a e (f .path) r re found ok))
+      ltb-false (f .path .ttl) 2 (passed-check 14 (judging (lend t) a e .checks) (path-passed t a e (f .path) r re found ok))
 
-  pub one-destination : (f : RreqFields) (part : List ℕ) → r ≡ judgedBy t (f .path) (judging t a (rreq f (targetsIn part)) .checks) → unicastToSeveral (f .path) part ≡ false
+  pub one-destination : (f : RreqFields) (part : List ℕ) → r ≡ judgedBy t (f .path) (judging (lend t) a (rreq f (targetsIn part)) .checks) → unicastToSeveral (f .path) part ≡ false
   unfolding listed hasBadList severalOrAll unicastToSeveral
   one-destination f part re =
       let addresses : List Address = targetAddresses (targetsIn part) in
-      let good = passed-check 10 (judging t a (rreq f (targetsIn part)) .checks) (path-passed t a (rreq f (targetsIn part)) (f .path) r re found ok) in
+      let good = passed-check 10 (judging (lend t) a (rreq f (targetsIn part)) .checks) (path-passed t a (rreq f (targetsIn part)) (f .path) r re found ok) in
       let many : length addresses ≡ length part / 11 =
       ap length (target-addresses part) ∙ addresses-many Targets part in
       ap (λ (n : ℕ). unicast (f .path) && ltb 1 n) (sym many)

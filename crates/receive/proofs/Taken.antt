@@ -28,7 +28,7 @@ use Rattle.rules.specs.Errors.{matches, isMatch, erred}
 use Rattle.rules.specs.Learn.{learnt}
 use Rattle.rules.specs.Lists.{those}
 use Rattle.rules.specs.Onward.{toAll, rannOnward, rreqOnward, rrepOnward}
-use Rattle.rules.specs.Outcome.{Frame, frameOctets, underHead, atExit}
+use Rattle.rules.specs.Outcome.{lend, Frame, frameOctets, underHead, atExit}
 use Rattle.rules.specs.Receive.{rannReceived, rrepReceived, rreqReceived, rerrReceived, received}
 use Rattle.rules.proofs.Emitting.{Emits, rreq-emitted}
 use Rattle.rules.proofs.FrameOctets.{no-frame, one-frame, frames-append}
@@ -50,17 +50,17 @@ module _ (t output : List ℕ) (a : Arrival) (h : Head) (he : h ≡ headAt t) wh
 
   pub rann-exit : (p : PathInfo) (u : List ℕ) → u ≡ learnt a p t → (e : Emitted) → e ≡ emitted (rannOnward a p)
       → (v : List ℕ) → v ≡ over output 0 (frameOctets (rannOnward a p))
-      → (w : List ℕ) → w ≡ putHead u (headWith (h .number) (h .request) (a .clock) h) → exits (Outcome.Accepted e) w v ≡ atExit t output (accepted (received t a (rann p)))
+      → (w : List ℕ) → w ≡ putHead u (headWith (h .number) (h .request) (a .clock) h) → exits (Outcome.Accepted e) (lend w) v ≡ atExit (lend t) output (accepted (received (lend t) a (rann p)))
   unfolding received rannReceived
-  rann-exit p u ue e ee v ve w we = accepted-exit t output (received t a (rann p)) w v e (same-number t (a .clock) h he u (learnt a p t) w ue we) ve ee
+  rann-exit p u ue e ee v ve w we = accepted-exit (lend t) output (received (lend t) a (rann p)) (lend w) v e (ap lend (same-number t (a .clock) h he u (learnt a p t) w ue we)) ve ee
 
   pub rrep-exit : (f : RrepFields) (part u : List ℕ) → u ≡ learnt a (f .path) t → (e : Emitted) → e ≡ emitted (rrepOnward u a f (numberedIn part))
       → (v : List ℕ) → v ≡ over output 0 (frameOctets (rrepOnward u a f (numberedIn part)))
       → (w : List ℕ) → w ≡ putHead u (headWith (h .number) (h .request) (a .clock) h)
-      → exits (Outcome.Accepted e) w v ≡ atExit t output (accepted (received t a (rrep f (numberedIn part))))
+      → exits (Outcome.Accepted e) (lend w) v ≡ atExit (lend t) output (accepted (received (lend t) a (rrep f (numberedIn part))))
   unfolding received rrepReceived
   rrep-exit f part u ue e ee v ve w we =
-      accepted-exit t output (received t a (rrep f (numberedIn part))) w v e (same-number t (a .clock) h he u (learnt a (f .path) t) w ue we)
+      accepted-exit (lend t) output (received (lend t) a (rrep f (numberedIn part))) (lend w) v e (ap lend (same-number t (a .clock) h he u (learnt a (f .path) t) w ue we))
       (ve ∙ ap (λ (x : List ℕ). over output 0 (frameOctets (rrepOnward x a f (numberedIn part)))) ue)
       (ee ∙ ap (λ (x : List ℕ). emitted (rrepOnward x a f (numberedIn part))) ue)
 
@@ -71,10 +71,10 @@ module _ (t output : List ℕ) (a : Arrival) (h : Head) (he : h ≡ headAt t) wh
       → (e : Emitted) → e ≡ record { frames = 1; octets = octets }
       → (v : List ℕ) → v ≡ over output 0 (frameOctets (toAll (rerr f (those (matches t (a .clock) (a .transmitter)) (lostIn part)))))
       → (w : List ℕ) → w ≡ putHead u (headWith (h .number) (h .request) (a .clock) h)
-      → exits (Outcome.Accepted e) w v ≡ atExit t output (accepted (received t a (rerr f (lostIn part))))
+      → exits (Outcome.Accepted e) (lend w) v ≡ atExit (lend t) output (accepted (received (lend t) a (rerr f (lostIn part))))
   unfolding received rerrReceived
   rerr-exit f part u ue octets oe e ee v ve w we =
-      accepted-exit t output (received t a (rerr f (lostIn part))) w v e (same-number t (a .clock) h he u _ w ue we) ve
+      accepted-exit (lend t) output (received (lend t) a (rerr f (lostIn part))) (lend w) v e (ap lend (same-number t (a .clock) h he u _ w ue we)) ve
       (ee ∙ ap (λ (k : ℕ). record { frames = 1; octets = k }) oe)
 
   -- ---- a RREQ
@@ -83,15 +83,15 @@ module _ (t output : List ℕ) (a : Arrival) (h : Head) (he : h ≡ headAt t) wh
       → (s : Sent) → s ≡ sentFor u a f (allAnswered u a (f .path) (h .number) (targetsIn part))
       → (v : List ℕ) → v ≡ over output 0 (frameOctets (framesAfter u a f (allAnswered u a (f .path) (h .number) (targetsIn part))))
       → (w : List ℕ) → w ≡ putHead u (headWith (s .number) (h .request) (a .clock) h)
-      → exits (Outcome.Accepted (s .emitted)) w v ≡ atExit t output (accepted (received t a (rreq f (targetsIn part))))
+      → exits (Outcome.Accepted (s .emitted)) (lend w) v ≡ atExit (lend t) output (accepted (received (lend t) a (rreq f (targetsIn part))))
   unfolding received rreqReceived framesAfter
   rreq-exit f part u ue s se v ve w we =
       let done : List ℕ → SequenceNumber → Answered = λ x n. allAnswered x a (f .path) n (targetsIn part) in
       let own-number : h .number ≡ number t = ap (λ (k : Head). k .number) he in
       let so : s ≡ sentFor (learnt a (f .path) t) a f (done (learnt a (f .path) t) (number t)) =
       se ∙ ap₂ (λ (x : List ℕ) (n : SequenceNumber). sentFor x a f (done x n)) ue own-number in
-      accepted-exit t output (received t a (rreq f (targetsIn part))) w v (s .emitted)
-      (head-under t u (s .number) (a .clock) h he w we ∙ ap₂ (λ (x : List ℕ) (k : Sent). underHead t (k .number) (a .clock) x) ue so)
+      accepted-exit (lend t) output (received (lend t) a (rreq f (targetsIn part))) (lend w) v (s .emitted)
+      (ap lend (head-under t u (s .number) (a .clock) h he w we ∙ ap₂ (λ (x : List ℕ) (k : Sent). underHead t (k .number) (a .clock) x) ue so))
       (ve ∙ ap₂ (λ (x : List ℕ) (n : SequenceNumber). over output 0 (frameOctets (framesAfter x a f (done x n)))) ue own-number)
       (ap (λ (k : Sent). k .emitted) so)
 

@@ -19,7 +19,7 @@ ghost use Rattle.element.specs.Entries.{lostIn};
 ghost use Rattle.element.specs.Layout.{PartOf};
 ghost use Rattle.element.specs.declared.Kind.{Kind};
 ghost use Rattle.rules.specs.Decision.{accepted, decide};
-ghost use Rattle.rules.specs.Outcome.{atExit};
+ghost use Rattle.rules.specs.Outcome.{atExit, lend};
 ghost use Rattle.rules.specs.Receive.{judging, received};
 ghost use Rattle.calls.specs.Answers.{answerTo, exits};
 ghost use Rattle.receive.specs.Checks.{errorStateChecks};
@@ -42,7 +42,7 @@ fn check_state(table: &[u8], a: Arrival, part: &[u8]) -> Answer
 // By its destinations, 9 and 10, and then by the state. The fields play no part; the contract names the element.
 fn check(table: &[u8], a: Arrival, f: RerrFields, part: &[u8]) -> Answer
     requires { ⌜ Sized (now table) ⌝ }
-    ensures { λ r. ⌜ r ≡ answerTo (judging (now (table .entry)) a (rerr f (lostIn (now (part .entry)))) .checks) ⌝ }
+    ensures { λ r. ⌜ r ≡ answerTo (judging (lend (now (table .entry))) a (rerr f (lostIn (now (part .entry)))) .checks) ⌝ }
 {
     if list::has_forbidden(part, ListKind::LostDestinations) {
         return Answer::Refused(9);
@@ -58,7 +58,7 @@ fn take(table: &mut [u8], output: &mut [u8], a: Arrival, f: RerrFields, part: &[
     requires { ⌜ Sized (now table) ⌝ }
     requires { ⌜ 1560 ≤ length (now output) ⌝ }
     requires { ⌜ PartOf Kind.Rerr (now part) ⌝ }
-    ensures { λ r. ⌜ exits r (now (table .exit)) (now (output .exit)) ≡ atExit (now (table .entry)) (now (output .entry)) (accepted (received (now (table .entry)) a (rerr f (lostIn (now (part .entry)))))) ⌝ }
+    ensures { λ r. ⌜ exits r (lend (now (table .exit))) (now (output .exit)) ≡ atExit (lend (now (table .entry))) (now (output .entry)) (accepted (received (lend (now (table .entry))) a (rerr f (lostIn (now (part .entry)))))) ⌝ }
 {
     let head = row::read_head(table);
     let octets = report::write_error(output, 0, table, a, f, part);
@@ -77,7 +77,7 @@ pub fn receive(
     requires { ⌜ Sized (now table) ⌝ }
     requires { ⌜ 1560 ≤ length (now output) ⌝ }
     requires { ⌜ PartOf Kind.Rerr (now part) ⌝ }
-    ensures { λ r. ⌜ exits r (now (table .exit)) (now (output .exit)) ≡ atExit (now (table .entry)) (now (output .entry)) (decide (judging (now (table .entry)) a (rerr f (lostIn (now (part .entry)))))) ⌝ }
+    ensures { λ r. ⌜ exits r (lend (now (table .exit))) (now (output .exit)) ≡ atExit (lend (now (table .entry))) (now (output .entry)) (decide (judging (lend (now (table .entry))) a (rerr f (lostIn (now (part .entry)))))) ⌝ }
 {
     match check(table, a, f, part) {
         Answer::Accepted => take(table, output, a, f, part),

@@ -16,7 +16,7 @@ ghost use mathlib.Core.Path.{_≡_};
 ghost use Prim.Native.Nat.{_≤_};
 ghost use lib.ListN.{length};
 ghost use Rattle.rules.specs.Decision.{decide};
-ghost use Rattle.rules.specs.Outcome.{atExit};
+ghost use Rattle.rules.specs.Outcome.{atExit, lend};
 ghost use Rattle.rules.specs.Receive.{arrivalChecks, readingOctets, receive};
 ghost use Rattle.calls.specs.Answers.{answerTo, exits};
 ghost use Rattle.table.specs.Layout.{Sized};
@@ -39,7 +39,7 @@ fn receive_element(table: &mut [u8], output: &mut [u8], a: Arrival, element: &[u
     requires { ⌜ Sized (now table) ⌝ }
     requires { ⌜ 1560 ≤ length (now output) ⌝ }
     requires { ⌜ a .clock ≤ 281474976710655 ⌝ }
-    ensures { λ r. ⌜ exits r (now (table .exit)) (now (output .exit)) ≡ atExit (now (table .entry)) (now (output .entry)) (decide (readingOctets (now (table .entry)) a (now (element .entry)))) ⌝ }
+    ensures { λ r. ⌜ exits r (lend (now (table .exit))) (now (output .exit)) ≡ atExit (lend (now (table .entry))) (now (output .entry)) (decide (readingOctets (lend (now (table .entry))) a (now (element .entry)))) ⌝ }
 {
     match read::read(element) {
         Reading::Announcement(p) => announcement::receive(table, output, a, p),
@@ -51,7 +51,7 @@ fn receive_element(table: &mut [u8], output: &mut [u8], a: Arrival, element: &[u
 }
 
 pub fn receive(table: &mut [u8], output: &mut [u8], a: Arrival, element: &[u8]) -> Outcome
-    ensures { λ r. ⌜ exits r (now (table .exit)) (now (output .exit)) ≡ atExit (now (table .entry)) (now (output .entry)) (receive (now (table .entry)) (length (now (output .entry))) a (now (element .entry))) ⌝ }
+    ensures { λ r. ⌜ exits r (lend (now (table .exit))) (now (output .exit)) ≡ atExit (lend (now (table .entry))) (now (output .entry)) (receive (lend (now (table .entry))) (length (now (output .entry))) a (now (element .entry))) ⌝ }
 {
     match check_arrival(table, output, a) {
         Answer::Accepted => receive_element(table, output, a, element),

@@ -18,7 +18,7 @@ ghost use Rattle.element.specs.declared.Kind.{Kind};
 ghost use Rattle.element.specs.Element.{rrep};
 ghost use Rattle.element.specs.Entries.{numberedIn};
 ghost use Rattle.rules.specs.Decision.{accepted, decide};
-ghost use Rattle.rules.specs.Outcome.{atExit};
+ghost use Rattle.rules.specs.Outcome.{atExit, lend};
 ghost use Rattle.rules.specs.Receive.{judging, received};
 ghost use Rattle.calls.specs.Answers.{exits};
 ghost use Rattle.receive.specs.Checks.{judgedBy};
@@ -28,7 +28,7 @@ ghost use Rattle.table.specs.Table.{findRow};
 // Dependents play no part; the contract names the element.
 fn check(table: &[u8], a: Arrival, f: RrepFields, part: &[u8]) -> Judged
     requires { ⌜ Sized (now table) ⌝ }
-    ensures { λ r. ⌜ r ≡ judgedBy (now (table .entry)) (f .path) (judging (now (table .entry)) a (rrep f (numberedIn (now (part .entry)))) .checks) ⌝ }
+    ensures { λ r. ⌜ r ≡ judgedBy (now (table .entry)) (f .path) (judging (lend (now (table .entry))) a (rrep f (numberedIn (now (part .entry)))) .checks) ⌝ }
 {
     path::check(table, a, f.path, faults::of_rrep(f))
 }
@@ -50,7 +50,7 @@ fn take(
     requires { ⌜ PartOf Kind.Rrep (now part) ⌝ }
     requires { ⌜ a .clock ≤ 281474976710655 ⌝ }
     requires { ⌜ found ≡ findRow (now table) (f .path .subject) ⌝ }
-    ensures { λ r. ⌜ exits r (now (table .exit)) (now (output .exit)) ≡ atExit (now (table .entry)) (now (output .entry)) (accepted (received (now (table .entry)) a (rrep f (numberedIn (now (part .entry)))))) ⌝ }
+    ensures { λ r. ⌜ exits r (lend (now (table .exit))) (now (output .exit)) ≡ atExit (lend (now (table .entry))) (now (output .entry)) (accepted (received (lend (now (table .entry))) a (rrep f (numberedIn (now (part .entry)))))) ⌝ }
 {
     let head = row::read_head(table);
     steps::learn(table, found, a, f.path);
@@ -70,7 +70,7 @@ pub fn receive(
     requires { ⌜ 1560 ≤ length (now output) ⌝ }
     requires { ⌜ a .clock ≤ 281474976710655 ⌝ }
     requires { ⌜ PartOf Kind.Rrep (now part) ⌝ }
-    ensures { λ r. ⌜ exits r (now (table .exit)) (now (output .exit)) ≡ atExit (now (table .entry)) (now (output .entry)) (decide (judging (now (table .entry)) a (rrep f (numberedIn (now (part .entry)))))) ⌝ }
+    ensures { λ r. ⌜ exits r (lend (now (table .exit))) (now (output .exit)) ≡ atExit (lend (now (table .entry))) (now (output .entry)) (decide (judging (lend (now (table .entry))) a (rrep f (numberedIn (now (part .entry)))))) ⌝ }
 {
     match check(table, a, f, part) {
         Judged::Accepted(found) => take(table, output, found, a, f, part),

@@ -25,7 +25,7 @@ ghost use Rattle.element.specs.Element.{rreq};
 ghost use Rattle.element.specs.Entries.{targetsIn};
 ghost use Rattle.rules.specs.Decision.{accepted, decide};
 ghost use Rattle.rules.specs.Destinations.{allAnswered};
-ghost use Rattle.rules.specs.Outcome.{atExit, frameOctets};
+ghost use Rattle.rules.specs.Outcome.{atExit, frameOctets, lend};
 ghost use Rattle.rules.specs.Receive.{judging, received};
 ghost use Rattle.calls.specs.Answers.{exits};
 ghost use Rattle.receive.specs.Checks.{judgedBy};
@@ -42,7 +42,7 @@ pub struct Sent {
 
 fn check(table: &[u8], a: Arrival, f: RreqFields, part: &[u8]) -> Judged
     requires { ⌜ Sized (now table) ⌝ }
-    ensures { λ r. ⌜ r ≡ judgedBy (now (table .entry)) (f .path) (judging (now (table .entry)) a (rreq f (targetsIn (now (part .entry)))) .checks) ⌝ }
+    ensures { λ r. ⌜ r ≡ judgedBy (now (table .entry)) (f .path) (judging (lend (now (table .entry))) a (rreq f (targetsIn (now (part .entry)))) .checks) ⌝ }
 {
     path::check(table, a, f.path, faults::of_rreq(f, part))
 }
@@ -105,7 +105,7 @@ fn take(
     requires { ⌜ f .path .metric .0 + a .link .0 ≤ 4294967294 ⌝ }
     requires { ⌜ f .path .hops .0 < 255 ⌝ }
     requires { ⌜ found ≡ findRow (now table) (f .path .subject) ⌝ }
-    ensures { λ r. ⌜ exits r (now (table .exit)) (now (output .exit)) ≡ atExit (now (table .entry)) (now (output .entry)) (accepted (received (now (table .entry)) a (rreq f (targetsIn (now (part .entry)))))) ⌝ }
+    ensures { λ r. ⌜ exits r (lend (now (table .exit))) (now (output .exit)) ≡ atExit (lend (now (table .entry))) (now (output .entry)) (accepted (received (lend (now (table .entry))) a (rreq f (targetsIn (now (part .entry)))))) ⌝ }
 {
     let head = row::read_head(table);
     steps::learn(table, found, a, f.path);
@@ -127,7 +127,7 @@ pub fn receive(
     requires { ⌜ 1560 ≤ length (now output) ⌝ }
     requires { ⌜ a .clock ≤ 281474976710655 ⌝ }
     requires { ⌜ PartOf Kind.Rreq (now part) ⌝ }
-    ensures { λ r. ⌜ exits r (now (table .exit)) (now (output .exit)) ≡ atExit (now (table .entry)) (now (output .entry)) (decide (judging (now (table .entry)) a (rreq f (targetsIn (now (part .entry)))))) ⌝ }
+    ensures { λ r. ⌜ exits r (lend (now (table .exit))) (now (output .exit)) ≡ atExit (lend (now (table .entry))) (now (output .entry)) (decide (judging (lend (now (table .entry))) a (rreq f (targetsIn (now (part .entry)))))) ⌝ }
 {
     match check(table, a, f, part) {
         Judged::Accepted(found) => take(table, output, found, a, f, part),

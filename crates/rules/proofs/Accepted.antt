@@ -22,6 +22,7 @@ use Rattle.element.proofs.ReadBack.{Fits, read-fits}
 use Rattle.rules.specs.Decision.{Check}
 use Rattle.rules.specs.Lists.{has}
 use Rattle.rules.specs.declared.Arrival.{Arrival}
+use Rattle.rules.specs.Outcome.{Lent}
 use Rattle.rules.specs.Learn.{metricHere}
 use Rattle.rules.specs.Receive.{pathOf, targetAddresses, hasBadAddress, isStale, matchesNothing, rowsNeeded, receiving}
 use Rattle.rules.proofs.Rulings.{listed, Passed, passed-check}
@@ -81,10 +82,13 @@ other-of a x i n = rw (i, n)
 path-test : (test : PathInfo → Bool) (e : Element) → has test (pathOf e) ≡ false → (p : PathInfo) → pathOf e ≡ some p → test p ≡ false
 path-test test e h p is = ap (has test) (sym is) ∙ h
 
-module _ (t : List ℕ) (room : ℕ) (a : Arrival) (s : List ℕ) (octets : Octets t) (transmitter-fits : a .transmitter .0 < 256 ^ 6)
-    (s-octets : Octets s) (h : Passed (receiving t room a s .checks)) where
+module _ (l : Lent) (room : ℕ) (a : Arrival) (s : List ℕ) (octets : Octets (l .table)) (transmitter-fits : a .transmitter .0 < 256 ^ 6)
+    (s-octets : Octets s) (h : Passed (receiving l room a s .checks)) where
+  abbrev t : List ℕ
+  t = l .table
+
   abbrev checks : List Check
-  checks = receiving t room a s .checks
+  checks = receiving l room a s .checks
 
   t-whole : Whole t
   unfolding listed

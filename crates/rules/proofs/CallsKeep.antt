@@ -40,7 +40,7 @@ use Rattle.element.proofs.ListParts.{FitsTarget, FitsLost}
 use Rattle.element.proofs.ReadBack.{Fits, all-each}
 use Rattle.rules.specs.Decision.{Check, accepted}
 use Rattle.rules.specs.Lists.{any, those}
-use Rattle.rules.specs.Outcome.{Frame, Effect}
+use Rattle.rules.specs.Outcome.{Frame, Lent, Effect}
 use Rattle.rules.specs.declared.Arrival.{Arrival}
 use Rattle.rules.specs.Learn.{learnt}
 use Rattle.rules.specs.Destinations.{Answered, allAnswered}
@@ -62,68 +62,68 @@ use Rattle.rules.proofs.Accepted.{Accepted, accepted-element}
 
 -- the call leaves a table of the same point, and emits what fits
 pub record Kept (t : List ℕ) (e : Effect) : Type 0 where
-  pub leaves : Leaves t (e .table)
+  pub leaves : Leaves t (e .lent .table)
   pub frames : FramesFit (e .frames)
 
 -- ---- receive
 
-module _ (t : List ℕ) (a : Arrival) where
+module _ (l : Lent) (a : Arrival) where
   -- the table with the counters as they were, at the call's clock
-  module _ (e : Element) (ok : Accepted t a e) (u : List ℕ) (k : Keeps t u) where
-    at-clock : (n : SequenceNumber) → n .0 < 256 ^ 4 → Leaves t (putHead u (headWith n (requestId t) (a .clock) (headAt t)))
-    at-clock n fits = head-leaves t u (ok .whole) k n (requestId t) (a .clock) fits (request-fits t (ok .whole)) (ok .clock)
+  module _ (e : Element) (ok : Accepted (l .table) a e) (u : List ℕ) (k : Keeps (l .table) u) where
+    at-clock : (n : SequenceNumber) → n .0 < 256 ^ 4 → Leaves (l .table) (putHead u (headWith n (requestId (l .table)) (a .clock) (headAt (l .table))))
+    at-clock n fits = head-leaves (l .table) u (ok .whole) k n (requestId (l .table)) (a .clock) fits (request-fits (l .table) (ok .whole)) (ok .clock)
 
-  rann-kept : (p : PathInfo) → Accepted t a (rann p) → Kept t (rannReceived t a p)
+  rann-kept : (p : PathInfo) → Accepted (l .table) a (rann p) → Kept (l .table) (rannReceived l a p)
   unfolding rannReceived
   rann-kept p ok =
-      let h : Heard t a p = ok .heard p refl in
+      let h : Heard (l .table) a p = ok .heard p refl in
       record {
-        leaves = at-clock (rann p) ok (learnt a p t) (learnt-keeps t a p h) (number t) (number-fits t (ok .whole));
+        leaves = at-clock (rann p) ok (learnt a p (l .table)) (learnt-keeps (l .table) a p h) (number (l .table)) (number-fits (l .table) (ok .whole));
         frames = rann-onward-fits a p (h .fits) (h .hops) (h .metric);
       }
 
-  rrep-kept : (f : RrepFields) (dependents : List NumberedAddress) → Accepted t a (rrep f dependents) → Kept t (rrepReceived t a f dependents)
+  rrep-kept : (f : RrepFields) (dependents : List NumberedAddress) → Accepted (l .table) a (rrep f dependents) → Kept (l .table) (rrepReceived l a f dependents)
   unfolding rrepReceived FitFields
   rrep-kept f dependents ok =
-      let h : Heard t a (f .path) = ok .heard (f .path) refl in
+      let h : Heard (l .table) a (f .path) = ok .heard (f .path) refl in
       let g = ok .fits .fields in
       record {
-        leaves = at-clock (rrep f dependents) ok (learnt a (f .path) t) (learnt-keeps t a (f .path) h) (number t) (number-fits t (ok .whole));
-        frames = rrep-onward-fits a f (h .fits) (h .hops) (h .metric) (learnt a (f .path) t) dependents
+        leaves = at-clock (rrep f dependents) ok (learnt a (f .path) (l .table)) (learnt-keeps (l .table) a (f .path) h) (number (l .table)) (number-fits (l .table) (ok .whole));
+        frames = rrep-onward-fits a f (h .fits) (h .hops) (h .metric) (learnt a (f .path) (l .table)) dependents
             (g .1 .1 .1 .1 .1 .1 .1 .0, (g .1 .1 .1 .1 .1 .1 .1 .1 .0, tt)) (ok .fits .entries) (count-range Rrep (length dependents) (ok .fits .count) .1);
       }
 
-  rreq-kept : (f : RreqFields) (targets : List Target) → Accepted t a (rreq f targets) → Kept t (rreqReceived t a f targets)
+  rreq-kept : (f : RreqFields) (targets : List Target) → Accepted (l .table) a (rreq f targets) → Kept (l .table) (rreqReceived l a f targets)
   unfolding rreqReceived FitFields
   rreq-kept f targets ok =
-      let h : Heard t a (f .path) = ok .heard (f .path) refl in
-      let u : List ℕ = learnt a (f .path) t in
-      let k : Keeps t u = learnt-keeps t a (f .path) h in
-      let done : Answered = allAnswered u a (f .path) (number t) targets in
-      let fit : AnsweredFits (length targets) done = all-answered-fits u a (f .path) (number t) (number-fits t (ok .whole)) targets (ok .fits .entries) in
+      let h : Heard (l .table) a (f .path) = ok .heard (f .path) refl in
+      let u : List ℕ = learnt a (f .path) (l .table) in
+      let k : Keeps (l .table) u = learnt-keeps (l .table) a (f .path) h in
+      let done : Answered = allAnswered u a (f .path) (number (l .table)) targets in
+      let fit : AnsweredFits (length targets) done = all-answered-fits u a (f .path) (number (l .table)) (number-fits (l .table) (ok .whole)) targets (ok .fits .entries) in
       let few = count-range Rreq (length targets) (ok .fits .count) .1 in
       record {
         leaves = at-clock (rreq f targets) ok u k (done .number) (fit .number);
         frames = all-append (λ (x : Frame). Fits (x .element)) (done .replies) (rreqOnward u a f (done .kept))
-            (replies-fit u (k .whole) a (f .path) (h .fits) (number t) targets)
+            (replies-fit u (k .whole) a (f .path) (h .fits) (number (l .table)) targets)
             (rreq-onward-fits a f (ok .fits .fields .1 .1 .1 .0) (h .fits) (h .hops) (h .metric) u (done .kept) (fit .kept)
             (omega (arith, few, fit .fewer)));
       }
 
-  rerr-kept : (f : RerrFields) (destinations : List LostDestination) → Accepted t a (rerr f destinations) → Kept t (rerrReceived t a f destinations)
+  rerr-kept : (f : RerrFields) (destinations : List LostDestination) → Accepted (l .table) a (rerr f destinations) → Kept (l .table) (rerrReceived l a f destinations)
   unfolding rerrReceived matchesNothing FitFields
   rerr-kept f destinations ok =
-      let test : LostDestination → Bool = matches t (a .clock) (a .transmitter) in
+      let test : LostDestination → Bool = matches (l .table) (a .clock) (a .transmitter) in
       let few = count-range Rerr (length destinations) (ok .fits .count) .1 in
       record {
         leaves = at-clock (rerr f destinations) ok _
-            (error-keeps (a .clock) (a .transmitter) destinations (ok .fits .entries) t (ok .whole)) (number t) (number-fits t (ok .whole));
+            (error-keeps (a .clock) (a .transmitter) destinations (ok .fits .entries) (l .table) (ok .whole)) (number (l .table)) (number-fits (l .table) (ok .whole));
         frames = to-all-emitted Fits (rerr f (those test destinations))
             (rerr-fits f (those test destinations) (ok .fits .fields .0) (all-those FitsLost test destinations (ok .fits .entries))
             (those-some test destinations (not-false (any test destinations) (ok .matched))) (omega (arith, few, those-fewer test destinations))) .each;
       }
 
-  received-kept : (e : Element) → Accepted t a e → Kept t (received t a e)
+  received-kept : (e : Element) → Accepted (l .table) a e → Kept (l .table) (received l a e)
   unfolding received
   received-kept (rann p) ok = rann-kept p ok
   received-kept (rreq f targets) ok = rreq-kept f targets ok
@@ -132,54 +132,54 @@ module _ (t : List ℕ) (a : Arrival) where
 
 -- ---- originating
 
-module _ (t : List ℕ) (w : Whole t) where
+module _ (l : Lent) (w : Whole (l .table)) where
   -- under the next own number, whatever else of the head changes
   own-path-fits : (request : RequestId) (flags lifetime : ℕ) → flags < 256 ^ 1 → lifetime < 256 ^ 4
-      → PathFits (ownPath (headWith (nextNumber (number t)) request (clock t) (headAt t)) flags lifetime)
+      → PathFits (ownPath (headWith (nextNumber (number (l .table))) request (clock (l .table)) (headAt (l .table))) flags lifetime)
   unfolding ownPath headWith
-  own-path-fits request flags lifetime f l =
+  own-path-fits request flags lifetime f short =
       record {
         flags = f;
         hops = omega arith;
         ttl = omega arith;
-        subject = own-fits t w;
-        number = next-fits (number t);
-        lifetime = l;
+        subject = own-fits (l .table) w;
+        number = next-fits (number (l .table));
+        lifetime = short;
         metric = omega arith;
       }
 
-  same-table : Keeps t t
+  same-table : Keeps (l .table) (l .table)
   same-table = record { whole = w; head = refl; length = refl }
 
-  request-next-fits : nextRequest (requestId t) .0 < 256 ^ 4
+  request-next-fits : nextRequest (requestId (l .table)) .0 < 256 ^ 4
   unfolding stepped
   request-next-fits = omega arith
 
-  announced-kept : (flags lifetime : ℕ) → flags < 256 ^ 1 → lifetime < 256 ^ 4 → Kept t (announced t flags lifetime)
+  announced-kept : (flags lifetime : ℕ) → flags < 256 ^ 1 → lifetime < 256 ^ 4 → Kept (l .table) (announced l flags lifetime)
   unfolding announced numberedHead advancedFor
-  announced-kept flags lifetime f l =
+  announced-kept flags lifetime f short =
       record {
-        leaves = head-leaves t t w same-table (nextNumber (number t)) (requestId t) (clock t) (next-fits (number t)) (request-fits t w) (clock-small t w);
-        frames = to-all-emitted Fits _ (rann-fits _ (own-path-fits (requestId t) flags lifetime f l)) .each;
+        leaves = head-leaves (l .table) (l .table) w same-table (nextNumber (number (l .table))) (requestId (l .table)) (clock (l .table)) (next-fits (number (l .table))) (request-fits (l .table) w) (clock-small (l .table) w);
+        frames = to-all-emitted Fits _ (rann-fits _ (own-path-fits (requestId (l .table)) flags lifetime f short)) .each;
       }
 
   requested-kept : (flags lifetime : ℕ) (targets : List Target) → flags < 256 ^ 1 → lifetime < 256 ^ 4 → All FitsTarget targets
-      → 1 ≤ length targets → length targets ≤ 20 → Kept t (requested t flags lifetime targets)
+      → 1 ≤ length targets → length targets ≤ 20 → Kept (l .table) (requested l flags lifetime targets)
   unfolding requested numberedHead advancedFor headWith
-  requested-kept flags lifetime targets f l fit one few =
+  requested-kept flags lifetime targets f short fit one few =
       record {
-        leaves = head-leaves t t w same-table (nextNumber (number t)) (nextRequest (requestId t)) (clock t) (next-fits (number t)) request-next-fits
-            (clock-small t w);
-        frames = to-all-emitted Fits _ (rreq-fits _ targets request-next-fits (own-path-fits (nextRequest (requestId t)) flags lifetime f l) fit one few) .each;
+        leaves = head-leaves (l .table) (l .table) w same-table (nextNumber (number (l .table))) (nextRequest (requestId (l .table))) (clock (l .table)) (next-fits (number (l .table))) request-next-fits
+            (clock-small (l .table) w);
+        frames = to-all-emitted Fits _ (rreq-fits _ targets request-next-fits (own-path-fits (nextRequest (requestId (l .table))) flags lifetime f short) fit one few) .each;
       }
 
   -- the items of an ask
-  known-number-fits : (d : Address) (o : Option Row) → rowFor t d ≡ o → knownNumber o .0 < 256 ^ 4
+  known-number-fits : (d : Address) (o : Option Row) → rowFor (l .table) d ≡ o → knownNumber o .0 < 256 ^ 4
   unfolding knownNumber FitRow FitFields
   known-number-fits d none e = omega arith
   known-number-fits d (some r) e =
       cond-cases (λ (n : SequenceNumber). n .0 < 256 ^ 4) (eqb (r .known) 1)
-      (λ _. row-fits-its-octets t d r e (w .octets) .1 .1 .1 .1 .1 .1 .0) (λ _. omega arith)
+      (λ _. row-fits-its-octets (l .table) d r e (w .octets) .1 .1 .1 .1 .1 .1 .0) (λ _. omega arith)
 
   abbrev FitsItem : Item → Type 0
   FitsItem i = (i .flags < 256 ^ 1) × (i .address .0 < 256 ^ 6)
@@ -188,12 +188,12 @@ module _ (t : List ℕ) (w : Whole t) where
   unfolding itemAt fieldsAt FitFields
   item-fits s o i = let f = fields-fit itemWidths s (7 * i) 0 o in (f .0, f .1 .0)
 
-  asked-fits : (i : Item) → FitsItem i → FitsTarget (askedFor t i)
+  asked-fits : (i : Item) → FitsItem i → FitsTarget (askedFor (l .table) i)
   unfolding askedFor FitFields
-  asked-fits i f = (f .0, (f .1, (known-number-fits (i .address) (rowFor t (i .address)) refl, tt)))
+  asked-fits i f = (f .0, (f .1, (known-number-fits (i .address) (rowFor (l .table) (i .address)) refl, tt)))
 
-  asked-all-fit : (s : List ℕ) → Octets s → All FitsTarget (map (askedFor t) (itemsIn s))
-  asked-all-fit s o = all-map FitsTarget FitsItem (askedFor t) asked-fits (itemsIn s) (all-each FitsItem (itemAt s) (item-fits s o) 0 (length s / 7))
+  asked-all-fit : (s : List ℕ) → Octets s → All FitsTarget (map (askedFor (l .table)) (itemsIn s))
+  asked-all-fit s o = all-map FitsTarget FitsItem (askedFor (l .table)) asked-fits (itemsIn s) (all-each FitsItem (itemAt s) (item-fits s o) 0 (length s / 7))
 
 items-count : (s : List ℕ) → itemsFit s ≡ true → (1 ≤ length s / 7) × (length s / 7 ≤ 20)
 unfolding itemsFit
@@ -219,56 +219,56 @@ root-flags-small flags e = by (ltb flags 6) refl
 
 -- ---- every call
 
-module _ (t : List ℕ) (octets : Octets t) (room : ℕ) where
-  receive-kept : (a : Arrival) (s : List ℕ) → a .transmitter .0 < 256 ^ 6 → Octets s → (e : Effect) → receive t room a s ≡ accepted e → Kept t e
+module _ (l : Lent) (octets : Octets (l .table)) (room : ℕ) where
+  receive-kept : (a : Arrival) (s : List ℕ) → a .transmitter .0 < 256 ^ 6 → Octets s → (e : Effect) → receive l room a s ≡ accepted e → Kept (l .table) e
   unfolding listed receive
   receive-kept a s fits o e is =
-      let p = passed (receiving t room a s) e is in
-      rw (← p .1) (received-kept t a (readElement s) (accepted-element t room a s octets fits o (p .0)))
+      let p = passed (receiving l room a s) e is in
+      rw (← p .1) (received-kept l a (readElement s) (accepted-element l room a s octets fits o (p .0)))
 
-  ask-kept : (lifetime : ℕ) (s : List ℕ) → lifetime < 256 ^ 4 → Octets s → (e : Effect) → ask t room lifetime s ≡ accepted e → Kept t e
+  ask-kept : (lifetime : ℕ) (s : List ℕ) → lifetime < 256 ^ 4 → Octets s → (e : Effect) → ask l room lifetime s ≡ accepted e → Kept (l .table) e
   unfolding listed ask
-  ask-kept lifetime s l o e is =
-      let p = passed (asking t room lifetime s) e is in
-      let checks : List Check = asking t room lifetime s .checks in
-      let w : Whole t = whole t octets (passed-check 1 checks (p .0)) (passed-check 21 checks (p .0)) in
-      let targets : List Target = map (askedFor t) (itemsIn s) in
+  ask-kept lifetime s short o e is =
+      let p = passed (asking l room lifetime s) e is in
+      let checks : List Check = asking l room lifetime s .checks in
+      let w : Whole (l .table) = whole (l .table) octets (passed-check 1 checks (p .0)) (passed-check 21 checks (p .0)) in
+      let targets : List Target = map (askedFor (l .table)) (itemsIn s) in
       let count = items-count s (not-false (itemsFit s) (passed-check 8 checks (p .0))) in
-      let long : length targets ≡ length s / 7 = length-map (itemsIn s) (askedFor t) ∙ each-length (itemAt s) 0 (length s / 7) in
-      rw (← p .1) (requested-kept t w 0 lifetime targets (omega arith) l (asked-all-fit t w s o) (omega (arith, count, long)) (omega (arith, count, long)))
+      let long : length targets ≡ length s / 7 = length-map (itemsIn s) (askedFor (l .table)) ∙ each-length (itemAt s) 0 (length s / 7) in
+      rw (← p .1) (requested-kept l w 0 lifetime targets (omega arith) short (asked-all-fit l w s o) (omega (arith, count, long)) (omega (arith, count, long)))
 
-  announce-kept : (flags lifetime : ℕ) → lifetime < 256 ^ 4 → (e : Effect) → announce t room flags lifetime ≡ accepted e → Kept t e
+  announce-kept : (flags lifetime : ℕ) → lifetime < 256 ^ 4 → (e : Effect) → announce l room flags lifetime ≡ accepted e → Kept (l .table) e
   unfolding announce
-  announce-kept flags lifetime l e is =
-      let p = passed (announcing t room flags lifetime) e is in
-      let checks : List Check = announcing t room flags lifetime .checks in
-      let w : Whole t = whole t octets (passed-check 1 checks (p .0)) (passed-check 21 checks (p .0)) in
-      rw (← p .1) (announced-kept t w flags lifetime (omega (arith, ltb-false 1 flags (passed-check 10 checks (p .0)))) l)
+  announce-kept flags lifetime short e is =
+      let p = passed (announcing l room flags lifetime) e is in
+      let checks : List Check = announcing l room flags lifetime .checks in
+      let w : Whole (l .table) = whole (l .table) octets (passed-check 1 checks (p .0)) (passed-check 21 checks (p .0)) in
+      rw (← p .1) (announced-kept l w flags lifetime (omega (arith, ltb-false 1 flags (passed-check 10 checks (p .0)))) short)
 
-  root-kept : (flags lifetime : ℕ) → lifetime < 256 ^ 4 → (e : Effect) → rootRequest t room flags lifetime ≡ accepted e → Kept t e
+  root-kept : (flags lifetime : ℕ) → lifetime < 256 ^ 4 → (e : Effect) → rootRequest l room flags lifetime ≡ accepted e → Kept (l .table) e
   unfolding rootRequest All FitFields
-  root-kept flags lifetime l e is =
-      let p = passed (requestingAsRoot t room flags lifetime) e is in
-      let checks : List Check = requestingAsRoot t room flags lifetime .checks in
-      let w : Whole t = whole t octets (passed-check 1 checks (p .0)) (passed-check 21 checks (p .0)) in
+  root-kept flags lifetime short e is =
+      let p = passed (requestingAsRoot l room flags lifetime) e is in
+      let checks : List Check = requestingAsRoot l room flags lifetime .checks in
+      let w : Whole (l .table) = whole (l .table) octets (passed-check 1 checks (p .0)) (passed-check 21 checks (p .0)) in
       rw (← p .1)
-      (requested-kept t w flags lifetime (allWithDOAndRF ∷ []) (root-flags-small flags (passed-check 10 checks (p .0))) l
+      (requested-kept l w flags lifetime (allWithDOAndRF ∷ []) (root-flags-small flags (passed-check 10 checks (p .0))) short
       ((omega arith, (omega arith, (omega arith, tt))), tt) (omega arith) (omega arith))
 
-  break-kept : (c : ℕ) (neighbour : Address) (e : Effect) → breakNeighbour t room c neighbour ≡ accepted e → Kept t e
+  break-kept : (c : ℕ) (neighbour : Address) (e : Effect) → breakNeighbour l room c neighbour ≡ accepted e → Kept (l .table) e
   unfolding listed breakNeighbour brokenOff
   break-kept c neighbour e is =
-      let p = passed (breaking t room c neighbour) e is in
-      let checks : List Check = breaking t room c neighbour .checks in
-      let w : Whole t = whole t octets (passed-check 1 checks (p .0)) (passed-check 21 checks (p .0)) in
+      let p = passed (breaking l room c neighbour) e is in
+      let checks : List Check = breaking l room c neighbour .checks in
+      let w : Whole (l .table) = whole (l .table) octets (passed-check 1 checks (p .0)) (passed-check 21 checks (p .0)) in
       rw (← p .1)
       (record {
-        leaves = head-leaves t _ w (break-keeps (isThrough c neighbour) c (through-acts c neighbour) t w) (number t) (requestId t) c (number-fits t w) (request-fits t w)
+        leaves = head-leaves (l .table) _ w (break-keeps (isThrough c neighbour) c (through-acts c neighbour) (l .table) w) (number (l .table)) (requestId (l .table)) c (number-fits (l .table) w) (request-fits (l .table) w)
             (ltb-false (2 ^ 48 - 1) c (passed-check 3 checks (p .0)));
-        frames = errors-fit (brokenEntries (isThrough c neighbour) t) (entries-fit t octets (isThrough c neighbour));
+        frames = errors-fit (brokenEntries (isThrough c neighbour) (l .table)) (entries-fit (l .table) octets (isThrough c neighbour));
       })
 
-  pub call-kept : (call : Call) → OperandsFit call → (e : Effect) → outcome t room call ≡ accepted e → Kept t e
+  pub call-kept : (call : Call) → OperandsFit call → (e : Effect) → outcome l room call ≡ accepted e → Kept (l .table) e
   unfolding outcome
   call-kept (receives a s) fit e is = receive-kept a s (fit .0) (fit .1) e is
   call-kept (makes (asks lifetime items)) fit e is = ask-kept lifetime items (fit .0) (fit .1) e is

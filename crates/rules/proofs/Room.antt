@@ -26,7 +26,7 @@ use Rattle.element.proofs.Scans.{each-length}
 use Rattle.element.proofs.Sizes.{frame-length}
 use Rattle.element.proofs.ReadBack.{Fits}
 use Rattle.rules.specs.Decision.{accepted}
-use Rattle.rules.specs.Outcome.{Frame, Effect, frameOctets}
+use Rattle.rules.specs.Outcome.{Frame, Lent, Effect, frameOctets}
 use Rattle.rules.specs.declared.Arrival.{Arrival}
 use Rattle.rules.specs.Learn.{learnt}
 use Rattle.rules.specs.Destinations.{Answered, reply, allAnswered}
@@ -103,12 +103,15 @@ entries-128 t size test =
 abbrev Anything : Element → Type 0
 Anything e = Unit {0}
 
-module _ (t : List ℕ) (octets : Octets t) (room : ℕ) where
+module _ (l : Lent) (octets : Octets (l .table)) (room : ℕ) where
+  abbrev t : List ℕ
+  t = l .table
+
   -- a few frames that fit
   few-frames : (n : ℕ) → n ≤ 6 → (frames : List Frame) → length frames ≤ n → FramesFit frames → length (frameOctets frames) ≤ 1560
   few-frames n l frames few fit = omega (arith, fitting-frames frames fit)
 
-  received-room : (a : Arrival) (e : Element) → Accepted t a e → FramesFit (received t a e .frames) → length (frameOctets (received t a e .frames)) ≤ 1560
+  received-room : (a : Arrival) (e : Element) → Accepted t a e → FramesFit (received l a e .frames) → length (frameOctets (received l a e .frames)) ≤ 1560
   unfolding received rannReceived rrepReceived rerrReceived rreqReceived reply
   received-room a (rann p) ok fit = few-frames 1 (omega arith) _ (rann-emitted Anything a p tt .few) fit
   received-room a (rrep f dependents) ok fit = few-frames 1 (omega arith) _ (rrep-emitted Anything (learnt a (f .path) t) a f dependents tt .few) fit
@@ -134,27 +137,27 @@ module _ (t : List ℕ) (octets : Octets t) (room : ℕ) where
       )
 
   -- no more frames than the outcome of its ruling has
-  call-few : (n : ℕ) → n ≤ 6 → (call : Call) → OperandsFit call → (e e′ : Effect) → outcome t room call ≡ accepted e → e′ ≡ e → length (e′ .frames) ≤ n
+  call-few : (n : ℕ) → n ≤ 6 → (call : Call) → OperandsFit call → (e e′ : Effect) → outcome l room call ≡ accepted e → e′ ≡ e → length (e′ .frames) ≤ n
       → length (frameOctets (e .frames)) ≤ 1560
-  call-few n l call fit e e′ is same-effect few =
-      few-frames n l (e .frames) (subst (λ (x : Effect). length (x .frames) ≤ n) same-effect few) (call-kept t octets room call fit e is .frames)
+  call-few n six call fit e e′ is same-effect few =
+      few-frames n six (e .frames) (subst (λ (x : Effect). length (x .frames) ≤ n) same-effect few) (call-kept l octets room call fit e is .frames)
 
-  pub call-room : (call : Call) → OperandsFit call → (e : Effect) → outcome t room call ≡ accepted e → length (frameOctets (e .frames)) ≤ 1560
+  pub call-room : (call : Call) → OperandsFit call → (e : Effect) → outcome l room call ≡ accepted e → length (frameOctets (e .frames)) ≤ 1560
   unfolding listed outcome receive ask announce rootRequest breakNeighbour announced requested brokenOff
   call-room (receives a s) fit e is =
-      let p = passed (receiving t room a s) e is in
-      let frames = call-kept t octets room (receives a s) fit e is .frames in
+      let p = passed (receiving l room a s) e is in
+      let frames = call-kept l octets room (receives a s) fit e is .frames in
       subst (λ (x : Effect). FramesFit (x .frames) → length (frameOctets (x .frames)) ≤ 1560) (p .1)
-      (received-room a (readElement s) (accepted-element t room a s octets (fit .0) (fit .1) (p .0))) frames
+      (received-room a (readElement s) (accepted-element l room a s octets (fit .0) (fit .1) (p .0))) frames
   call-room (makes (asks lifetime items)) fit e is =
-      call-few 1 (omega arith) (makes (asks lifetime items)) fit e _ is (passed (asking t room lifetime items) e is .1) (omega arith)
+      call-few 1 (omega arith) (makes (asks lifetime items)) fit e _ is (passed (asking l room lifetime items) e is .1) (omega arith)
   call-room (makes (announces flags lifetime)) fit e is =
-      call-few 1 (omega arith) (makes (announces flags lifetime)) fit e _ is (passed (announcing t room flags lifetime) e is .1) (omega arith)
+      call-few 1 (omega arith) (makes (announces flags lifetime)) fit e _ is (passed (announcing l room flags lifetime) e is .1) (omega arith)
   call-room (makes (requestsAsRoot flags lifetime)) fit e is =
-      call-few 1 (omega arith) (makes (requestsAsRoot flags lifetime)) fit e _ is (passed (requestingAsRoot t room flags lifetime) e is .1) (omega arith)
+      call-few 1 (omega arith) (makes (requestsAsRoot flags lifetime)) fit e _ is (passed (requestingAsRoot l room flags lifetime) e is .1) (omega arith)
   call-room (makes (breaks c neighbour)) fit e is =
-      let p = passed (breaking t room c neighbour) e is in
-      let size = not-false (sized t) (passed-check 1 (breaking t room c neighbour .checks) (p .0)) in
+      let p = passed (breaking l room c neighbour) e is in
+      let size = not-false (sized t) (passed-check 1 (breaking l room c neighbour .checks) (p .0)) in
       let entries : List LostDestination = brokenEntries (isThrough c neighbour) t in
       let errors = errors-emitted Anything entries (λ _ _. tt) .few in
       call-few 6 (omega arith) (makes (breaks c neighbour)) fit e _ is (p .1) (omega (arith, errors, entries-128 t size (isThrough c neighbour)))

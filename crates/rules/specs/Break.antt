@@ -7,26 +7,27 @@ use Rattle.table.specs.declared.row.Row.{Row}
 use Rattle.table.specs.Table.{number, changeWhere}
 use Rattle.rules.specs.Decision.{Decision, Ruling, decide, accept, _>>_}
 use Rattle.rules.specs.Checks.{operandChecks, stateChecks}
-use Rattle.rules.specs.Outcome.{Effect, underHead}
+use Rattle.rules.specs.Outcome.{Lent, withTable, Effect, underHead}
 use Rattle.table.specs.Row.{isThrough}
 use Rattle.rules.specs.Errors.{broken, brokenEntries, errorsFor}
 
 -- the rows that pass the test break, the clock is stored, and those rows are announced
-unfoldable pub brokenOff : List ℕ → ℕ → (Row → Bool) → Effect
-brokenOff t c test =
+unfoldable pub brokenOff : Lent → ℕ → (Row → Bool) → Effect
+brokenOff l c test =
+    let t : List ℕ = l .table in
     record {
-      table = underHead t (number t) c (changeWhere test broken t);
+      lent = withTable (underHead t (number t) c (changeWhere test broken t)) l;
       frames = errorsFor (brokenEntries test t);
     }
 
-unfoldable pub breaking : List ℕ → ℕ → ℕ → Address → Ruling Effect
-breaking t room c neighbour = do
+unfoldable pub breaking : Lent → ℕ → ℕ → Address → Ruling Effect
+breaking l room c neighbour = do
   -- 1 to 4
-  operandChecks t room c neighbour
+  operandChecks (l .table) room c neighbour
   -- 21 to 23
-  stateChecks t c neighbour
+  stateChecks (l .table) c neighbour
   -- every active row through that neighbour
-  accept (brokenOff t c (isThrough c neighbour))
+  accept (brokenOff l c (isThrough c neighbour))
 
-unfoldable pub breakNeighbour : List ℕ → ℕ → ℕ → Address → Decision Effect
-breakNeighbour t room c neighbour = decide (breaking t room c neighbour)
+unfoldable pub breakNeighbour : Lent → ℕ → ℕ → Address → Decision Effect
+breakNeighbour l room c neighbour = decide (breaking l room c neighbour)

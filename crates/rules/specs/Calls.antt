@@ -4,7 +4,7 @@ use mathlib.Core.List.{List}
 use Rattle.octets.specs.LittleEndian.{Octets}
 use Rattle.table.specs.declared.address.Address.{Address}
 use Rattle.rules.specs.Decision.{Decision}
-use Rattle.rules.specs.Outcome.{Effect}
+use Rattle.rules.specs.Outcome.{Lent, Effect}
 use Rattle.rules.specs.declared.Arrival.{Arrival}
 use Rattle.rules.specs.Receive.{receive}
 use Rattle.rules.specs.Originate.{ask, announce, rootRequest}
@@ -22,13 +22,13 @@ pub data Call : Type 0 where
   receives : Arrival → (element : List ℕ) → Call
   makes : OwnCall → Call
 
--- what the call comes to, of a table t and an output of `room` octets
-unfoldable pub outcome : List ℕ → ℕ → Call → Decision Effect
-outcome t room (receives a s) = receive t room a s
-outcome t room (makes (asks lifetime items)) = ask t room lifetime items
-outcome t room (makes (announces flags lifetime)) = announce t room flags lifetime
-outcome t room (makes (requestsAsRoot flags lifetime)) = rootRequest t room flags lifetime
-outcome t room (makes (breaks c neighbour)) = breakNeighbour t room c neighbour
+-- what the call comes to, of what it is lent and an output of `room` octets
+unfoldable pub outcome : Lent → ℕ → Call → Decision Effect
+outcome l room (receives a s) = receive l room a s
+outcome l room (makes (asks lifetime items)) = ask l room lifetime items
+outcome l room (makes (announces flags lifetime)) = announce l room flags lifetime
+outcome l room (makes (requestsAsRoot flags lifetime)) = rootRequest l room flags lifetime
+outcome l room (makes (breaks c neighbour)) = breakNeighbour l room c neighbour
 
 -- What C's types say of the operands, as far as it is needed: an octet is below 256, an address has six octets and a
 -- lifetime 32 bits.

@@ -25,7 +25,7 @@ use Rattle.element.specs.Lists.{addressesIn, allOnes, anyForbidden, among, twic
 use Rattle.rules.specs.Decision.{Decision, Check, Ruling, decide, refuse_when_, _then_, _above_, accept, _>>_}
 use Rattle.rules.specs.Checks.{bufferChecks}
 use Rattle.rules.specs.Lists.{any}
-use Rattle.rules.specs.Outcome.{Effect}
+use Rattle.rules.specs.Outcome.{Lent, withTable, Effect}
 use Rattle.rules.specs.Onward.{toAll}
 
 -- ---- what all three have in common
@@ -50,19 +50,19 @@ ownPath h flags lifetime =
     }
 
 -- an announcement
-unfoldable pub announced : List ℕ → ℕ → ℕ → Effect
-announced t flags lifetime =
-    let h : Head = numberedHead false (headAt t) in
-    record { table = putHead t h; frames = toAll (rann (ownPath h flags lifetime)) }
+unfoldable pub announced : Lent → ℕ → ℕ → Effect
+announced l flags lifetime =
+    let h : Head = numberedHead false (headAt (l .table)) in
+    record { lent = withTable (putHead (l .table) h) l; frames = toAll (rann (ownPath h flags lifetime)) }
 
 abbrev pub ownRequest : Head → ℕ → ℕ → RreqFields
 ownRequest h flags lifetime = record { request = h .request; path = ownPath h flags lifetime }
 
 -- a request for these destinations
-unfoldable pub requested : List ℕ → ℕ → ℕ → List Target → Effect
-requested t flags lifetime targets =
-    let h : Head = numberedHead true (headAt t) in
-    record { table = putHead t h; frames = toAll (rreq (ownRequest h flags lifetime) targets) }
+unfoldable pub requested : Lent → ℕ → ℕ → List Target → Effect
+requested l flags lifetime targets =
+    let h : Head = numberedHead true (headAt (l .table)) in
+    record { lent = withTable (putHead (l .table) h) l; frames = toAll (rreq (ownRequest h flags lifetime) targets) }
 
 -- ---- ask
 
@@ -89,19 +89,19 @@ itemChecks items =
     then refuse 9 when anyForbidden Items (addressesIn Items items)
     then refuse 10 when twice (addressesIn Items items) || any hasHighFlags (itemsIn items)
 
-unfoldable pub asking : List ℕ → ℕ → ℕ → List ℕ → Ruling Effect
-asking t room lifetime items = do
+unfoldable pub asking : Lent → ℕ → ℕ → List ℕ → Ruling Effect
+asking l room lifetime items = do
   -- 1 and 2
-  bufferChecks t room
+  bufferChecks (l .table) room
   -- 8 to 10
   itemChecks items
   refuse 11 when eqb lifetime 0
-  refuse 21 when not (isTable t)
-  refuse 24 when among (own t) (addressesIn Items items)
-  accept (requested t 0 lifetime (map (askedFor t) (itemsIn items)))
+  refuse 21 when not (isTable (l .table))
+  refuse 24 when among (own (l .table)) (addressesIn Items items)
+  accept (requested l 0 lifetime (map (askedFor (l .table)) (itemsIn items)))
 
-unfoldable pub ask : List ℕ → ℕ → ℕ → List ℕ → Decision Effect
-ask t room lifetime items = decide (asking t room lifetime items)
+unfoldable pub ask : Lent → ℕ → ℕ → List ℕ → Decision Effect
+ask l room lifetime items = decide (asking l room lifetime items)
 
 -- ---- announce and root request
 
@@ -116,11 +116,11 @@ originating t room barred lifetime a = do
   accept a
 
 -- for an announcement, flags other than 0 or 1
-abbrev pub announcing : List ℕ → ℕ → ℕ → ℕ → Ruling Effect
-announcing t room flags lifetime = originating t room (flags above 1) lifetime (announced t flags lifetime)
+abbrev pub announcing : Lent → ℕ → ℕ → ℕ → Ruling Effect
+announcing l room flags lifetime = originating (l .table) room (flags above 1) lifetime (announced l flags lifetime)
 
-unfoldable pub announce : List ℕ → ℕ → ℕ → ℕ → Decision Effect
-announce t room flags lifetime = decide (announcing t room flags lifetime)
+unfoldable pub announce : Lent → ℕ → ℕ → ℕ → Decision Effect
+announce l room flags lifetime = decide (announcing l room flags lifetime)
 
 -- the flags of a root request are 0, 1, 4 or 5
 unfoldable pub isRootFlags : ℕ → Bool
@@ -131,9 +131,9 @@ abbrev pub allWithDOAndRF : Target
 allWithDOAndRF = record { flags = 3; address = allOnes; number = record { 0 = 0 } }
 
 -- for a root request, flags other than these
-abbrev pub requestingAsRoot : List ℕ → ℕ → ℕ → ℕ → Ruling Effect
-requestingAsRoot t room flags lifetime =
-    originating t room (not (isRootFlags flags)) lifetime (requested t flags lifetime (allWithDOAndRF ∷ []))
+abbrev pub requestingAsRoot : Lent → ℕ → ℕ → ℕ → Ruling Effect
+requestingAsRoot l room flags lifetime =
+    originating (l .table) room (not (isRootFlags flags)) lifetime (requested l flags lifetime (allWithDOAndRF ∷ []))
 
-unfoldable pub rootRequest : List ℕ → ℕ → ℕ → ℕ → Decision Effect
-rootRequest t room flags lifetime = decide (requestingAsRoot t room flags lifetime)
+unfoldable pub rootRequest : Lent → ℕ → ℕ → ℕ → Decision Effect
+rootRequest l room flags lifetime = decide (requestingAsRoot l room flags lifetime)

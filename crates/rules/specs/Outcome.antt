@@ -17,8 +17,21 @@ pub record Frame : Type 0 where
   pub receiver : Address
   pub element : Element
 
-pub record Effect : Type 0 where
+-- what a point lends to its calls and these may write, beside the output: its table
+pub record Lent : Type 0 where
   pub table : List ℕ
+
+-- a table, lent alone
+abbrev pub lend : List ℕ → Lent
+lend t = record { table = t }
+
+-- with this table, the rest as it was
+abbrev pub withTable : List ℕ → Lent → Lent
+withTable t l = record { table = t }
+
+-- what an accepted call leaves in what it was lent, and the frames that it emits
+pub record Effect : Type 0 where
+  pub lent : Lent
   pub frames : List Frame
 
 -- the frames as octets, without gaps
@@ -31,23 +44,23 @@ underHead t n c u = putHead u (headWith n (requestId t) c (headAt t))
 
 -- ---- at exit
 
--- the answer, the numbers of frames and of octets written, and what stands in the table and in the output
+-- the answer, the numbers of frames and of octets written, and what stands in what was lent and in the output
 pub record Exit : Type 0 where
   pub answer : ℕ
   pub frames : ℕ
   pub octets : ℕ
-  pub table : List ℕ
+  pub lent : Lent
   pub output : List ℕ
 
 -- An acceptance answers 0 and writes its frames from the start of the output; output beyond is unchanged.
 -- A refusal returns its number and else zeros, and nothing lent changes.
-unfoldable pub atExit : List ℕ → List ℕ → Decision Effect → Exit
-atExit t output (refused n) = record { answer = n; frames = 0; octets = 0; table = t; output = output }
-atExit t output (accepted e) =
+unfoldable pub atExit : Lent → List ℕ → Decision Effect → Exit
+atExit l output (refused n) = record { answer = n; frames = 0; octets = 0; lent = l; output = output }
+atExit l output (accepted e) =
     record {
       answer = 0;
       frames = length (e .frames);
       octets = length (frameOctets (e .frames));
-      table = e .table;
+      lent = e .lent;
       output = over output 0 (frameOctets (e .frames));
     }

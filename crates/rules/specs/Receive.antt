@@ -25,7 +25,7 @@ use Rattle.rules.specs.Decision.{Decision, Check, Ruling, decide, refuse
 use Rattle.rules.specs.Checks.{operandChecks, stateChecks}
 use Rattle.rules.specs.Lists.{any, those, has}
 use Rattle.element.specs.Flags.{unicast}
-use Rattle.rules.specs.Outcome.{Effect, underHead}
+use Rattle.rules.specs.Outcome.{Lent, withTable, Effect, underHead}
 use Rattle.rules.specs.declared.Arrival.{Arrival}
 use Rattle.rules.specs.Learn.{metricHere, learnt}
 use Rattle.rules.specs.Destinations.{Answered, allAnswered}
@@ -136,33 +136,38 @@ rowChecks t a unmatched path =
 
 -- ---- what an accepted element does: the clock is stored, whatever the type
 
-module _ (t : List ℕ) (a : Arrival) where
+module _ (l : Lent) (a : Arrival) where
   -- RANN, RREP: steps 1 and 2, and it goes on
   unfoldable pub rannReceived : PathInfo → Effect
   rannReceived p =
+      let t : List ℕ = l .table in
       let u : List ℕ = learnt a p t in
-      record { table = underHead t (number t) (a .clock) u; frames = rannOnward a p }
+      record { lent = withTable (underHead t (number t) (a .clock) u) l; frames = rannOnward a p }
 
   unfoldable pub rrepReceived : RrepFields → List NumberedAddress → Effect
   rrepReceived f dependents =
+      let t : List ℕ = l .table in
       let u : List ℕ = learnt a (f .path) t in
-      record { table = underHead t (number t) (a .clock) u; frames = rrepOnward u a f dependents }
+      record { lent = withTable (underHead t (number t) (a .clock) u) l; frames = rrepOnward u a f dependents }
 
   -- RREQ: steps 1 and 2, the replies, and after them it goes on with the destinations that are kept
   unfoldable pub rreqReceived : RreqFields → List Target → Effect
   rreqReceived f targets =
+      let t : List ℕ = l .table in
       let u : List ℕ = learnt a (f .path) t in
       let done : Answered = allAnswered u a (f .path) (number t) targets in
       record {
-        table = underHead t (done .number) (a .clock) u;
+        lent = withTable (underHead t (done .number) (a .clock) u) l;
         frames = done .replies ++ rreqOnward u a f (done .kept);
       }
 
   -- RERR: each match is invalidated; one RERR goes to all ones with the matches and flags as received, in that order
   unfoldable pub rerrReceived : RerrFields → List LostDestination → Effect
   rerrReceived f destinations =
+      let t : List ℕ = l .table in
+      let u : List ℕ = changeWhere (isMatch (a .clock) (a .transmitter) destinations) (erred destinations) t in
       record {
-        table = underHead t (number t) (a .clock) (changeWhere (isMatch (a .clock) (a .transmitter) destinations) (erred destinations) t);
+        lent = withTable (underHead t (number t) (a .clock) u) l;
         frames = toAll (rerr f (those (matches t (a .clock) (a .transmitter)) destinations));
       }
 
@@ -174,30 +179,30 @@ module _ (t : List ℕ) (a : Arrival) where
 
 -- ---- the call
 
--- an element e that was read, of a table t; a is how it came in
-unfoldable pub judging : List ℕ → Arrival → Element → Ruling Effect
-judging t a e = do
+-- an element e that was read; a is how it came in
+unfoldable pub judging : Lent → Arrival → Element → Ruling Effect
+judging l a e = do
   -- 9 to 14
   fieldChecks (hasBadAddress e) (hasBadList e) (isLowTtlReply e) a (pathOf e)
   -- 21 to 23
-  stateChecks t (a .clock) (a .transmitter)
+  stateChecks (l .table) (a .clock) (a .transmitter)
   -- 24 to 27
-  rowChecks t a (matchesNothing t a e) (pathOf e)
-  accept (received t a e)
+  rowChecks (l .table) a (matchesNothing (l .table) a e) (pathOf e)
+  accept (received l a e)
 
 -- the octets of an element, after how it came in
-unfoldable pub readingOctets : List ℕ → Arrival → List ℕ → Ruling Effect
-readingOctets t a octets = do
+unfoldable pub readingOctets : Lent → Arrival → List ℕ → Ruling Effect
+readingOctets l a octets = do
   -- 6 to 8
   octetChecks octets
-  judging t a (readElement octets)
+  judging l a (readElement octets)
 
 -- the octets of an element and how it came in, with an output of `room` octets
-abbrev pub receiving : List ℕ → ℕ → Arrival → List ℕ → Ruling Effect
-receiving t room a octets = do
+abbrev pub receiving : Lent → ℕ → Arrival → List ℕ → Ruling Effect
+receiving l room a octets = do
   -- 1 to 5
-  arrivalChecks t room a
-  readingOctets t a octets
+  arrivalChecks (l .table) room a
+  readingOctets l a octets
 
-unfoldable pub receive : List ℕ → ℕ → Arrival → List ℕ → Decision Effect
-receive t room a octets = decide (receiving t room a octets)
+unfoldable pub receive : Lent → ℕ → Arrival → List ℕ → Decision Effect
+receive l room a octets = decide (receiving l room a octets)
