@@ -22,7 +22,7 @@ use Rattle.element.specs.declared.Target.{Target}
 use Rattle.element.specs.Element.{Element, rann, rreq, rrep, rerr}
 use Rattle.element.specs.Octets.{readElement}
 use Rattle.rules.specs.Decision.{accepted}
-use Rattle.rules.specs.Outcome.{Frame, Effect}
+use Rattle.rules.specs.Outcome.{Frame, Lent, withTable, Effect}
 use Rattle.rules.specs.declared.Arrival.{Arrival}
 use Rattle.rules.specs.Learn.{learnt}
 use Rattle.rules.specs.Destinations.{Answered, allAnswered}
@@ -52,33 +52,38 @@ FromLog log (makes call) = Unit {0}
 
 -- ---- originating: no row is written, and what is sent is the point's own path
 
-module _ (d : Address) (base : ℕ) (log : List Sent) (t : List ℕ) where
-  originates : (h : Head) → h .own ≡ own t → (e : Element) (flags lifetime : ℕ) → pathOf e ≡ some (ownPath h flags lifetime)
-      → Sound d base log t (record { table = putHead t h; frames = toAll e })
+module _ (d : Address) (base : ℕ) (log : List Sent) (l : Lent) where
+  originates : (h : Head) → h .own ≡ own (l .table) → (e : Element) (flags lifetime : ℕ) → pathOf e ≡ some (ownPath h flags lifetime)
+      → Sound d base log (l .table) (record { lent = withTable (putHead (l .table) h) l; frames = toAll e })
   unfolding ownPath
   originates h same-point e flags lifetime is =
-      let row : rowFor (putHead t h) d ≡ rowFor t d = head-found t h d in
+      let row : rowFor (putHead (l .table) h) d ≡ rowFor (l .table) d = head-found (l .table) h d in
       record {
-        move = rw row (stay (rowFor t d));
+        move = rw row (stay (rowFor (l .table) d));
         absent = λ self before. row ∙ before;
-        backed = to-all-emitted (λ (x : Element). Backed d base (own t) (rowFor (putHead t h) d) (pathOf x)) e
+        backed = to-all-emitted (λ (x : Element). Backed d base (own (l .table)) (rowFor (putHead (l .table) h) d) (pathOf x)) e
             (rw is (backed-path _ (λ about. inl (sym same-point ∙ about)))) .each;
       }
 
-  requested-sound : (flags lifetime : ℕ) (targets : List Target) → Sound d base log t (requested t flags lifetime targets)
+  requested-sound : (flags lifetime : ℕ) (targets : List Target) → Sound d base log (l .table) (requested l flags lifetime targets)
   unfolding requested numberedHead headWith
   requested-sound flags lifetime targets = originates _ refl _ flags lifetime refl
 
-  announced-sound : (flags lifetime : ℕ) → Sound d base log t (announced t flags lifetime)
+  announced-sound : (flags lifetime : ℕ) → Sound d base log (l .table) (announced l flags lifetime)
   unfolding announced numberedHead headWith
   announced-sound flags lifetime = originates _ refl _ flags lifetime refl
 
-module _ (d : Address) (base : ℕ) (small : base < 2 ^ 32) (log : List Sent) (t : List ℕ) (octets : Octets t) (near : Near base (rowFor t d)) where
+module _ (d : Address) (base : ℕ) (small : base < 2 ^ 32) (log : List Sent) (l : Lent) (octets : Octets (l .table))
+    (near : Near base (rowFor (l .table) d)) where
+  abbrev t : List ℕ
+  t = l .table
+
   -- ---- rows that fall, under frames that bring no path
 
   fallen-sound : (p : Row → Bool) (f : Row → Row) → KeepsRows p f → ((r : Row) → InWindow base r → InWindow base (f r) → Falls base small r (f r))
       → (h : Head) (frames : List Frame) → AllBacked d base (own t) (rowFor (putHead (changeWhere p f t) h) d) frames
-      → Near base (rowFor (putHead (changeWhere p f t) h) d) → Sound d base log t (record { table = putHead (changeWhere p f t) h; frames = frames })
+      → Near base (rowFor (putHead (changeWhere p f t) h) d)
+      → Sound d base log t (record { lent = withTable (putHead (changeWhere p f t) h) l; frames = frames })
   fallen-sound p f keeps fall h frames backed near′ =
       let row : rowFor (putHead (changeWhere p f t) h) d ≡ Option·map (changed p f) (rowFor t d) =
       head-found (changeWhere p f t) h d ∙ change-found p f keeps t octets d in
@@ -93,11 +98,11 @@ module _ (d : Address) (base : ℕ) (small : base < 2 ^ 32) (log : List Sent) (t
 
   -- a break of active rows, whichever
   break-sound : (c : ℕ) (test : Row → Bool) → ((r : Row) → test r ≡ true → active c r ≡ true)
-      → Near base (rowFor (brokenOff t c test .table) d) → Sound d base log t (brokenOff t c test)
+      → Near base (rowFor (brokenOff l c test .lent .table) d) → Sound d base log t (brokenOff l c test)
   unfolding brokenOff errorAt
   break-sound c test acts =
       fallen-sound test broken (break-keeps-rows test c acts) (break-falls base small) _ _
-      (errors-emitted (λ (x : Element). Backed d base (own t) _ (pathOf x)) (brokenEntries test t) (λ i l. backed-none) .each)
+      (errors-emitted (λ (x : Element). Backed d base (own t) _ (pathOf x)) (brokenEntries test t) (λ i long. backed-none) .each)
 
   -- ---- an element from the log
 
@@ -112,7 +117,7 @@ module _ (d : Address) (base : ℕ) (small : base < 2 ^ 32) (log : List Sent) (t
       same-point = ap (λ (h : Head). h .own) (learnt-keeps t a p heard .head)
 
       heard-sound : (h : Head) (frames : List Frame) → AllBacked d base (own u) (rowFor u d) frames
-          → Near base (rowFor (putHead u h) d) → Sound d base log t (record { table = putHead u h; frames = frames })
+          → Near base (rowFor (putHead u h) d) → Sound d base log t (record { lent = withTable (putHead u h) l; frames = frames })
       unfolding u
       heard-sound h frames backed near′ =
           let row : rowFor (putHead (learnt a p t) h) d ≡ rowFor (learnt a p t) d = head-found (learnt a p t) h d in
@@ -130,15 +135,15 @@ module _ (d : Address) (base : ℕ) (small : base < 2 ^ 32) (log : List Sent) (t
     abbrev BackedAfter : PathInfo → Element → Type 0
     BackedAfter p e = Backed d base (own (learnt a p t)) (rowFor (learnt a p t) d) (pathOf e)
 
-    rann-sound : (p : PathInfo) → pathIn (s .octets) ≡ some p → Heard t a p → Near base (rowFor (rannReceived t a p .table) d)
-        → Sound d base log t (rannReceived t a p)
+    rann-sound : (p : PathInfo) → pathIn (s .octets) ≡ some p → Heard t a p → Near base (rowFor (rannReceived l a p .lent .table) d)
+        → Sound d base log t (rannReceived l a p)
     unfolding rannReceived u
     rann-sound p has heard =
         heard-sound p has heard _ (rannOnward a p)
         (rann-emitted (BackedAfter p) a p (onward-backed p has heard) .each)
 
     rrep-sound : (f : RrepFields) (dependents : List NumberedAddress) → pathIn (s .octets) ≡ some (f .path) → Heard t a (f .path)
-        → Near base (rowFor (rrepReceived t a f dependents .table) d) → Sound d base log t (rrepReceived t a f dependents)
+        → Near base (rowFor (rrepReceived l a f dependents .lent .table) d) → Sound d base log t (rrepReceived l a f dependents)
     unfolding rrepReceived u
     rrep-sound f dependents has heard =
         let v : List ℕ = learnt a (f .path) t in
@@ -146,7 +151,7 @@ module _ (d : Address) (base : ℕ) (small : base < 2 ^ 32) (log : List Sent) (t
         (rrep-emitted (BackedAfter (f .path)) v a f dependents (onward-backed (f .path) has heard) .each)
 
     rreq-sound : (f : RreqFields) (targets : List Target) → pathIn (s .octets) ≡ some (f .path) → Heard t a (f .path)
-        → Near base (rowFor (rreqReceived t a f targets .table) d) → Sound d base log t (rreqReceived t a f targets)
+        → Near base (rowFor (rreqReceived l a f targets .lent .table) d) → Sound d base log t (rreqReceived l a f targets)
     unfolding rreqReceived u
     rreq-sound f targets has heard =
         let v : List ℕ = learnt a (f .path) t in
@@ -156,8 +161,8 @@ module _ (d : Address) (base : ℕ) (small : base < 2 ^ 32) (log : List Sent) (t
         (replies-backed d base v a (f .path) (number t) targets)
         (rreq-emitted (BackedAfter (f .path)) v a f (done .kept) (λ _. onward-backed (f .path) has heard) .each))
 
-    received-sound : (e : Element) → readElement (s .octets) ≡ e → Accepted t a e → Near base (rowFor (received t a e .table) d)
-        → Sound d base log t (received t a e)
+    received-sound : (e : Element) → readElement (s .octets) ≡ e → Accepted t a e → Near base (rowFor (received l a e .lent .table) d)
+        → Sound d base log t (received l a e)
     unfolding received rerrReceived
     received-sound (rann p) is ok = rann-sound p (ap pathOf is) (ok .heard p refl)
     received-sound (rreq f targets) is ok = rreq-sound f targets (ap pathOf is) (ok .heard (f .path) refl)
@@ -170,28 +175,28 @@ module _ (d : Address) (base : ℕ) (small : base < 2 ^ 32) (log : List Sent) (t
   -- ---- every call
 
   module _ (room : ℕ) where
-    call-sound : (call : Call) → OperandsFit call → FromLog log call → (e : Effect) → outcome t room call ≡ accepted e
-        → Near base (rowFor (e .table) d) → Sound d base log t e
+    call-sound : (call : Call) → OperandsFit call → FromLog log call → (e : Effect) → outcome l room call ≡ accepted e
+        → Near base (rowFor (e .lent .table) d) → Sound d base log t e
     unfolding listed outcome receive ask announce rootRequest breakNeighbour
     call-sound (receives a octets′) fit from e is =
-        let p = passed (receiving t room a octets′) e is in
-        subst (λ (x : Effect). Near base (rowFor (x .table) d) → Sound d base log t x) (p .1)
+        let p = passed (receiving l room a octets′) e is in
+        subst (λ (x : Effect). Near base (rowFor (x .lent .table) d) → Sound d base log t x) (p .1)
         (received-sound a (from .0) (from .1) (from .2) (readElement octets′) (ap readElement (from .3))
-        (accepted-element t room a octets′ octets (fit .0) (fit .1) (p .0)))
+        (accepted-element l room a octets′ octets (fit .0) (fit .1) (p .0)))
     call-sound (makes (asks lifetime items)) fit from e is =
-        subst (λ (x : Effect). Near base (rowFor (x .table) d) → Sound d base log t x) (passed (asking t room lifetime items) e is .1)
-        (λ _. requested-sound d base log t _ _ _)
+        subst (λ (x : Effect). Near base (rowFor (x .lent .table) d) → Sound d base log t x) (passed (asking l room lifetime items) e is .1)
+        (λ _. requested-sound d base log l _ _ _)
     call-sound (makes (announces flags lifetime)) fit from e is =
-        subst (λ (x : Effect). Near base (rowFor (x .table) d) → Sound d base log t x) (passed (announcing t room flags lifetime) e is .1)
-        (λ _. announced-sound d base log t flags lifetime)
+        subst (λ (x : Effect). Near base (rowFor (x .lent .table) d) → Sound d base log t x) (passed (announcing l room flags lifetime) e is .1)
+        (λ _. announced-sound d base log l flags lifetime)
     call-sound (makes (requestsAsRoot flags lifetime)) fit from e is =
-        subst (λ (x : Effect). Near base (rowFor (x .table) d) → Sound d base log t x) (passed (requestingAsRoot t room flags lifetime) e is .1)
-        (λ _. requested-sound d base log t _ _ _)
+        subst (λ (x : Effect). Near base (rowFor (x .lent .table) d) → Sound d base log t x) (passed (requestingAsRoot l room flags lifetime) e is .1)
+        (λ _. requested-sound d base log l _ _ _)
     call-sound (makes (breaks c neighbour)) fit from e is =
-        subst (λ (x : Effect). Near base (rowFor (x .table) d) → Sound d base log t x) (passed (breaking t room c neighbour) e is .1)
+        subst (λ (x : Effect). Near base (rowFor (x .lent .table) d) → Sound d base log t x) (passed (breaking l room c neighbour) e is .1)
         (break-sound c (isThrough c neighbour) (through-acts c neighbour))
 
-    pub call-fine : (call : Call) → OperandsFit call → FromLog log call → (e : Effect) → outcome t room call ≡ accepted e → Fine d base log t e
+    pub call-fine : (call : Call) → OperandsFit call → FromLog log call → (e : Effect) → outcome l room call ≡ accepted e → Fine d base log t e
     call-fine call fit from e is =
-        let k : Kept t e = call-kept t octets room call fit e is in
+        let k : Kept t e = call-kept l octets room call fit e is in
         record { own = k .leaves .own; frames = k .frames; sound = call-sound call fit from e is }

@@ -5,15 +5,15 @@ use mathlib.Core.List.{_++_}
 use Rattle.rules.specs.Lists.{all}
 use Rattle.rules.specs.Calls.{outcome}
 use Rattle.rules.proofs.Computing.{computing}
-use Rattle.theorems.specs.Mesh.{start, tableOf, withTable, callOf, sentBy, leaves, happen, run, throughout, nextAt, met}
-use Rattle.theorems.specs.Premise.{beside, held, carried, numbersFor, isWithin, allWithin}
+use Rattle.theorems.specs.Mesh.{start, boxOf, withBox, callOf, sentBy, leaves, happen, run, throughout, nextAt, met}
+use Rattle.theorems.specs.Premise.{beside, held, heldByAll, carried, numbersFor, isWithin, allWithin}
 use Rattle.theorems.specs.WrongRules.{ruledBy}
 use Rattle.theorems.specs.Runs.{isWithinWindow, after, endOf, way, walked, heldIn, linesFrom, lines, agree, worked, wentRound, loops, counterexamples, outsideLoops}
 
 -- what unfolds for a run to compute
 running : Unit {0}
-unfolding computing start tableOf withTable callOf sentBy leaves happen run throughout nextAt met
-    beside held carried numbersFor isWithin allWithin
+unfolding computing start boxOf withBox callOf sentBy leaves happen run throughout nextAt met
+    beside held heldByAll carried numbersFor isWithin allWithin
     ruledBy isWithinWindow after endOf way walked heldIn linesFrom lines agree worked wentRound loops counterexamples outsideLoops
 running = tt
 

@@ -21,12 +21,12 @@ use Rattle.element.specs.Octets.{readElement, writeElement}
 use Rattle.element.specs.Entries.{All}
 use Rattle.element.proofs.ReadBack.{Fits, read-back}
 use Rattle.rules.specs.Decision.{accepted}
-use Rattle.rules.specs.Outcome.{Frame, Effect}
+use Rattle.rules.specs.Outcome.{Frame, Lent, Effect}
 use Rattle.rules.specs.Receive.{pathOf}
 use Rattle.rules.proofs.AsGood.{InWindow}
 use Rattle.rules.proofs.Sending.{FramesFit}
-use Rattle.theorems.specs.Mesh.{Sent, Mesh, tableOf, withTable, sentBy, leaves}
-use Rattle.theorems.proofs.Tables.{table-own, table-same, table-other}
+use Rattle.theorems.specs.Mesh.{Sent, Mesh, boxOf, withBox, sentBy, leaves}
+use Rattle.theorems.proofs.Boxes.{box-own, box-same, box-other}
 
 -- ---- one row, held or not
 
@@ -74,15 +74,15 @@ pub record Move (d : Address) (base : ℕ) (log : List Sent) (o o′ : Option Ro
   pub rooted : Rooted d base log o → Rooted d base log o′
 
 pub record Sound (d : Address) (base : ℕ) (log : List Sent) (t : List ℕ) (e : Effect) : Type 0 where
-  pub move : Move d base log (rowFor t d) (rowFor (e .table) d)
-  pub absent : own t ≡ d → rowFor t d ≡ none → rowFor (e .table) d ≡ none
-  pub backed : All (λ (f : Frame). Backed d base (own t) (rowFor (e .table) d) (pathOf (f .element))) (e .frames)
+  pub move : Move d base log (rowFor t d) (rowFor (e .lent .table) d)
+  pub absent : own t ≡ d → rowFor t d ≡ none → rowFor (e .lent .table) d ≡ none
+  pub backed : All (λ (f : Frame). Backed d base (own t) (rowFor (e .lent .table) d) (pathOf (f .element))) (e .frames)
 
 -- the point stays the same, its frames fit, and the call is sound if a known number in the row that it leaves is within the window
 pub record Fine (d : Address) (base : ℕ) (log : List Sent) (t : List ℕ) (e : Effect) : Type 0 where
-  pub own : own (e .table) ≡ own t
+  pub own : own (e .lent .table) ≡ own t
   pub frames : FramesFit (e .frames)
-  pub sound : Near base (rowFor (e .table) d) → Sound d base log t e
+  pub sound : Near base (rowFor (e .lent .table) d) → Sound d base log t e
 
 pub stay : {d : Address} {base : ℕ} {log : List Sent} (o : Option Row) → Move d base log o o
 stay o = record { keeps = λ st. st; rooted = λ h. h }
@@ -101,33 +101,33 @@ backed-none p has about = absurd (Option·none-ne-some p has)
 
 -- ---- the row for d at a point
 
-abbrev pub rowOf : Address → Option (List ℕ) → Option Row
+abbrev pub rowOf : Address → Option Lent → Option Row
 rowOf d none = none
-rowOf d (some t) = rowFor t d
+rowOf d (some l) = rowFor (l .table) d
 
-unfoldable pub rowAt : Address → List (List ℕ) → Address → Option Row
-rowAt d tables a = rowOf d (tableOf a tables)
+unfoldable pub rowAt : Address → List Lent → Address → Option Row
+rowAt d boxes a = rowOf d (boxOf a boxes)
 
 -- a row that is found stands in the table of a point
-pub record RowAt (d : Address) (tables : List (List ℕ)) (a : Address) (r : Row) : Type 0 where
-  pub table : List ℕ
-  pub at : tableOf a tables ≡ some table
-  pub found : rowFor table d ≡ some r
+pub record RowAt (d : Address) (boxes : List Lent) (a : Address) (r : Row) : Type 0 where
+  pub box : Lent
+  pub at : boxOf a boxes ≡ some box
+  pub found : rowFor (box .table) d ≡ some r
 
-pub row-at : (d : Address) (tables : List (List ℕ)) (a : Address) (r : Row) → rowAt d tables a ≡ some r → RowAt d tables a r
+pub row-at : (d : Address) (boxes : List Lent) (a : Address) (r : Row) → rowAt d boxes a ≡ some r → RowAt d boxes a r
 unfolding rowAt
-row-at d tables a r = go (tableOf a tables) refl
+row-at d boxes a r = go (boxOf a boxes) refl
   where
-    go : (o : Option (List ℕ)) → tableOf a tables ≡ o → rowOf d o ≡ some r → RowAt d tables a r
+    go : (o : Option Lent) → boxOf a boxes ≡ o → rowOf d o ≡ some r → RowAt d boxes a r
     go none e h = absurd (Option·none-ne-some r h)
-    go (some t) e h = record { table = t; at = e; found = h }
+    go (some l) e h = record { box = l; at = e; found = h }
 
 -- ---- the invariant, and a fine call
 
 pub record Inv (d : Address) (base : ℕ) (m : Mesh) : Type 0 where
-  pub rooted : (a : Address) → Rooted d base (m .log) (rowAt d (m .tables) a)
-  pub backed : (s : Sent) → List·Memᴰ s (m .log) → Backed d base (s .sender) (rowAt d (m .tables) (s .sender)) (pathIn (s .octets))
-  pub absent : rowAt d (m .tables) d ≡ none
+  pub rooted : (a : Address) → Rooted d base (m .log) (rowAt d (m .boxes) a)
+  pub backed : (s : Sent) → List·Memᴰ s (m .log) → Backed d base (s .sender) (rowAt d (m .boxes) (s .sender)) (pathIn (s .octets))
+  pub absent : rowAt d (m .boxes) d ≡ none
 
 pub all-at : {A : Type 0} (P : A → Type 0) {x : A} (l : List A) → All P l → List·Memᴰ x l → P x
 unfolding All
@@ -149,39 +149,39 @@ longer more (nearer k) =
       better = k .better;
     })
 
-module _ (d : Address) (base : ℕ) (m : Mesh) (inv : Inv d base m) (a : Address) (t : List ℕ) (e : Effect) (here : tableOf a (m .tables) ≡ some t)
-    (fine : Fine d base (m .log) t e) (near : Near base (rowAt d (withTable a (e .table) (m .tables)) a)) where
-  is-a : own t ≡ a
-  is-a = table-own a (m .tables) t here
+module _ (d : Address) (base : ℕ) (m : Mesh) (inv : Inv d base m) (a : Address) (l : Lent) (e : Effect) (here : boxOf a (m .boxes) ≡ some l)
+    (fine : Fine d base (m .log) (l .table) e) (near : Near base (rowAt d (withBox a (e .lent) (m .boxes)) a)) where
+  is-a : own (l .table) ≡ a
+  is-a = box-own a (m .boxes) l here
 
-  row : rowAt d (m .tables) a ≡ rowFor t d
+  row : rowAt d (m .boxes) a ≡ rowFor (l .table) d
   unfolding rowAt
   row = rw here
 
-  tables′ : List (List ℕ)
-  tables′ = withTable a (e .table) (m .tables)
+  boxes′ : List Lent
+  boxes′ = withBox a (e .lent) (m .boxes)
 
-  row-same : rowAt d tables′ a ≡ rowFor (e .table) d
-  unfolding rowAt tables′ is-a
-  row-same = rw (table-same a (e .table) (fine .own ∙ is-a) (m .tables) t here)
+  row-same : rowAt d boxes′ a ≡ rowFor (e .lent .table) d
+  unfolding rowAt boxes′ is-a
+  row-same = rw (box-same a (e .lent) (fine .own ∙ is-a) (m .boxes) l here)
 
-  row-other : (b : Address) → (a ≡ b → ⊥) → rowAt d tables′ b ≡ rowAt d (m .tables) b
-  unfolding rowAt tables′ is-a
-  row-other b apart = rw (table-other a (e .table) (fine .own ∙ is-a) b apart (m .tables))
+  row-other : (b : Address) → (a ≡ b → ⊥) → rowAt d boxes′ b ≡ rowAt d (m .boxes) b
+  unfolding rowAt boxes′ is-a
+  row-other b apart = rw (box-other a (e .lent) (fine .own ∙ is-a) b apart (m .boxes))
 
-  sound : Sound d base (m .log) t e
-  unfolding tables′
+  sound : Sound d base (m .log) (l .table) e
+  unfolding boxes′
   sound = fine .sound (rw row-same at near)
 
   -- a statement about the rows after the call: it holds at the point of the call, and elsewhere it held before
-  each : (P : Address → Option Row → Type 0) → P a (rowFor (e .table) d) → ((b : Address) → P b (rowAt d (m .tables) b))
-      → (b : Address) → P b (rowAt d tables′ b)
+  each : (P : Address → Option Row → Type 0) → P a (rowFor (e .lent .table) d) → ((b : Address) → P b (rowAt d (m .boxes) b))
+      → (b : Address) → P b (rowAt d boxes′ b)
   each P at elsewhere b =
-      ⊎-elim (λ q. subst (λ (x : Address). P x (rowAt d tables′ x)) q (rw row-same at))
+      ⊎-elim (λ q. subst (λ (x : Address). P x (rowAt d boxes′ x)) q (rw row-same at))
       (λ apart. rw (row-other b apart) (elsewhere b)) (equal-or-not a b)
 
   abbrev BackedNow : Sent → Type 0
-  BackedNow s = Backed d base (s .sender) (rowAt d tables′ (s .sender)) (pathIn (s .octets))
+  BackedNow s = Backed d base (s .sender) (rowAt d boxes′ (s .sender)) (pathIn (s .octets))
 
   still-backed : (s : Sent) → List·Memᴰ s (m .log) → BackedNow s
   still-backed s k =
@@ -194,7 +194,7 @@ module _ (d : Address) (base : ℕ) (m : Mesh) (inv : Inv d base m) (a : Address
   frame-backed : (f : Frame) → List·Memᴰ f (e .frames) → BackedNow (record { sender = a; octets = writeElement (f .element) })
   frame-backed f k =
       rw (row-same, ← is-a, read-back (f .element) (all-at (λ (g : Frame). Fits (g .element)) (e .frames) (fine .frames) k))
-      (all-at (λ (g : Frame). Backed d base (own t) (rowFor (e .table) d) (pathOf (g .element))) (e .frames) (sound .backed) k)
+      (all-at (λ (g : Frame). Backed d base (own (l .table)) (rowFor (e .lent .table) d) (pathOf (g .element))) (e .frames) (sound .backed) k)
 
   newly-backed : (s : Sent) → List·Memᴰ s (sentBy a (e .frames)) → BackedNow s
   unfolding sentBy
@@ -203,14 +203,14 @@ module _ (d : Address) (base : ℕ) (m : Mesh) (inv : Inv d base m) (a : Address
       subst BackedNow (q .2) (frame-backed (q .0) (q .1))
 
   pub inv-after : Inv d base (leaves m a (accepted e))
-  unfolding leaves tables′
+  unfolding leaves boxes′
   inv-after =
       record {
         rooted = λ b r found valid. longer (sentBy a (e .frames))
             (each (λ b o. Rooted d base (m .log) o) (sound .move .rooted (rw row at (inv .rooted a))) (inv .rooted) b r found valid);
         backed = λ s k. ⊎-elim (still-backed s) (newly-backed s) (List·Memᴰ·append-cases (m .log) k);
         absent = each (λ b o. b ≡ d → o ≡ none)
-            (λ q. sound .absent (is-a ∙ q) (sym row ∙ ap (rowAt d (m .tables)) q ∙ inv .absent))
-            (λ b q. ap (rowAt d (m .tables)) q ∙ inv .absent)
+            (λ q. sound .absent (is-a ∙ q) (sym row ∙ ap (rowAt d (m .boxes)) q ∙ inv .absent))
+            (λ b q. ap (rowAt d (m .boxes)) q ∙ inv .absent)
             d refl;
       }

@@ -1,6 +1,6 @@
 -- P1 to P8, demand 3 and what it rests on, and last all theorems.
 pub mod AllEdges
-pub mod Tables
+pub mod Boxes
 pub mod Invariant
 pub mod Walks
 pub mod Moves

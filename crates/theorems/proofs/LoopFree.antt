@@ -24,15 +24,15 @@ use Rattle.element.specs.Entries.{All}
 use Rattle.element.proofs.ReadBack.{Fits, octets-written}
 use Rattle.rules.specs.Decision.{Decision, refused, accepted}
 use Rattle.rules.specs.Lists.{all}
-use Rattle.rules.specs.Outcome.{Frame, Effect}
+use Rattle.rules.specs.Outcome.{Frame, Lent, Effect}
 use Rattle.rules.specs.Calls.{Call, outcome, OperandsFit}
 use Rattle.rules.proofs.Branches.{cond-cases}
 use Rattle.rules.proofs.Alls.{all-append, all-map}
 use Rattle.rules.proofs.CallsKeep.{Kept, call-kept}
-use Rattle.theorems.specs.Mesh.{Point, Sent, Mesh, freshTable, start, tableOf, withTable, Action, delivers, makes, readsOnly, Event, deliveryOf, callOf, sentBy, leaves, calls, happen, run, throughout, met}
-use Rattle.theorems.specs.Premise.{beside, knownIn, held, numbersFor, isWithin, allWithin}
+use Rattle.theorems.specs.Mesh.{Point, Sent, Mesh, freshTable, start, boxOf, withBox, Action, delivers, makes, readsOnly, Event, deliveryOf, callOf, sentBy, leaves, calls, happen, run, throughout, met}
+use Rattle.theorems.specs.Premise.{beside, knownIn, held, heldByAll, numbersFor, isWithin, allWithin}
 use Rattle.theorems.specs.Statements.{ActionFits}
-use Rattle.theorems.proofs.Tables.{table-own, table-listed}
+use Rattle.theorems.proofs.Boxes.{box-own, box-listed}
 use Rattle.theorems.proofs.Invariant.{Near, rowOf, rowAt, RowAt, row-at, Inv, all-at, inv-after}
 use Rattle.theorems.proofs.Walks.{none-twice}
 use Rattle.theorems.proofs.Calls.{FromLog, call-fine}
@@ -42,30 +42,34 @@ use Rattle.theorems.proofs.Calls.{FromLog, call-fine}
 abbrev SentFits : Sent → Type 0
 SentFits s = (s .sender .0 < 256 ^ 6) × Octets (s .octets)
 
+-- the table of a box is octets
+abbrev BoxFits : Lent → Type 0
+BoxFits l = Octets (l .table)
+
 record Sane (m : Mesh) : Type 0 where
-  tables : All Octets (m .tables)
+  boxes : All BoxFits (m .boxes)
   log : All SentFits (m .log)
 
-table-octets : (m : Mesh) → Sane m → (a : Address) (t : List ℕ) → tableOf a (m .tables) ≡ some t → Octets t
-table-octets m sane a t here = all-at Octets (m .tables) (sane .tables) (table-listed a (m .tables) t here)
+box-fits : (m : Mesh) → Sane m → (a : Address) (l : Lent) → boxOf a (m .boxes) ≡ some l → BoxFits l
+box-fits m sane a l here = all-at BoxFits (m .boxes) (sane .boxes) (box-listed a (m .boxes) l here)
 
 address-fits : (a : Address) (t : List ℕ) → Octets t → own t ≡ a → a .0 < 256 ^ 6
 unfolding FitHead FitFields
 address-fits a t o is = rw (← is) (head-fits t o .0)
 
-with-table-octets : (a : Address) (u : List ℕ) → Octets u → (tables : List (List ℕ)) → All Octets tables → All Octets (withTable a u tables)
-unfolding withTable All
-with-table-octets a u o [] h = tt
-with-table-octets a u o (t ∷ tables) h =
-    cond-cases (All Octets) (same (own t) a) (λ _. (o, h .1)) (λ _. (h .0, with-table-octets a u o tables (h .1)))
+with-box-fits : (a : Address) (k : Lent) → BoxFits k → (boxes : List Lent) → All BoxFits boxes → All BoxFits (withBox a k boxes)
+unfolding withBox All
+with-box-fits a k o [] h = tt
+with-box-fits a k o (l ∷ boxes) h =
+    cond-cases (All BoxFits) (same (own (l .table)) a) (λ _. (o, h .1)) (λ _. (h .0, with-box-fits a k o boxes (h .1)))
 
-module _ (m : Mesh) (sane : Sane m) (a : Address) (t : List ℕ) (here : tableOf a (m .tables) ≡ some t) where
-  sane-after : (e : Effect) → Kept t e → Sane (leaves m a (accepted e))
+module _ (m : Mesh) (sane : Sane m) (a : Address) (l : Lent) (here : boxOf a (m .boxes) ≡ some l) where
+  sane-after : (e : Effect) → Kept (l .table) e → Sane (leaves m a (accepted e))
   unfolding leaves sentBy
   sane-after e k =
-      let fits = address-fits a t (table-octets m sane a t here) (table-own a (m .tables) t here) in
+      let fits = address-fits a (l .table) (box-fits m sane a l here) (box-own a (m .boxes) l here) in
       record {
-        tables = with-table-octets a (e .table) (k .leaves .whole .octets) (m .tables) (sane .tables);
+        boxes = with-box-fits a (e .lent) (k .leaves .whole .octets) (m .boxes) (sane .boxes);
         log = all-append SentFits (m .log) (sentBy a (e .frames)) (sane .log)
             (all-map SentFits (λ (f : Frame). Fits (f .element)) (λ (f : Frame). record { sender = a; octets = writeElement (f .element) })
             (λ f g. (fits, octets-written (f .element) (g .count))) (e .frames) (k .frames));
@@ -90,33 +94,33 @@ module _ {A : Type 0} (p : A → Bool) where
       ⊎-elim (λ q. rw q (parts .0)) (λ j. all-of-flat f l (parts .1) j) (List·Memᴰ·cases-cons k)
 
 module _ (d : Address) (base : ℕ) (m : Mesh) (sane : Sane m) (within : allWithin d base m ≡ true) where
-  row-within : (a : Address) (t : List ℕ) → tableOf a (m .tables) ≡ some t → (r : Row) → rowFor t d ≡ some r → eqb (r .known) 1 ≡ true
+  row-within : (a : Address) (l : Lent) → boxOf a (m .boxes) ≡ some l → (r : Row) → rowFor (l .table) d ≡ some r → eqb (r .known) 1 ≡ true
       → isWithin base (r .number) ≡ true
-  unfolding allWithin numbersFor held all
-  row-within a t here r found known =
-      let tables = all-parts (isWithin base) (flatMap (held d) (m .tables)) _ within .0 in
-      let numbers = all-of-flat (isWithin base) (held d) (m .tables) tables (table-listed a (m .tables) t here) in
-      let row = all-parts (isWithin base) (beside d (own t) (number t)) (knownIn (rowFor t d)) numbers .1 in
+  unfolding allWithin numbersFor heldByAll held all
+  row-within a l here r found known =
+      let in-boxes = all-parts (isWithin base) (heldByAll d (m .boxes)) _ within .0 in
+      let numbers = all-of-flat (isWithin base) (λ (x : Lent). held d (x .table)) (m .boxes) in-boxes (box-listed a (m .boxes) l here) in
+      let row = all-parts (isWithin base) (beside d (own (l .table)) (number (l .table))) (knownIn (rowFor (l .table) d)) numbers .1 in
       and-eq-true-iff (isWithin base (r .number)) true .0 (rw (found, known) at row) .0
 
-  near-at : (a : Address) → Near base (rowAt d (m .tables) a)
+  near-at : (a : Address) → Near base (rowAt d (m .boxes) a)
   unfolding isWithin FitRow FitFields
   near-at a r found known =
-      let k : RowAt d (m .tables) a r = row-at d (m .tables) a r found in
-      let o : Octets (k .table) = table-octets m sane a (k .table) (k .at) in
+      let k : RowAt d (m .boxes) a r = row-at d (m .boxes) a r found in
+      let o : Octets (k .box .table) = box-fits m sane a (k .box) (k .at) in
       record {
-        fits = row-fits-its-octets (k .table) d r (k .found) o .1 .1 .1 .1 .1 .1 .0;
-        near = ltb-true _ _ (row-within a (k .table) (k .at) r (k .found) known);
+        fits = row-fits-its-octets (k .box .table) d r (k .found) o .1 .1 .1 .1 .1 .1 .0;
+        near = ltb-true _ _ (row-within a (k .box) (k .at) r (k .found) known);
       }
 
 -- ---- the beginning
 
 module _ (d : Address) (base : ℕ) where
-  fresh-at : (points : List Point) (a : Address) → rowAt d (start points .tables) a ≡ none
-  unfolding start tableOf rowAt
+  fresh-at : (points : List Point) (a : Address) → rowAt d (start points .boxes) a ≡ none
+  unfolding start boxOf rowAt
   fresh-at [] a = refl
   fresh-at (p ∷ points) a =
-      cond-cases (λ (o : Option (List ℕ)). rowOf d o ≡ none) (same (own (freshTable p)) a)
+      cond-cases (λ (o : Option Lent). rowOf d o ≡ none) (same (own (freshTable p)) a)
       (λ _. fresh-none (32 + 32 * p .rows) (p .address) (p .number) d) (λ _. fresh-at points a)
 
   begins : (points : List Point) → Inv d base (start points)
@@ -130,9 +134,9 @@ module _ (d : Address) (base : ℕ) where
 
 sane-start : (points : List Point) → Sane (start points)
 unfolding start All
-sane-start points = record { tables = each points; log = tt }
+sane-start points = record { boxes = each points; log = tt }
   where
-    each : (points : List Point) → All Octets (start points .tables)
+    each : (points : List Point) → All BoxFits (start points .boxes)
     each [] = tt
     each (p ∷ points) = (fresh-octets (32 + 32 * p .rows) (p .address) (p .number), each points)
 
@@ -167,38 +171,38 @@ module _ (d : Address) (base : ℕ) (small : base < 2 ^ 32) where
     inv : Inv d base m
 
   -- an accepted call of a point, whose operands fit, with an element of the log if it receives one
-  module _ (m : Mesh) (good : Good m) (within : allWithin d base m ≡ true) (a : Address) (t : List ℕ) (here : tableOf a (m .tables) ≡ some t) where
-    t-octets : Octets t
-    t-octets = table-octets m (good .sane) a t here
+  module _ (m : Mesh) (good : Good m) (within : allWithin d base m ≡ true) (a : Address) (l : Lent) (here : boxOf a (m .boxes) ≡ some l) where
+    octets : Octets (l .table)
+    octets = box-fits m (good .sane) a l here
 
-    t-near : Near base (rowFor t d)
+    near : Near base (rowFor (l .table) d)
     unfolding rowAt
-    t-near = rw here at (near-at d base m (good .sane) within a)
+    near = rw here at (near-at d base m (good .sane) within a)
 
     call-good : (room : ℕ) (call : Call) → Made (m .log) call
-        → (o : Decision Effect) → outcome t room call ≡ o → allWithin d base (leaves m a o) ≡ true → Good (leaves m a o)
+        → (o : Decision Effect) → outcome l room call ≡ o → allWithin d base (leaves m a o) ≡ true → Good (leaves m a o)
     unfolding leaves
     call-good room call k (refused n) is within′ = good
     call-good room call k (accepted e) is within′ =
-        let sane′ : Sane (leaves m a (accepted e)) = sane-after m (good .sane) a t here e (call-kept t t-octets room call (k .fit) e is) in
+        let sane′ : Sane (leaves m a (accepted e)) = sane-after m (good .sane) a l here e (call-kept l octets room call (k .fit) e is) in
         record {
           sane = sane′;
-          inv = inv-after d base m (good .inv) a t e here (call-fine d base small (m .log) t t-octets t-near room call (k .fit) (k .from) e is)
+          inv = inv-after d base m (good .inv) a l e here (call-fine d base small (m .log) l octets near room call (k .fit) (k .from) e is)
               (near-at d base (leaves m a (accepted e)) sane′ within′ a);
         }
 
   happens : (m : Mesh) (e : Event) → ActionFits (e .action) → Good m → allWithin d base m ≡ true → allWithin d base (happen outcome m e) ≡ true
       → Good (happen outcome m e)
   unfolding happen
-  happens m e fit good within within′ = go (tableOf (e .point) (m .tables)) refl (callOf (m .log) (e .action)) refl within′
+  happens m e fit good within within′ = go (boxOf (e .point) (m .boxes)) refl (callOf (m .log) (e .action)) refl within′
     where
-      go : (o : Option (List ℕ)) → tableOf (e .point) (m .tables) ≡ o → (k : Option Call) → callOf (m .log) (e .action) ≡ k
+      go : (o : Option Lent) → boxOf (e .point) (m .boxes) ≡ o → (k : Option Call) → callOf (m .log) (e .action) ≡ k
           → allWithin d base (calls outcome m e o k) ≡ true → Good (calls outcome m e o k)
       go none here k is within′ = good
-      go (some t) here none is within′ = good
-      go (some t) here (some call) is within′ =
-          call-good m good within (e .point) t here (e .room) call (made (m .log) (good .sane .log) (e .action) fit call is)
-          (outcome t (e .room) call) refl within′
+      go (some l) here none is within′ = good
+      go (some l) here (some call) is within′ =
+          call-good m good within (e .point) l here (e .room) call (made (m .log) (good .sane .log) (e .action) fit call is)
+          (outcome l (e .room) call) refl within′
 
   -- ---- a list of events
 

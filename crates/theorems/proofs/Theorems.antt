@@ -34,9 +34,9 @@ pub errors-shut-out : ErrorsShutOut
 errors-shut-out = all-shut-out
 
 pub stays-a-table : StaysTable
-stays-a-table t octets room call fit e is =
-    let k : Kept t e = call-kept t octets room call fit e is in
-    (k .leaves .whole .octets, legal-is (e .table) (k .leaves .whole .legal), k .leaves .length)
+stays-a-table l octets room call fit e is =
+    let k : Kept (l .table) e = call-kept l octets room call fit e is in
+    (k .leaves .whole .octets, legal-is (e .lent .table) (k .leaves .whole .legal), k .leaves .length)
 
 pub fresh-is-a-table : FreshIsTable
 fresh-is-a-table = fresh-stays
@@ -48,7 +48,7 @@ pub has-room : HasRoom
 has-room = call-room
 
 pub reads-back : ReadsBack
-reads-back t octets room call fit e is =
+reads-back l octets room call fit e is =
     all-implies (λ (f : Frame). Fits (f .element)) (λ (f : Frame). ReadsAs (writeElement (f .element)) (f .element))
     (λ f fits. record {
       passes-6 = passes-6 (f .element);
@@ -56,7 +56,7 @@ reads-back t octets room call fit e is =
       passes-8 = passes-8 (f .element) (fits .count);
       fields = read-back (f .element) fits;
     })
-    (e .frames) (call-kept t octets room call fit e is .frames)
+    (e .frames) (call-kept l octets room call fit e is .frames)
 
 pub hops-at-most : HopsAtMost
 hops-at-most = walk-hops
@@ -72,11 +72,11 @@ sharp = wrong-rules-loop
 
 pub else-the-rules : ElseTheRules
 unfolding listed ruledBy outcome receive isStale breakNeighbour brokenOff
-else-the-rules t room (receives a s) = refl
-else-the-rules t room (makes (asks lifetime items)) = refl
-else-the-rules t room (makes (announces flags lifetime)) = refl
-else-the-rules t room (makes (requestsAsRoot flags lifetime)) = refl
-else-the-rules t room (makes (breaks c neighbour)) = refl
+else-the-rules l room (receives a s) = refl
+else-the-rules l room (makes (asks lifetime items)) = refl
+else-the-rules l room (makes (announces flags lifetime)) = refl
+else-the-rules l room (makes (requestsAsRoot flags lifetime)) = refl
+else-the-rules l room (makes (breaks c neighbour)) = refl
 
 outside-fits : All (λ (e : Event). ActionFits (e .action)) (outside .events)
 unfolding All

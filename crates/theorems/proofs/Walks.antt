@@ -17,7 +17,8 @@ use Rattle.element.specs.Lists.{among, twice}
 use Rattle.element.specs.Entries.{All}
 use Rattle.rules.proofs.Branches.{cond-cases}
 use Rattle.rules.specs.Lists.{isThere}
-use Rattle.theorems.specs.Mesh.{Mesh, tableOf, validNext, nextIn, nextAt, metBy, met}
+use Rattle.rules.specs.Outcome.{Lent}
+use Rattle.theorems.specs.Mesh.{Mesh, boxOf, validNext, nextIn, nextAt, metBy, met}
 use Rattle.theorems.proofs.Invariant.{Leads, home, nearer, rowAt, Inv}
 
 not-among : (P : Address → Type 0) (a : Address) → (P a → ⊥) → (l : List Address) → All P l → among a l ≡ false
@@ -33,30 +34,30 @@ module _ (d : Address) (base : ℕ) (m : Mesh) (inv : Inv d base m) where
   -- the row for d at the point a is valid, with next hop b
   record Hop (a b : Address) : Type 0 where
     row : Row
-    found : rowAt d (m .tables) a ≡ some row
+    found : rowAt d (m .boxes) a ≡ some row
     valid : eqb (row .status) 1 ≡ true
     next : row .next ≡ b
 
   hop : (a b : Address) → nextAt m d a ≡ some b → Hop a b
   unfolding nextAt rowAt
-  hop a b e = go (tableOf a (m .tables)) refl e
+  hop a b e = go (boxOf a (m .boxes)) refl e
     where
-      through : (t : List ℕ) → tableOf a (m .tables) ≡ some t → (o : Option Row) → rowFor t d ≡ o → validNext o ≡ some b → Hop a b
-      through t at none q e = absurd (Option·none-ne-some b e)
-      through t at (some r) q e = by (eqb (r .status) 1) refl e
+      through : (l : Lent) → boxOf a (m .boxes) ≡ some l → (o : Option Row) → rowFor (l .table) d ≡ o → validNext o ≡ some b → Hop a b
+      through l at none q e = absurd (Option·none-ne-some b e)
+      through l at (some r) q e = by (eqb (r .status) 1) refl e
         where
           by : (k : Bool) → eqb (r .status) 1 ≡ k → cond k (some (r .next)) none ≡ some b → Hop a b
           by true v e = record { row = r; found = rw at q; valid = v; next = Option·some-injective (r .next) b e }
           by false v e = absurd (Option·none-ne-some b e)
 
-      go : (o : Option (List ℕ)) → tableOf a (m .tables) ≡ o → nextIn m d o ≡ some b → Hop a b
+      go : (o : Option Lent) → boxOf a (m .boxes) ≡ o → nextIn m d o ≡ some b → Hop a b
       go none q e = absurd (Option·none-ne-some b e)
-      go (some t) q e = through t q (rowFor t d) refl e
+      go (some l) q e = through l q (rowFor (l .table) d) refl e
 
   -- the row for d at the point c is strictly better than the row r
   record Beats (r : Row) (c : Address) : Type 0 where
     row : Row
-    found : rowAt d (m .tables) c ≡ some row
+    found : rowAt d (m .boxes) c ≡ some row
     better : Above base (row .number) (row .metric .0) (r .number) (r .metric .0)
 
   -- c is d, or has a strictly better row than r
@@ -65,7 +66,7 @@ module _ (d : Address) (base : ℕ) (m : Mesh) (inv : Inv d base m) where
 
   -- d has no row for itself, so no walk goes on from it
   not-from-d : {a b : Address} → Hop a b → a ≡ d → ⊥
-  not-from-d {a} h e = Option·none-ne-some (h .row) (sym (inv .absent) ∙ ap (rowAt d (m .tables)) (sym e) ∙ h .found)
+  not-from-d {a} h e = Option·none-ne-some (h .row) (sym (inv .absent) ∙ ap (rowAt d (m .boxes)) (sym e) ∙ h .found)
 
   -- the next hop of a valid row is d, or has a strictly better row
   next-further : {a b : Address} (h : Hop a b) → Further (h .row) b
@@ -76,7 +77,7 @@ module _ (d : Address) (base : ℕ) (m : Mesh) (inv : Inv d base m) where
       go (nearer k) =
           let at-b : k .sent .sender ≡ b = k .by ∙ h .next in
           ⊎-map (λ e. sym at-b ∙ e)
-          (λ st. record { row = st .row; found = ap (rowAt d (m .tables)) (sym at-b) ∙ st .found; better = at-least-above (st .good) (k .better) })
+          (λ st. record { row = st .row; found = ap (rowAt d (m .boxes)) (sym at-b) ∙ st .found; better = at-least-above (st .good) (k .better) })
           (inv .backed (k .sent) (k .logged) (k .path) (k .has) (k .about))
 
   further-trans : (r : Row) {b c : Address} → Further r b → (h : Hop b c) → Further (h .row) c → Further r c
@@ -89,9 +90,9 @@ module _ (d : Address) (base : ℕ) (m : Mesh) (inv : Inv d base m) where
   -- every point that the walk meets after the row r is d, or has a strictly better row
   all-further : (r : Row) (hops : ℕ) (b : Address) → Further r b → All (Further r) (met m d hops b)
   unfolding met All
-  all-further r zero b near = cond-cases (All (Further r)) (isThere (tableOf b (m .tables))) (λ _. (near, tt)) (λ _. tt)
+  all-further r zero b near = cond-cases (All (Further r)) (isThere (boxOf b (m .boxes))) (λ _. (near, tt)) (λ _. tt)
   all-further r (suc hops) b near =
-      cond-cases (All (Further r)) (isThere (tableOf b (m .tables))) (λ _. (near, rest (nextAt m d b) refl (all-further r hops))) (λ _. tt)
+      cond-cases (All (Further r)) (isThere (boxOf b (m .boxes))) (λ _. (near, rest (nextAt m d b) refl (all-further r hops))) (λ _. tt)
     where
       rest : (o : Option Address) → nextAt m d b ≡ o → ((c : Address) → Further r c → All (Further r) (met m d hops c))
           → All (Further r) (metBy m d o (met m d hops))
@@ -107,9 +108,9 @@ module _ (d : Address) (base : ℕ) (m : Mesh) (inv : Inv d base m) where
 
   pub none-twice : (hops : ℕ) (a : Address) → twice (met m d hops a) ≡ false
   unfolding met twice among
-  none-twice zero a = cond-cases (λ (l : List Address). twice l ≡ false) (isThere (tableOf a (m .tables))) (λ _. refl) (λ _. refl)
+  none-twice zero a = cond-cases (λ (l : List Address). twice l ≡ false) (isThere (boxOf a (m .boxes))) (λ _. refl) (λ _. refl)
   none-twice (suc hops) a =
-      cond-cases (λ (l : List Address). twice l ≡ false) (isThere (tableOf a (m .tables)))
+      cond-cases (λ (l : List Address). twice l ≡ false) (isThere (boxOf a (m .boxes)))
       (λ _. rest (nextAt m d a) refl (none-twice hops)) (λ _. refl)
     where
       rest : (o : Option Address) → nextAt m d a ≡ o → ((b : Address) → twice (met m d hops b) ≡ false)

@@ -22,7 +22,7 @@ use Rattle.element.specs.Entries.{each}
 use Rattle.element.specs.Octets.{wrongLength, otherId, misfit, writeElement}
 use Rattle.rules.specs.Decision.{Decision, refused, accepted}
 use Rattle.rules.specs.Lists.{all, has}
-use Rattle.rules.specs.Outcome.{Frame, Effect}
+use Rattle.rules.specs.Outcome.{Frame, lend, Effect}
 use Rattle.rules.specs.Errors.{ownError}
 use Rattle.rules.specs.Receive.{receive}
 use Rattle.rules.specs.Break.{breakNeighbour}
@@ -117,7 +117,7 @@ error destinations = writeElement (rerr ownError destinations)
 
 -- receive the element s over a link of this metric, at clock c, and at clock 0
 abbrev heardAt : ℕ → List ℕ → ℕ → List ℕ → Decision Effect
-heardAt c t link s = receive t 1560 (record { clock = c; transmitter = transmitter; link = record { 0 = link } }) s
+heardAt c t link s = receive (lend t) 1560 (record { clock = c; transmitter = transmitter; link = record { 0 = link } }) s
 
 abbrev heard : List ℕ → ℕ → List ℕ → Decision Effect
 heard t link s = heardAt 0 t link s
@@ -141,7 +141,7 @@ acceptedWith test (accepted e) = test e
 -- the originator's row then has this status, number and metric
 abbrev leavesRow : ℕ → ℕ → ℕ → Effect → Bool
 leavesRow status n metric e =
-    has (λ r. eqb (r .status) status && eqb (r .number .0) n && eqb (r .metric .0) metric) (rowFor (e .table) originator)
+    has (λ r. eqb (r .status) status && eqb (r .number .0) n && eqb (r .metric .0) metric) (rowFor (e .lent .table) originator)
 
 -- an element is a reply for this point with number n
 abbrev isReply : ℕ → Element → Bool
@@ -157,11 +157,11 @@ firstIsReply n (f ∷ frames) = isReply n (f .element)
 
 -- the first frame has such a reply, and the own number is then n
 abbrev repliesWith : ℕ → Effect → Bool
-repliesWith n e = firstIsReply n (e .frames) && eqb (number (e .table) .0) n
+repliesWith n e = firstIsReply n (e .frames) && eqb (number (e .lent .table) .0) n
 
 -- row i is then held for the originator, and row j for the transmitter
 abbrev takesRows : ℕ → ℕ → Effect → Bool
-takesRows i j e = holds (e .table) originator i && holds (e .table) transmitter j
+takesRows i j e = holds (e .lent .table) originator i && holds (e .lent .table) transmitter j
 
 -- ---- the edges
 
@@ -189,7 +189,7 @@ edges =
     ∷ acceptedWith (leavesRow 1 9 39) (heard (tableOf 0 (row 2 originator 9 40 ∷ freeRow ∷ [])) 14 (announcement 9 25))
     -- P6: break on number 4,294,967,295, metric 30: number 0, metric 4,294,967,295
     ∷ acceptedWith (leavesRow 2 0 4294967295)
-    (breakNeighbour (tableOf 0 (row 1 originator 4294967295 30 ∷ [])) 1560 0 transmitter)
+    (breakNeighbour (lend (tableOf 0 (row 1 originator 4294967295 30 ∷ []))) 1560 0 transmitter)
     -- P7: own 12, requested 40: reply 41; requested 5: 13
     ∷ acceptedWith (repliesWith 41) (heard (tableOf 12 (freeRow ∷ freeRow ∷ [])) 10 (request (target point 40 ∷ [])))
     ∷ acceptedWith (repliesWith 13) (heard (tableOf 12 (freeRow ∷ freeRow ∷ [])) 10 (request (target point 5 ∷ [])))
@@ -218,7 +218,7 @@ elsewhere i =
 -- the originator's row is lost and goes on alone, and that of the other point stays
 abbrev losesOne : Effect → Bool
 losesOne e =
-    leavesRow 2 9 40 e && has (λ r. eqb (r .status) 1) (rowFor (e .table) (other 0))
+    leavesRow 2 9 40 e && has (λ r. eqb (r .status) 1) (rowFor (e .lent .table) (other 0))
     && eqb (length (e .frames)) 1 && all (λ f. eqb (countOf (f .element)) 1) (e .frames)
 
 abbrev pub shutOut : List Bool

@@ -1,4 +1,4 @@
--- A mesh: points with their tables, the elements that they have sent, and lists of their calls. Assumes nothing.
+-- A mesh: points with what they lend to their calls, the elements that they have sent, and lists of calls. Assumes nothing.
 use Prim.Native.Nat.{ℕ, zero, suc, _+_, _*_}
 use mathlib.Core.Bool.{Bool, true, false, _&&_, cond}
 use mathlib.Core.List.{List, [], _∷_, _++_, map}
@@ -14,7 +14,7 @@ use Rattle.table.specs.Table.{own, rowFor, fresh}
 use Rattle.element.specs.Octets.{writeElement}
 use Rattle.rules.specs.Lists.{isThere}
 use Rattle.rules.specs.Decision.{Decision, refused, accepted}
-use Rattle.rules.specs.Outcome.{Frame, Effect}
+use Rattle.rules.specs.Outcome.{Frame, Lent, lend, Effect}
 use Rattle.rules.specs.Calls.{OwnCall, Call}
 
 -- ---- points, and what they have sent
@@ -30,28 +30,33 @@ pub record Sent : Type 0 where
   pub sender : Address
   pub octets : List ℕ
 
--- the octets of every table, and the log of all elements sent so far
+-- the box of every point, and the log of all elements sent so far; a box is what the point lends to its calls, and memory that
+-- it is to keep beside its table is added there
 pub record Mesh : Type 0 where
-  pub tables : List (List ℕ)
+  pub boxes : List Lent
   pub log : List Sent
 
 -- the table that a point starts with: fresh, with its address and number
 abbrev pub freshTable : Point → List ℕ
 freshTable p = fresh (32 + 32 * p .rows) (p .address) (p .number)
 
+-- and its box, with that table
+abbrev pub freshBox : Point → Lent
+freshBox p = lend (freshTable p)
+
 -- the mesh at first: every table is fresh, and nothing has been sent
 unfoldable pub start : List Point → Mesh
-start points = record { tables = map freshTable points; log = [] }
+start points = record { boxes = map freshBox points; log = [] }
 
--- the table of the point with own address a, if there is one
-unfoldable pub tableOf : Address → List (List ℕ) → Option (List ℕ)
-tableOf a [] = none
-tableOf a (t ∷ tables) = cond (same (own t) a) (some t) (tableOf a tables)
+-- the box of the point with own address a, if there is one
+unfoldable pub boxOf : Address → List Lent → Option Lent
+boxOf a [] = none
+boxOf a (l ∷ boxes) = cond (same (own (l .table)) a) (some l) (boxOf a boxes)
 
--- all tables, with that of the point a replaced by u
-unfoldable pub withTable : Address → List ℕ → List (List ℕ) → List (List ℕ)
-withTable a u [] = []
-withTable a u (t ∷ tables) = cond (same (own t) a) (u ∷ tables) (t ∷ withTable a u tables)
+-- all boxes, with that of the point a replaced by k
+unfoldable pub withBox : Address → Lent → List Lent → List Lent
+withBox a k [] = []
+withBox a k (l ∷ boxes) = cond (same (own (l .table)) a) (k ∷ boxes) (l ∷ withBox a k boxes)
 
 -- ---- calls
 
@@ -84,26 +89,26 @@ callOf log readsOnly = none
 unfoldable pub sentBy : Address → List Frame → List Sent
 sentBy a frames = map (λ (f : Frame). record { sender = a; octets = writeElement (f .element) }) frames
 
--- a refused call changes nothing; an accepted one leaves its table, and its elements are sent
+-- a refused call changes nothing; an accepted one leaves its box, and its elements are sent
 unfoldable pub leaves : Mesh → Address → Decision Effect → Mesh
 leaves m a (refused n) = m
-leaves m a (accepted e) = record { tables = withTable a (e .table) (m .tables); log = m .log ++ sentBy a (e .frames) }
+leaves m a (accepted e) = record { boxes = withBox a (e .lent) (m .boxes); log = m .log ++ sentBy a (e .frames) }
 
--- Rules by which points act: what a call comes to, of a table and an output of so many octets. The theorem is about those of
--- document 01, `outcome` of crate `rules`; the counterexamples are about others.
+-- Rules by which points act: what a call comes to, of what it is lent and an output of so many octets. The theorem is about
+-- those of document 01, `outcome` of crate `rules`; the counterexamples are about others.
 abbrev pub Rules : Type 0
-Rules = List ℕ → ℕ → Call → Decision Effect
+Rules = Lent → ℕ → Call → Decision Effect
 
 module _ (rules : Rules) where
   -- the mesh after a call; as it was where there is no such point or no call
-  abbrev pub calls : Mesh → Event → Option (List ℕ) → Option Call → Mesh
+  abbrev pub calls : Mesh → Event → Option Lent → Option Call → Mesh
   calls m e none call = m
-  calls m e (some t) none = m
-  calls m e (some t) (some call) = leaves m (e .point) (rules t (e .room) call)
+  calls m e (some l) none = m
+  calls m e (some l) (some call) = leaves m (e .point) (rules l (e .room) call)
 
   -- one event: the point, if there is one of that address, makes the call
   unfoldable pub happen : Mesh → Event → Mesh
-  happen m e = calls m e (tableOf (e .point) (m .tables)) (callOf (m .log) (e .action))
+  happen m e = calls m e (boxOf (e .point) (m .boxes)) (callOf (m .log) (e .action))
 
   -- a list of events, from first to last
   unfoldable pub run : Mesh → List Event → Mesh
@@ -124,14 +129,14 @@ validNext none = none
 validNext (some r) = cond (eqb (r .status) 1) (some (r .next)) none
 
 module _ (m : Mesh) (d : Address) where
-  -- the next hop of the valid row for d in this table
-  abbrev pub nextIn : Option (List ℕ) → Option Address
+  -- the next hop of the valid row for d in the table of this box
+  abbrev pub nextIn : Option Lent → Option Address
   nextIn none = none
-  nextIn (some t) = validNext (rowFor t d)
+  nextIn (some l) = validNext (rowFor (l .table) d)
 
-  -- and in the table of the point a
+  -- and in that of the point a
   unfoldable pub nextAt : Address → Option Address
-  nextAt a = nextIn (tableOf a (m .tables))
+  nextAt a = nextIn (boxOf a (m .boxes))
 
   -- what is met along this next hop; nothing if there is none
   abbrev pub metBy : Option Address → (Address → List Address) → List Address
@@ -141,5 +146,5 @@ module _ (m : Mesh) (d : Address) where
   -- the points that a walk from a towards d meets in at most so many hops, a included; it ends where there is no valid row for d
   -- (so also at d, which has no row for itself) or where the next hop is no point
   unfoldable pub met : (hops : ℕ) → Address → List Address
-  met zero a = cond (isThere (tableOf a (m .tables))) (a ∷ []) []
-  met (suc hops) a = cond (isThere (tableOf a (m .tables))) (a ∷ metBy (nextAt a) (met hops)) []
+  met zero a = cond (isThere (boxOf a (m .boxes))) (a ∷ []) []
+  met (suc hops) a = cond (isThere (boxOf a (m .boxes))) (a ∷ metBy (nextAt a) (met hops)) []

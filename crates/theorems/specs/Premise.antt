@@ -18,6 +18,7 @@ use Rattle.element.specs.declared.Target.{Target}
 use Rattle.element.specs.Element.{Element, rann, rreq, rrep, rerr}
 use Rattle.element.specs.Octets.{readElement}
 use Rattle.rules.specs.Lists.{all}
+use Rattle.rules.specs.Outcome.{Lent}
 use Rattle.theorems.specs.Mesh.{Sent, Mesh}
 
 -- a number, if it stands beside the address d
@@ -32,6 +33,10 @@ knownIn (some r) = cond (eqb (r .known) 1) (r .number ∷ []) []
 -- held for d in the table t: the own number, if t is d's table, and the known number of the row for d, valid or not
 unfoldable pub held : Address → List ℕ → List SequenceNumber
 held d t = beside d (own t) (number t) ++ knownIn (rowFor t d)
+
+-- held for d in the tables of these boxes
+unfoldable pub heldByAll : Address → List Lent → List SequenceNumber
+heldByAll d boxes = flatMap (λ (l : Lent). held d (l .table)) boxes
 
 -- of a RANN or RREQ the originator's number, of a RREP the destination's
 abbrev pub pathNumber : Address → PathInfo → List SequenceNumber
@@ -58,7 +63,7 @@ carried d (rerr f destinations) = flatMap (lostNumber d) destinations
 
 -- all numbers for d, held in a table or carried in an element sent so far
 unfoldable pub numbersFor : Address → Mesh → List SequenceNumber
-numbersFor d m = flatMap (held d) (m .tables) ++ flatMap (λ (s : Sent). carried d (readElement (s .octets))) (m .log)
+numbersFor d m = heldByAll d (m .boxes) ++ flatMap (λ (s : Sent). carried d (readElement (s .octets))) (m .log)
 
 -- n is one of the 2^31 consecutive numbers from base on, counted round zero: n - base, wrapped to 32 bits, is below 2^31
 unfoldable pub isWithin : ℕ → SequenceNumber → Bool

@@ -13,11 +13,11 @@ use Rattle.table.specs.declared.address.Address.{Address}
 use Rattle.table.specs.Address.{same}
 use Rattle.element.specs.Lists.{twice}
 use Rattle.rules.specs.Decision.{Decision, refused}
-use Rattle.rules.specs.Outcome.{Effect, Exit, atExit}
+use Rattle.rules.specs.Outcome.{Lent, lend, Effect, Exit, atExit}
 use Rattle.rules.specs.Calls.{Call, asks, announces, requestsAsRoot, breaks, outcome}
 use Rattle.rules.specs.Walk.{Walked, walkedAtExit, walk}
-use Rattle.theorems.specs.Mesh.{Rules, Point, Mesh, start, tableOf, Action, delivers, makes, Event, callOf, happen, run, throughout, met}
-use Rattle.theorems.specs.Premise.{held, allWithin}
+use Rattle.theorems.specs.Mesh.{Rules, Point, Mesh, start, boxOf, Action, delivers, makes, Event, callOf, happen, run, throughout, met}
+use Rattle.theorems.specs.Premise.{heldByAll, allWithin}
 use Rattle.theorems.specs.WrongRules.{comparesPlainly, takesEqualReplies, takesEqualIfInactive, dropsBroken, keepsNumber}
 
 -- ---- points and events
@@ -115,22 +115,25 @@ abbrev pub walkLine : Walked → List ℕ
 walkLine w = w .answer ∷ w .hops ∷ []
 
 unfoldable pub walked : Run → Mesh → List ℕ
-walked r m = walkLine (walkedAtExit (walk (flatMap (λ t. t) (m .tables)) (length (r .points)) 0 (r .from) (r .destination)))
+walked r m =
+    let tables : List ℕ = flatMap (λ (l : Lent). l .table) (m .boxes) in
+    walkLine (walkedAtExit (walk tables (length (r .points)) 0 (r .from) (r .destination)))
 
 -- the numbers for the destination that the tables of a mesh hold
 unfoldable pub heldIn : Run → Mesh → List ℕ
-heldIn r m = map (λ (n : SequenceNumber). n .0) (flatMap (held (r .destination)) (m .tables))
+heldIn r m = map (λ (n : SequenceNumber). n .0) (heldByAll (r .destination) (m .boxes))
 
 -- the lines of the bench for calls: for each event the answer and how many frames are emitted; 0 and 0 where it is no call
-abbrev pub decisionAt : Rules → ℕ → Option (List ℕ) → Option Call → Decision Effect
+abbrev pub decisionAt : Rules → ℕ → Option Lent → Option Call → Decision Effect
 decisionAt rules room none call = refused 0
-decisionAt rules room (some t) none = refused 0
-decisionAt rules room (some t) (some call) = rules t room call
+decisionAt rules room (some l) none = refused 0
+decisionAt rules room (some l) (some call) = rules l room call
 
 unfoldable pub linesFrom : Rules → Mesh → List Event → List ℕ
 linesFrom rules m [] = []
 linesFrom rules m (e ∷ events) =
-    let x : Exit = atExit [] [] (decisionAt rules (e .room) (tableOf (e .point) (m .tables)) (callOf (m .log) (e .action))) in
+    let found : Option Lent = boxOf (e .point) (m .boxes) in
+    let x : Exit = atExit (lend []) [] (decisionAt rules (e .room) found (callOf (m .log) (e .action))) in
     x .answer ∷ x .frames ∷ linesFrom rules (happen rules m e) events
 
 unfoldable pub lines : Rules → Run → List ℕ

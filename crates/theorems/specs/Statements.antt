@@ -3,7 +3,8 @@
 --
 -- How to read: `(x : T) → P` is 'for every x: P', `P → Q` 'if P then Q', `×` 'and', `≡` 'equals'; `x ∷ l` is a list that begins with
 -- x, `l ++ k` one list after another; `cond b x y` is x if b holds, else y; `r .f` is the field f of r, and `a .0` the number that an
--- address, a sequence number or a metric is. A `List ℕ` is a list of octets.
+-- address, a sequence number or a metric is. A `List ℕ` is a list of octets; a `Lent` is what a point lends to a call,
+-- and its field `table` the point's table.
 use Prim.Native.Nat.{ℕ, _^_, _<_, _≤_}
 use mathlib.Core.Path.{_≡_}
 use mathlib.Core.Bool.{true, false}
@@ -20,7 +21,7 @@ use Rattle.element.specs.Octets.{wrongLength, otherId, misfit, readElement, wri
 use Rattle.element.specs.Lists.{twice}
 use Rattle.rules.specs.Decision.{accepted}
 use Rattle.rules.specs.Lists.{all}
-use Rattle.rules.specs.Outcome.{Frame, Effect, frameOctets}
+use Rattle.rules.specs.Outcome.{Frame, Lent, Effect, frameOctets}
 use Rattle.rules.specs.Fresh.{makeFresh}
 use Rattle.rules.specs.Forget.{forget}
 use Rattle.rules.specs.Errors.{broken}
@@ -48,8 +49,9 @@ ErrorsShutOut = all (λ b. b) shutOut ≡ true
 -- (The five calls that write table and output; then a fresh table, and forgetting a destination.)
 abbrev pub StaysTable : Type 0
 StaysTable =
-    (t : List ℕ) → Octets t → (room : ℕ) (call : Call) → OperandsFit call → (e : Effect) → outcome t room call ≡ accepted e
-    → Octets (e .table) × (isTable (e .table) ≡ true) × (length (e .table) ≡ length t)
+    (l : Lent) → Octets (l .table) → (room : ℕ) (call : Call) → OperandsFit call
+    → (e : Effect) → outcome l room call ≡ accepted e
+    → Octets (e .lent .table) × (isTable (e .lent .table) ≡ true) × (length (e .lent .table) ≡ length (l .table))
 
 abbrev pub FreshIsTable : Type 0
 FreshIsTable =
@@ -65,7 +67,8 @@ ForgetStaysTable =
 -- The frames of an accepted call take at most 1,560 octets, so that an output that passes refusal 2 has room for them.
 abbrev pub HasRoom : Type 0
 HasRoom =
-    (t : List ℕ) → Octets t → (room : ℕ) (call : Call) → OperandsFit call → (e : Effect) → outcome t room call ≡ accepted e
+    (l : Lent) → Octets (l .table) → (room : ℕ) (call : Call) → OperandsFit call
+    → (e : Effect) → outcome l room call ≡ accepted e
     → length (frameOctets (e .frames)) ≤ 1560
 
 -- ---- reads back (`reads-back`)
@@ -80,7 +83,8 @@ pub record ReadsAs (s : List ℕ) (e : Element) : Type 0 where
 -- Such are the octets of the elements in all frames of an accepted call.
 abbrev pub ReadsBack : Type 0
 ReadsBack =
-    (t : List ℕ) → Octets t → (room : ℕ) (call : Call) → OperandsFit call → (e : Effect) → outcome t room call ≡ accepted e
+    (l : Lent) → Octets (l .table) → (room : ℕ) (call : Call) → OperandsFit call
+    → (e : Effect) → outcome l room call ≡ accepted e
     → All (λ (f : Frame). ReadsAs (writeElement (f .element)) (f .element)) (e .frames)
 
 -- ---- walks (`hops-at-most`)
@@ -144,7 +148,8 @@ Sharp = all loops counterexamples ≡ true
 -- so each differs from them in the one sentence that it changes (`else-the-rules`).
 abbrev pub ElseTheRules : Type 0
 ElseTheRules =
-    (t : List ℕ) (room : ℕ) (call : Call) → ruledBy (receivingBy (λ e. isStaleFor)) (breakingBy broken) t room call ≡ outcome t room call
+    (l : Lent) (room : ℕ) (call : Call)
+    → ruledBy (receivingBy (λ e. isStaleFor)) (breakingBy broken) l room call ≡ outcome l room call
 
 -- One list of calls loops under the rules themselves; so no base has all its numbers in its window.
 abbrev pub NeedsPremise : Type 0

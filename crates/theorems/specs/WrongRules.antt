@@ -13,7 +13,7 @@ use Rattle.element.specs.Element.{Element, rann, rreq, rrep, rerr}
 use Rattle.element.specs.Octets.{readElement}
 use Rattle.rules.specs.Decision.{Check, Ruling, decide}
 use Rattle.rules.specs.Lists.{has}
-use Rattle.rules.specs.Outcome.{Effect, underHead}
+use Rattle.rules.specs.Outcome.{Lent, withTable, Effect, underHead}
 use Rattle.rules.specs.declared.Arrival.{Arrival}
 use Rattle.rules.specs.Receive.{pathOf, isStaleFor, receiving}
 use Rattle.rules.specs.Break.{brokenOff, breaking}
@@ -33,28 +33,31 @@ withOutcome a r = record { checks = r .checks; otherwise = a }
 
 -- other rulings for receive and break
 unfoldable pub ruledBy :
-    (List ℕ → ℕ → Arrival → List ℕ → Ruling Effect) → (List ℕ → ℕ → ℕ → Address → Ruling Effect) → Rules
-ruledBy receive break t room (receives a s) = decide (receive t room a s)
-ruledBy receive break t room (makes (asks lifetime items)) = outcome t room (makes (asks lifetime items))
-ruledBy receive break t room (makes (announces flags lifetime)) = outcome t room (makes (announces flags lifetime))
-ruledBy receive break t room (makes (requestsAsRoot flags lifetime)) = outcome t room (makes (requestsAsRoot flags lifetime))
-ruledBy receive break t room (makes (breaks c neighbour)) = decide (break t room c neighbour)
+    (Lent → ℕ → Arrival → List ℕ → Ruling Effect) → (Lent → ℕ → ℕ → Address → Ruling Effect) → Rules
+ruledBy receive break l room (receives a s) = decide (receive l room a s)
+ruledBy receive break l room (makes (asks lifetime items)) = outcome l room (makes (asks lifetime items))
+ruledBy receive break l room (makes (announces flags lifetime)) = outcome l room (makes (announces flags lifetime))
+ruledBy receive break l room (makes (requestsAsRoot flags lifetime)) = outcome l room (makes (requestsAsRoot flags lifetime))
+ruledBy receive break l room (makes (breaks c neighbour)) = decide (break l room c neighbour)
 
 -- refusal 25 by another test of the element and the row
-abbrev pub receivingBy : (Element → Arrival → PathInfo → Row → Bool) → List ℕ → ℕ → Arrival → List ℕ → Ruling Effect
-receivingBy stale t room a s =
+abbrev pub receivingBy : (Element → Arrival → PathInfo → Row → Bool) → Lent → ℕ → Arrival → List ℕ → Ruling Effect
+receivingBy stale l room a s =
     let e : Element = readElement s in
-    withCheck 25 (has (λ p. has (stale e a p) (rowFor t (p .subject))) (pathOf e)) (receiving t room a s)
+    withCheck 25 (has (λ p. has (stale e a p) (rowFor (l .table) (p .subject))) (pathOf e)) (receiving l room a s)
 
 abbrev pub with25 : (Element → Arrival → PathInfo → Row → Bool) → Rules
 with25 stale = ruledBy (receivingBy stale) breaking
 
 -- A break that makes something else of the active rows through the neighbour. The errors that it sends stay as they are: they
 -- carry the stepped numbers.
-abbrev pub breakingBy : (Row → Row) → List ℕ → ℕ → ℕ → Address → Ruling Effect
-breakingBy f t room c neighbour =
+abbrev pub breakingBy : (Row → Row) → Lent → ℕ → ℕ → Address → Ruling Effect
+breakingBy f l room c neighbour =
+    let t : List ℕ = l .table in
     let u : List ℕ = changeWhere (isThrough c neighbour) f t in
-    withOutcome (record { table = underHead t (number t) c u; frames = brokenOff t c (isThrough c neighbour) .frames }) (breaking t room c neighbour)
+    withOutcome
+    (record { lent = withTable (underHead t (number t) c u) l; frames = brokenOff l c (isThrough c neighbour) .frames })
+    (breaking l room c neighbour)
 
 abbrev pub withBroken : (Row → Row) → Rules
 withBroken f = ruledBy receiving (breakingBy f)
