@@ -13,7 +13,7 @@ use Rattle.counters.specs.declared.SequenceNumber.{SequenceNumber}
 use Rattle.table.specs.declared.address.Address.{Address}
 use Rattle.rules.specs.Decision.{Decision, refused, accepted}
 use Rattle.rules.specs.Fresh.{makeFresh}
-use Rattle.rules.specs.Outcome.{Exit}
+use Rattle.rules.specs.Outcome.{Exit, lend}
 use Rattle.rules.specs.Originate.{ask, announce}
 use Rattle.rules.specs.Receive.{receive}
 use Rattle.rules.specs.Break.{breakNeighbour}
@@ -59,25 +59,25 @@ module _ (b : Bench) (h : Bounded (b .points) (b .frames) (b .clock)) where
   ask-within : (p : ℕ) (item : List ℕ) (lifetime : ℕ) → Within (askFor b p item lifetime)
   unfolding askFor
   ask-within p item lifetime =
-      cond-cases Within (ltb p (b .points)) (λ _. settled-within p (calledBy b p (ask (tableOf b p) 1560 lifetime item))) (λ _. tt)
+      cond-cases Within (ltb p (b .points)) (λ _. settled-within p (calledBy b p (ask (lend (tableOf b p)) 1560 lifetime item))) (λ _. tt)
 
   announce-within : (p lifetime : ℕ) → Within (announceSelf b p lifetime)
   unfolding announceSelf
   announce-within p lifetime =
-      cond-cases Within (ltb p (b .points)) (λ _. settled-within p (calledBy b p (announce (tableOf b p) 1560 0 lifetime))) (λ _. tt)
+      cond-cases Within (ltb p (b .points)) (λ _. settled-within p (calledBy b p (announce (lend (tableOf b p)) 1560 0 lifetime))) (λ _. tt)
 
   deliver-within : (links : List (List ℕ)) (k p : ℕ) → Within (deliver b links k p)
   unfolding deliver handedOver
   deliver-within links k p =
       cond-cases Within (ltb k (b .frames) && ltb p (b .points) && ltb (senderOf (b .slots) k) (b .points))
-      (λ _. settled-within p (calledBy b p (receive (tableOf b p) 1560 (arrivalFrom (b .tables) links (b .clock) (senderOf (b .slots) k) p) (elementOf (b .slots) k))))
+      (λ _. settled-within p (calledBy b p (receive (lend (tableOf b p)) 1560 (arrivalFrom (b .tables) links (b .clock) (senderOf (b .slots) k) p) (elementOf (b .slots) k))))
       (λ _. tt)
 
   break-within : (p q : ℕ) → Within (breakOff b p q)
   unfolding breakOff
   break-within p q =
       cond-cases Within (ltb p (b .points) && ltb q (b .points))
-      (λ _. settled-within p (calledBy b p (breakNeighbour (tableOf b p) 1560 (b .clock) (addressIn b q))))
+      (λ _. settled-within p (calledBy b p (breakNeighbour (lend (tableOf b p)) 1560 (b .clock) (addressIn b q))))
       (λ _. tt)
 
   walk-within : (p q : ℕ) → Within (walkTo b p q)
