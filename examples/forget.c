@@ -1,7 +1,7 @@
 /*
  * Why rows are kept: three points in a row know the way to the last, the middle one asks for
  * it once more, and the first replies. A middle point that has its rows refuses the reply
- * (25). One that forgot the last point, or made a second fresh table, takes it: a loop.
+ * (HWMP_STALE). One that forgot the last point, or made a second fresh table, takes it: a loop.
  * Build: cc -std=c11 -Iinclude examples/forget.c target/staticlib/libhwmp.a -o forget
  */
 #include <inttypes.h>

@@ -111,7 +111,7 @@ static void break_off(void)
 
 int main(void)
 {
-    if (hwmp_fresh(table, sizeof table, own, 100) != 0)
+    if (hwmp_fresh(table, sizeof table, own, 100) != HWMP_ACCEPTED)
         return 1;
     write_row(0, far, neighbour, 2);
     write_row(2, neighbour, neighbour, 1);

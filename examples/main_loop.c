@@ -8,18 +8,6 @@
 
 #include <string.h>
 
-/* The answers that this loop tells apart; include/hwmp.h has them all. */
-enum {
-    ACCEPTED = 0,
-    TABLE_LENGTH = 1,
-    SHORT_OUTPUT = 2,
-    CLOCK_TOO_HIGH = 3,
-    NOT_A_TABLE = 21,
-    CLOCK_WENT_BACK = 22,
-    TOO_FEW_ROWS = 27,
-    NO_ACTIVE_ROW = 28
-};
-
 /* Where the latest clock stands in a table, in so many octets. */
 enum { CLOCK_AT = 16, CLOCK_OCTETS = 8 };
 
@@ -33,14 +21,14 @@ enum { CLOCK_AT = 16, CLOCK_OCTETS = 8 };
 static enum box_state state_after(uint32_t answer)
 {
     switch (answer) {
-    case TABLE_LENGTH:
-    case SHORT_OUTPUT:
-    case CLOCK_TOO_HIGH:
-    case NOT_A_TABLE:
+    case HWMP_TABLE_LENGTH:
+    case HWMP_SHORT_OUTPUT:
+    case HWMP_CLOCK_TOO_LARGE:
+    case HWMP_NOT_A_TABLE:
         return BOX_DAMAGED;
-    case CLOCK_WENT_BACK:
+    case HWMP_OLD_CLOCK:
         return BOX_CLOCK_WENT_BACK;
-    case TOO_FEW_ROWS:
+    case HWMP_NO_ROOM:
         return BOX_TABLE_FULL;
     default:
         return BOX_WELL;
@@ -78,7 +66,7 @@ static void send_frames(const struct box *box, struct hwmp_outcome outcome)
 static void settle(struct box *box, struct hwmp_outcome outcome)
 {
     count(box, outcome.answer);
-    if (outcome.answer != ACCEPTED)
+    if (outcome.answer != HWMP_ACCEPTED)
         return;
     memory_keep(box->board, box->table, sizeof box->table);
     send_frames(box, outcome);
@@ -170,9 +158,9 @@ static void forward(struct box *box, struct box_scan *scan, uint64_t now)
         hwmp_next_hop(box->table, sizeof box->table, now, scan->destination);
 
     count(box, hop.answer);
-    if (hop.answer == NO_ACTIVE_ROW)
+    if (hop.answer == HWMP_NO_NEXT_HOP)
         ask_unless_held_off(box, scan->destination, now);
-    if (hop.answer != ACCEPTED || scan->ttl == 0)
+    if (hop.answer != HWMP_ACCEPTED || scan->ttl == 0)
         return;
     scan->ttl--;
     scan_send(box->board, hop.address, scan);
@@ -216,15 +204,15 @@ enum box_state box_turn(struct box *box)
     return box->state;
 }
 
-/* No table has a row for its own address, so of a sound table the answer is 28. */
+/* No table has a row for its own address, so of a sound table the answer is HWMP_NO_NEXT_HOP. */
 static enum box_state state_of_kept(const struct box *box, uint64_t now)
 {
     const uint8_t *own = box->config.own;
     uint32_t answer = hwmp_next_hop(box->table, sizeof box->table, now, own).answer;
 
-    if (answer == CLOCK_WENT_BACK)
+    if (answer == HWMP_OLD_CLOCK)
         return BOX_CLOCK_WENT_BACK;
-    if (answer != NO_ACTIVE_ROW || memcmp(box->table, own, HWMP_ADDRESS_OCTETS) != 0)
+    if (answer != HWMP_NO_NEXT_HOP || memcmp(box->table, own, HWMP_ADDRESS_OCTETS) != 0)
         return BOX_DAMAGED;
     return BOX_WELL;
 }
@@ -232,7 +220,7 @@ static enum box_state state_of_kept(const struct box *box, uint64_t now)
 static enum box_state make_fresh(struct box *box)
 {
     if (hwmp_fresh(box->table, sizeof box->table, box->config.own, box->config.first_number) !=
-        ACCEPTED)
+        HWMP_ACCEPTED)
         return BOX_DAMAGED;
     memory_keep(box->board, box->table, sizeof box->table);
     return BOX_WELL;

@@ -13,7 +13,7 @@
 #include "hwmp.h"
 
 enum {
-    /* A row for every other box of a mesh of 16, so that there is always one free (27). */
+    /* A row for every other box of a mesh of 16, so that there is always one free. */
     BOX_ROWS = 15,
     /* The longest element: its second octet counts at most 255 after it. */
     BOX_ELEMENT_OCTETS = 257,
@@ -26,15 +26,15 @@ enum {
     /* For several periods of an announcement, so that one may be lost. */
     BOX_LIFETIME_MS = 10000,
     /* Answers of the calls that the loop makes are below this. */
-    BOX_ANSWERS = 30
+    BOX_ANSWERS = HWMP_NOT_HELD + 1
 };
 
 /* How a turn went, from good to bad: what the firmware has to see to. */
 enum box_state {
     BOX_WELL,
-    BOX_TABLE_FULL,      /* 27: the mesh has more boxes than the table has rows */
-    BOX_CLOCK_WENT_BACK, /* 22: nothing is received or forwarded until the clock is right */
-    BOX_DAMAGED          /* 1, 2, 3 or 21: memory or firmware is at fault; start again */
+    BOX_TABLE_FULL,      /* the mesh has more boxes than the table has rows */
+    BOX_CLOCK_WENT_BACK, /* nothing is received or forwarded until the clock is right */
+    BOX_DAMAGED          /* memory or firmware is at fault; start again */
 };
 
 struct board;

@@ -96,7 +96,7 @@ static void print_next_hop(size_t from, size_t to, uint64_t clock)
 int main(void)
 {
     for (size_t i = 0; i < POINTS; i++)
-        if (hwmp_fresh(tables[i], sizeof tables[i], addresses[i], 0) != 0)
+        if (hwmp_fresh(tables[i], sizeof tables[i], addresses[i], 0) != HWMP_ACCEPTED)
             return 1;
 
     ask(0, 2, 1000);
@@ -112,6 +112,6 @@ int main(void)
     print_next_hop(0, 2, 1000); /* the lifetime is over */
 
     deliver(3, 0, 0); /* once more: nothing new, and refused */
-    deliver(3, 2, 0); /* tells point 2 the way to itself: refused with 24 */
+    deliver(3, 2, 0); /* tells point 2 the way to itself: HWMP_ABOUT_ITSELF */
     return 0;
 }

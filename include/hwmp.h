@@ -7,38 +7,10 @@
  * address is 6 octets. The library allocates nothing and keeps no memory: no pointer
  * outlives its call, and calls on different tables may run at the same time.
  *
- * Every call gives an answer: 0 is acceptance, any other number a refusal; but a walk that
- * is not refused may also answer 41 or 42. If several refusals apply, the lowest number is
- * given. A refused call changes no octet, and what it returns beside the number is zero.
- *
- *    1  the table's length is not 32 + 32R with R from 1 to 128, or what a walk is handed is
- *       not 1 to HWMP_MAX_POINTS tables of one such length
- *    2  the output is shorter than HWMP_OUTPUT_OCTETS
- *    3  the clock is above HWMP_MAX_CLOCK
- *    4  the neighbour or transmitter is not an individual address
- *    5  the link metric is 0
- *    6  the element is under 2 octets, or its second octet does not count those after it
- *    7  the element is of no type known here
- *    8  the items are not 1 to HWMP_MAX_ITEMS of 7 octets, or the element's length does not
- *       fit its type and count
- *    9  an address is not individual: lowest bit of its first octet set, or all zero; but a
- *       received request may name all ones
- *   10  an address stands twice or where it may not, or flags are not allowed; of a walk, the
- *       start is no point, or two points have one address
- *   11  the lifetime is 0
- *   12  the element's hop count is 255
- *   13  the element's metric and the link metric together are above 4294967294
- *   14  a reply has no hop left (TTL 0 or 1)
- *   21  the octets are not a table
- *   22  the clock is below the latest clock stored in the table (of a walk, in any of them)
- *   23  the neighbour or transmitter is the point's own address
- *   24  an item names the point's own address, or what is received tells of a path to it
- *   25  what is received is older than the row, or as old and no better, whether the row is
- *       active or not
- *   26  an error names no active row of known number that leads through its transmitter
- *   27  there are too few free rows
- *   28  there is no active row for the destination
- *   29  there is no row for the destination
+ * Every call gives an answer, a number of enum hwmp_answer: HWMP_ACCEPTED or a refusal; but a
+ * walk that is not refused may also answer HWMP_NO_ROUTE or HWMP_TOO_LONG. If several
+ * refusals apply, the lowest number is given. A refused call changes no octet, and what it
+ * returns beside the number is zero.
  *
  * Calls that may send write their frames into the output, from its start and without
  * gaps: each is a receiver address (6 octets, all ones for every neighbour) and an
@@ -53,6 +25,77 @@
 #ifdef __cplusplus
 extern "C" {
 #endif
+
+/* The answers. Each call below lists its refusals by these numbers. */
+enum hwmp_answer {
+    /* The call did all that it was to do. */
+    HWMP_ACCEPTED = 0,
+    /*
+     * The table's length is not 32 + 32R with R from 1 to 128, or what a walk is handed is not
+     * 1 to HWMP_MAX_POINTS tables of one such length.
+     */
+    HWMP_TABLE_LENGTH = 1,
+    /* The output is shorter than HWMP_OUTPUT_OCTETS. */
+    HWMP_SHORT_OUTPUT = 2,
+    /* The clock is above HWMP_MAX_CLOCK. */
+    HWMP_CLOCK_TOO_LARGE = 3,
+    /* The neighbour or transmitter is not an individual address. */
+    HWMP_BAD_NEIGHBOUR = 4,
+    /* The link metric is 0. */
+    HWMP_NO_LINK = 5,
+    /* The element is under 2 octets, or its second octet does not count those after it. */
+    HWMP_ELEMENT_LENGTH = 6,
+    /* The element is of no type known here. */
+    HWMP_UNKNOWN_ID = 7,
+    /*
+     * The items are not 1 to HWMP_MAX_ITEMS of 7 octets, or the element's length does not fit
+     * its type and count.
+     */
+    HWMP_BAD_COUNT = 8,
+    /*
+     * An address is not individual: lowest bit of its first octet set, or all zero; but a
+     * received request may name all ones.
+     */
+    HWMP_BAD_ADDRESS = 9,
+    /*
+     * An address stands twice or where it may not, or flags are not allowed; of a walk, the
+     * start is no point, or two points have one address.
+     */
+    HWMP_BAD_LIST = 10,
+    /* The lifetime is 0. */
+    HWMP_NO_LIFETIME = 11,
+    /* The element's hop count is 255. */
+    HWMP_TOO_MANY_HOPS = 12,
+    /* The element's metric and the link metric together are above 4294967294. */
+    HWMP_METRIC_TOO_LARGE = 13,
+    /* A reply has no hop left (TTL 0 or 1). */
+    HWMP_LOW_TTL = 14,
+    /* The octets are not a table. */
+    HWMP_NOT_A_TABLE = 21,
+    /* The clock is below the latest clock stored in the table (of a walk, in any of them). */
+    HWMP_OLD_CLOCK = 22,
+    /* The neighbour or transmitter is the point's own address. */
+    HWMP_FROM_ITSELF = 23,
+    /* An item names the point's own address, or what is received tells of a path to it. */
+    HWMP_ABOUT_ITSELF = 24,
+    /*
+     * What is received is older than the row, or as old and no better, whether the row is
+     * active or not.
+     */
+    HWMP_STALE = 25,
+    /* An error names no active row of known number that leads through its transmitter. */
+    HWMP_NO_MATCH = 26,
+    /* There are too few free rows. */
+    HWMP_NO_ROOM = 27,
+    /* There is no active row for the destination. */
+    HWMP_NO_NEXT_HOP = 28,
+    /* There is no row for the destination. */
+    HWMP_NOT_HELD = 29,
+    /* A walk that is not refused finds no next point. */
+    HWMP_NO_ROUTE = 41,
+    /* A walk that is not refused took as many hops as there are points, and did not arrive. */
+    HWMP_TOO_LONG = 42
+};
 
 /* A table is a head and 1 to 128 rows. */
 #define HWMP_HEAD_OCTETS 32
@@ -87,7 +130,7 @@ extern "C" {
 /* Clocks and lifetimes count milliseconds; clocks go up to 2^48 - 1. */
 #define HWMP_MAX_CLOCK UINT64_C(281474976710655)
 
-/* What hwmp_next_hop found: the next hop if answer is 0, else six zero octets. */
+/* What hwmp_next_hop found: the next hop if accepted, else six zero octets. */
 struct hwmp_hop {
     uint32_t answer;
     uint8_t address[6];
@@ -99,11 +142,7 @@ struct hwmp_walked {
     uint32_t hops;
 };
 
-/* Answers of a walk that was neither refused nor arrived. */
-#define HWMP_NO_ROUTE 41
-#define HWMP_TOO_LONG 42
-
-/* What a call that may send has written, if answer is 0: frames, and octets in all. */
+/* What a call that may send has written, if accepted: frames, and octets in all. */
 struct hwmp_outcome {
     uint32_t answer;
     uint32_t frames;
@@ -135,11 +174,11 @@ uint32_t hwmp_forget(uint8_t *table, size_t table_len, const uint8_t destination
 
 /*
  * Walks from a start to a destination over the tables of several points, side by side in one
- * buffer and of one length, along rows that are active at the clock. Answers 0 where it meets
- * the destination, which may be a point or not; 41 where a point has no active row, or its
- * next hop is neither a point nor the destination, which is not counted; 42 after as many
- * hops as there are points. From the destination itself there are 0 hops. Changes nothing;
- * the clock is not stored.
+ * buffer and of one length, along rows that are active at the clock. Answers HWMP_ACCEPTED
+ * where it meets the destination, which may be a point or not; HWMP_NO_ROUTE where a point
+ * has no active row, or its next hop is neither a point nor the destination, which is not
+ * counted; HWMP_TOO_LONG after as many hops as there are points. From the destination
+ * itself there are 0 hops. Changes nothing; the clock is not stored.
  * Refusals: 1, 3, 9 (destination), 10, 21, 22. The start and two points of one address (10)
  * are judged by the first six octets of each table, before 21.
  */

@@ -2,6 +2,7 @@
 
 use std::arch::asm;
 
+use hwmp_tests::answers::{ACCEPTED, NO_NEXT_HOP, NOT_HELD};
 use hwmp_tests::elements::KINDS;
 use hwmp_tests::library::raw;
 use hwmp_tests::probe;
@@ -69,15 +70,15 @@ unsafe fn depth((name, function, expected): Entry, arguments: &[usize]) -> (&'st
     (name, OCTETS - CALLER_OCTETS - painted.count())
 }
 
-const NEXT_HOP: Entry = ("hwmp_next_hop", raw::hwmp_next_hop as _, 28);
-const FORGET: Entry = ("hwmp_forget", raw::hwmp_forget as _, 29);
-const ASK: Entry = ("hwmp_ask", raw::hwmp_ask as _, 0);
-const ANNOUNCE: Entry = ("hwmp_announce", raw::hwmp_announce as _, 0);
-const ROOT_REQUEST: Entry = ("hwmp_root_request", raw::hwmp_root_request as _, 0);
-const BREAK: Entry = ("hwmp_break", raw::hwmp_break as _, 0);
-const RECEIVE: Entry = ("hwmp_receive", raw::hwmp_receive as _, 0);
-const WALK: Entry = ("hwmp_walk", raw::hwmp_walk as _, 0);
-const FRESH: Entry = ("hwmp_fresh", raw::hwmp_fresh as _, 0);
+const NEXT_HOP: Entry = ("hwmp_next_hop", raw::hwmp_next_hop as _, NO_NEXT_HOP);
+const FORGET: Entry = ("hwmp_forget", raw::hwmp_forget as _, NOT_HELD);
+const ASK: Entry = ("hwmp_ask", raw::hwmp_ask as _, ACCEPTED);
+const ANNOUNCE: Entry = ("hwmp_announce", raw::hwmp_announce as _, ACCEPTED);
+const ROOT_REQUEST: Entry = ("hwmp_root_request", raw::hwmp_root_request as _, ACCEPTED);
+const BREAK: Entry = ("hwmp_break", raw::hwmp_break as _, ACCEPTED);
+const RECEIVE: Entry = ("hwmp_receive", raw::hwmp_receive as _, ACCEPTED);
+const WALK: Entry = ("hwmp_walk", raw::hwmp_walk as _, ACCEPTED);
+const FRESH: Entry = ("hwmp_fresh", raw::hwmp_fresh as _, ACCEPTED);
 
 /// Arguments in their order, those that belong together as one part.
 type Parts<'a> = &'a [&'a [usize]];
@@ -141,9 +142,13 @@ pub fn walk_depth(random: &mut Random) -> (&'static str, usize) {
     unsafe { depth(WALK, &arguments) }
 }
 
-const READ: Entry = ("probe_read", probe::raw::probe_read as _, 0);
-const WRITE: Entry = ("probe_write", probe::raw::probe_write as _, 0);
-const WRITE_SINGLY: Entry = ("probe_write, one by one", probe::raw::probe_write as _, 0);
+const READ: Entry = ("probe_read", probe::raw::probe_read as _, ACCEPTED);
+const WRITE: Entry = ("probe_write", probe::raw::probe_write as _, ACCEPTED);
+const WRITE_SINGLY: Entry = (
+    "probe_write, one by one",
+    probe::raw::probe_write as _,
+    ACCEPTED,
+);
 const FAULTS: Entry = ("probe_faults", probe::raw::probe_faults as _, 0);
 
 /// The element functions, on the type whose list is read most closely.

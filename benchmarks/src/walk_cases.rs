@@ -1,6 +1,7 @@
 //! Walks that are timed: full tables side by side, and a way through all their points to a
 //! destination that is none of them.
 
+use hwmp_tests::answers::ACCEPTED;
 use hwmp_tests::implementation::Implementation;
 use hwmp_tests::library::Walked;
 use hwmp_tests::random::Random;
@@ -73,7 +74,7 @@ fn lead(table: &mut [u8], destination: [u8; 6], next_hop: [u8; 6]) {
 pub fn confirm(inputs: &[Input], bys: &[&Implementation]) {
     for input in inputs {
         let expected = Walked {
-            answer: 0,
+            answer: ACCEPTED,
             hops: input.count,
         };
         for by in bys {

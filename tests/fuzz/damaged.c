@@ -50,14 +50,14 @@ struct hwmp_hop __wrap_hwmp_next_hop(const uint8_t *table, size_t table_len, uin
 
     if (is("writes the table in a next hop"))
         write_to(table);
-    if (is("gives an address beside a refusal") && hop.answer == 28)
+    if (is("gives an address beside a refusal") && hop.answer == HWMP_NO_NEXT_HOP)
         memcpy(hop.address, destination, 6);
-    if (is("gives a group address as next hop") && hop.answer == 0)
+    if (is("gives a group address as next hop") && hop.answer == HWMP_ACCEPTED)
         hop.address[0] |= 1;
-    if (is("gives the point itself as next hop") && hop.answer == 0)
+    if (is("gives the point itself as next hop") && hop.answer == HWMP_ACCEPTED)
         memcpy(hop.address, table, 6);
-    if (is("finds a next hop by turns") && hop.answer == 0 && next_turn())
-        hop = (struct hwmp_hop){.answer = 28};
+    if (is("finds a next hop by turns") && hop.answer == HWMP_ACCEPTED && next_turn())
+        hop = (struct hwmp_hop){.answer = HWMP_NO_NEXT_HOP};
     return hop;
 }
 
@@ -65,8 +65,9 @@ __typeof__(hwmp_forget) __real_hwmp_forget, __wrap_hwmp_forget;
 
 uint32_t __wrap_hwmp_forget(uint8_t *table, size_t table_len, const uint8_t *destination)
 {
-    if (is("forgets nothing") && __real_hwmp_next_hop(table, table_len, 0, destination).answer == 0)
-        return 0;
+    if (is("forgets nothing") &&
+        __real_hwmp_next_hop(table, table_len, 0, destination).answer == HWMP_ACCEPTED)
+        return HWMP_ACCEPTED;
     return __real_hwmp_forget(table, table_len, destination);
 }
 
@@ -81,11 +82,11 @@ struct hwmp_walked __wrap_hwmp_walk(const uint8_t *tables, size_t tables_len, ui
 
     if (is("reads behind the tables"))
         octet_read = tables[tables_len];
-    if (is("walks more hops than points") && walked.answer == 0)
+    if (is("walks more hops than points") && walked.answer == HWMP_ACCEPTED)
         walked.hops = count + 1;
     if (is("gives up early") && walked.answer == HWMP_TOO_LONG)
         walked.hops--;
-    if (is("counts hops beside a refusal") && walked.answer == 10)
+    if (is("counts hops beside a refusal") && walked.answer == HWMP_BAD_LIST)
         walked.hops = 1;
     return walked;
 }
@@ -101,8 +102,8 @@ struct hwmp_outcome __wrap_hwmp_ask(uint8_t *table, size_t table_len, uint8_t *o
 
     if (is("reads behind the items"))
         octet_read = items[items_len];
-    if (is("answers 12 to an ask") && outcome.answer == 11)
-        outcome.answer = 12;
+    if (is("answers 12 to an ask") && outcome.answer == HWMP_NO_LIFETIME)
+        outcome.answer = HWMP_TOO_MANY_HOPS;
     return outcome;
 }
 
@@ -114,7 +115,7 @@ struct hwmp_outcome __wrap_hwmp_announce(uint8_t *table, size_t table_len, uint8
     struct hwmp_outcome outcome =
         __real_hwmp_announce(table, table_len, output, output_len, flags, lifetime);
 
-    if (is("announces twice") && outcome.answer == 0) {
+    if (is("announces twice") && outcome.answer == HWMP_ACCEPTED) {
         memcpy(output + outcome.octets, output, outcome.octets);
         outcome.frames = 2;
         outcome.octets *= 2;
@@ -130,7 +131,7 @@ struct hwmp_outcome __wrap_hwmp_root_request(uint8_t *table, size_t table_len, u
     struct hwmp_outcome outcome =
         __real_hwmp_root_request(table, table_len, output, output_len, flags, lifetime);
 
-    if (is("asks one neighbour only") && outcome.answer == 0)
+    if (is("asks one neighbour only") && outcome.answer == HWMP_ACCEPTED)
         output[0] = 2;
     return outcome;
 }
@@ -163,16 +164,16 @@ static void damage_refused(struct hwmp_outcome *outcome, uint8_t *table, size_t 
         outcome->frames = 1;
     if (is("counts an octet beside a refusal"))
         outcome->octets = 1;
-    if (is("answers 15") && outcome->answer == 14)
+    if (is("answers 15") && outcome->answer == HWMP_LOW_TTL)
         outcome->answer = 15;
-    if (is("answers 64") && outcome->answer == 14)
+    if (is("answers 64") && outcome->answer == HWMP_LOW_TTL)
         outcome->answer = 64;
-    if (is("answers 14 to all elements") && outcome->answer == 12)
-        outcome->answer = 14;
-    if (is("answers 26 to all elements") && outcome->answer == 25)
-        outcome->answer = 26;
-    if (is("answers 25 to an error") && outcome->answer == 26)
-        outcome->answer = 25;
+    if (is("answers 14 to all elements") && outcome->answer == HWMP_TOO_MANY_HOPS)
+        outcome->answer = HWMP_LOW_TTL;
+    if (is("answers 26 to all elements") && outcome->answer == HWMP_STALE)
+        outcome->answer = HWMP_NO_MATCH;
+    if (is("answers 25 to an error") && outcome->answer == HWMP_NO_MATCH)
+        outcome->answer = HWMP_STALE;
 }
 
 /* What a receive that was accepted may do wrong. */
@@ -226,7 +227,7 @@ struct hwmp_outcome __wrap_hwmp_receive(uint8_t *table, size_t table_len, uint8_
         octet_read = element[element_len];
     if (is("writes the element") && element_len != 0)
         write_to(element);
-    if (outcome.answer == 0)
+    if (outcome.answer == HWMP_ACCEPTED)
         damage_accepted(&outcome, table, output, output_len);
     else
         damage_refused(&outcome, table, table_len, output, output_len);

@@ -145,6 +145,6 @@ void note_call(const struct call *call, const struct made *made)
     note(ANSWERED, what_is_called(call) * ANSWER_NUMBERS + result->answer);
     if (call->entry == WALK)
         note(WALKED, (result->answer * 32 + magnitude(call->number)) * 32 + result->hops);
-    if (result->answer == 0)
+    if (result->answer == HWMP_ACCEPTED)
         note_accepted(call, made);
 }

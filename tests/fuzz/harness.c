@@ -261,7 +261,7 @@ static void hear_many(struct input *input)
     struct point *point = take_point(input);
     uint8_t element[] = {RANN, 21, 0, 0, 31, 2, 0, 0, 0, 1, 0, 1, 0, 0, 0, 0, 0, 0, 0, 1, 0, 0, 0};
     struct call call = call_on(RECEIVE, point);
-    uint32_t answer = 0;
+    uint32_t answer = HWMP_ACCEPTED;
     uint8_t count;
 
     take_address(input, call.address);
@@ -270,7 +270,7 @@ static void hear_many(struct input *input)
     call.number = 1;
     call.octets = element;
     call.octets_len = sizeof element;
-    for (element[10] = 0; element[10] < count && answer == 0; element[10]++)
+    for (element[10] = 0; element[10] < count && answer == HWMP_ACCEPTED; element[10]++)
         answer = play(&call, point);
 }
 

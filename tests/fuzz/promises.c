@@ -8,8 +8,10 @@
 /* Two fills of the output that differ in every bit, so that one of them shows any write. */
 enum { FIRST_FILL = 0xaa, SECOND_FILL = 0x55 };
 
-#define ANSWER(n) (UINT64_C(1) << (n))
-#define ANSWERS(first, last) (ANSWER((last) + 1) - ANSWER(first))
+#define BIT(n) (UINT64_C(1) << (n))
+/* Answers by their names without HWMP_: one, and all from the first to the last. */
+#define ANSWER(name) BIT(HWMP_##name)
+#define ANSWERS(first, last) (BIT(HWMP_##last + 1) - BIT(HWMP_##first))
 
 static _Noreturn void found(const struct call *call, const struct result *result, const char *what)
 {
@@ -24,16 +26,22 @@ static _Noreturn void found(const struct call *call, const struct result *result
 uint64_t listed_answers(enum entry entry)
 {
     static const uint64_t listed[ENTRIES] = {
-        [FRESH] = ANSWER(0) | ANSWER(1) | ANSWER(9),
-        [NEXT_HOP] = ANSWERS(0, 1) | ANSWER(3) | ANSWER(9) | ANSWERS(21, 22) | ANSWER(28),
-        [FORGET] = ANSWERS(0, 1) | ANSWER(9) | ANSWER(21) | ANSWER(29),
-        [WALK] = ANSWERS(0, 1) | ANSWER(3) | ANSWERS(9, 10) | ANSWERS(21, 22) |
-                 ANSWER(HWMP_NO_ROUTE) | ANSWER(HWMP_TOO_LONG),
-        [ASK] = ANSWERS(0, 2) | ANSWERS(8, 11) | ANSWER(21) | ANSWER(24),
-        [ANNOUNCE] = ANSWERS(0, 2) | ANSWERS(10, 11) | ANSWER(21),
-        [ROOT_REQUEST] = ANSWERS(0, 2) | ANSWERS(10, 11) | ANSWER(21),
-        [BREAK] = ANSWERS(0, 4) | ANSWERS(21, 23),
-        [RECEIVE] = ANSWERS(0, 14) | ANSWERS(21, 27),
+        [FRESH] = ANSWERS(ACCEPTED, TABLE_LENGTH) | ANSWER(BAD_ADDRESS),
+        [NEXT_HOP] = ANSWERS(ACCEPTED, TABLE_LENGTH) | ANSWER(CLOCK_TOO_LARGE) |
+                     ANSWER(BAD_ADDRESS) | ANSWERS(NOT_A_TABLE, OLD_CLOCK) | ANSWER(NO_NEXT_HOP),
+        [FORGET] = ANSWERS(ACCEPTED, TABLE_LENGTH) | ANSWER(BAD_ADDRESS) | ANSWER(NOT_A_TABLE) |
+                   ANSWER(NOT_HELD),
+        [WALK] = ANSWERS(ACCEPTED, TABLE_LENGTH) | ANSWER(CLOCK_TOO_LARGE) |
+                 ANSWERS(BAD_ADDRESS, BAD_LIST) | ANSWERS(NOT_A_TABLE, OLD_CLOCK) |
+                 ANSWERS(NO_ROUTE, TOO_LONG),
+        [ASK] = ANSWERS(ACCEPTED, SHORT_OUTPUT) | ANSWERS(BAD_COUNT, NO_LIFETIME) |
+                ANSWER(NOT_A_TABLE) | ANSWER(ABOUT_ITSELF),
+        [ANNOUNCE] = ANSWERS(ACCEPTED, SHORT_OUTPUT) | ANSWERS(BAD_LIST, NO_LIFETIME) |
+                     ANSWER(NOT_A_TABLE),
+        [ROOT_REQUEST] = ANSWERS(ACCEPTED, SHORT_OUTPUT) | ANSWERS(BAD_LIST, NO_LIFETIME) |
+                         ANSWER(NOT_A_TABLE),
+        [BREAK] = ANSWERS(ACCEPTED, BAD_NEIGHBOUR) | ANSWERS(NOT_A_TABLE, FROM_ITSELF),
+        [RECEIVE] = ANSWERS(ACCEPTED, LOW_TTL) | ANSWERS(NOT_A_TABLE, NO_ROOM),
     };
 
     return listed[entry];
@@ -47,17 +55,18 @@ static uint64_t listed_for(const struct call *call)
     if (call->entry != RECEIVE || call->octets_len == 0)
         return listed;
     if (call->octets[0] != RREP)
-        listed &= ~ANSWER(14);
+        listed &= ~ANSWER(LOW_TTL);
     if (call->octets[0] != RERR)
-        return listed & ~ANSWER(26);
-    return listed & ~(ANSWERS(11, 13) | ANSWERS(24, 25) | ANSWER(27));
+        return listed & ~ANSWER(NO_MATCH);
+    return listed & ~(ANSWERS(NO_LIFETIME, METRIC_TOO_LARGE) | ANSWERS(ABOUT_ITSELF, STALE) |
+                      ANSWER(NO_ROOM));
 }
 
 static int is_refusal(const struct call *call, const struct result *result)
 {
     if (call->entry != WALK)
-        return result->answer != 0;
-    return result->answer != 0 && result->answer != HWMP_NO_ROUTE &&
+        return result->answer != HWMP_ACCEPTED;
+    return result->answer != HWMP_ACCEPTED && result->answer != HWMP_NO_ROUTE &&
            result->answer != HWMP_TOO_LONG;
 }
 
@@ -74,7 +83,7 @@ static int is_individual(const uint8_t address[6])
 
 static void check_answer(const struct call *call, const struct result *result)
 {
-    if (result->answer > 63 || (listed_for(call) & ANSWER(result->answer)) == 0)
+    if (result->answer > 63 || (listed_for(call) & BIT(result->answer)) == 0)
         found(call, result, "the answer is not listed for this call");
 }
 
@@ -189,7 +198,7 @@ static void check_repeats(const struct call *call, const struct made *first,
         found(call, &first->result, "the same call writes other frames");
 }
 
-/* A next hop is looked for at the last clock, so that neither 3 nor 22 hides 21. */
+/* A next hop is looked for at the last clock, so that no clock's refusal hides HWMP_NOT_A_TABLE. */
 static void check_stays_a_table(const struct call *call, const struct result *result,
                                 const uint8_t *table)
 {
@@ -200,7 +209,7 @@ static void check_stays_a_table(const struct call *call, const struct result *re
                             .address = {2, 0, 0, 0, 0, 1}};
     uint32_t answer = make_once(&next_hop, AT_END, FIRST_FILL).result.answer;
 
-    if (answer != 0 && answer != 28)
+    if (answer != HWMP_ACCEPTED && answer != HWMP_NO_NEXT_HOP)
         found(call, result, "an accepted call left no table");
 }
 
@@ -210,11 +219,11 @@ static void check_forgotten(const struct call *call, const struct result *result
     struct call again = *call;
 
     again.table = table;
-    if (make_once(&again, AT_END, FIRST_FILL).result.answer != 29)
+    if (make_once(&again, AT_END, FIRST_FILL).result.answer != HWMP_NOT_HELD)
         found(call, result, "the row was not forgotten");
 }
 
-/* Every element sent passes 1 to 8 at a point that has nothing to do with it. */
+/* Every element sent passes all up to HWMP_BAD_COUNT at a point that has nothing to do with it. */
 static void check_reads_back(const struct call *call, const struct result *result,
                              const uint8_t *frames)
 {
@@ -234,7 +243,7 @@ static void check_reads_back(const struct call *call, const struct result *resul
         next = receive.octets + receive.octets_len;
 
         uint32_t answer = make_once(&receive, AT_END, FIRST_FILL).result.answer;
-        if (answer >= 1 && answer <= 8)
+        if (answer >= HWMP_TABLE_LENGTH && answer <= HWMP_BAD_COUNT)
             found(call, result, "another point cannot read a frame that was sent");
     }
 }

@@ -107,15 +107,15 @@ fn outcome(emitted: Result<Emitted, Refusal>) -> Outcome {
     }
 }
 
-/// 41 and 42 are answers and carry the hops; a refusal carries zero.
+/// A walk that stopped or was too long carries its hops too; a refusal carries zero.
 fn walked(walked: Result<walk::Walked, Refusal>) -> Walked {
     match walked {
-        Ok(walk::Walked { end, hops }) => Walked {
-            answer: end as u32,
+        Ok(walk::Walked { answer, hops }) => Walked {
+            answer,
             hops: hops as u32,
         },
         Err(refusal) => Walked {
-            answer: refusal as u32,
+            answer: refusal,
             hops: 0,
         },
     }

@@ -3,6 +3,7 @@
 //! that send to each other, thirty days of them, and what is asked of a call that was worked out
 //! by hand.
 
+pub mod answers;
 pub mod comparing;
 pub mod elements;
 pub mod fence;

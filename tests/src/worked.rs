@@ -1,6 +1,7 @@
 //! What the cases share: tables laid octet by octet, and calls that must leave just the
 //! table and the frames that were worked out.
 
+use crate::answers::ACCEPTED;
 use crate::fence::{Fence, Side};
 use crate::implementation::{Implementation, LIBRARY, REFERENCE};
 use crate::library::Outcome;
@@ -103,7 +104,7 @@ pub type Call<'a> = &'a dyn Fn(&Implementation, &mut [u8], &mut [u8]) -> Outcome
 pub fn accepted(what: &str, before: &[u8], call: Call, after: &[u8], frames: &[Vec<u8>]) {
     let written = frames.concat();
     let expected = Outcome {
-        answer: 0,
+        answer: ACCEPTED,
         frames: frames.len() as u32,
         octets: written.len() as u32,
     };

@@ -1,6 +1,10 @@
 //! Answers worked out by hand from document 01, asked of the library and the reference
 //! alike: lengths, the order of the refusals, and the edges of each call.
 
+use hwmp_tests::answers::{
+    ACCEPTED, BAD_ADDRESS, CLOCK_TOO_LARGE, NO_NEXT_HOP, NOT_A_TABLE, NOT_HELD, OLD_CLOCK,
+    TABLE_LENGTH,
+};
 use hwmp_tests::implementation::{Implementation, LIBRARY, REFERENCE};
 use hwmp_tests::library::Hop;
 
@@ -29,7 +33,7 @@ fn table(status: u8, expiry: u64, latest_clock: u64) -> Vec<u8> {
 
 /// What next hop returns: the address with an acceptance, zeros with a refusal.
 fn hop(answer: u32) -> Hop {
-    let address = if answer == 0 { NEXT_HOP } else { [0; 6] };
+    let address = if answer == ACCEPTED { NEXT_HOP } else { [0; 6] };
     Hop { answer, address }
 }
 
@@ -40,9 +44,9 @@ fn only_whole_tables_of_1_to_128_rows_have_a_length() {
         for length in 0..=32 + 32 * 131 {
             // Zeros are no table, so a length that fits is refused with 21 instead.
             let (fresh, others) = if lengths.contains(&length) {
-                (0, 21)
+                (ACCEPTED, NOT_A_TABLE)
             } else {
-                (1, 1)
+                (TABLE_LENGTH, TABLE_LENGTH)
             };
             let mut octets = vec![0; length];
             assert_eq!((by.forget)(&mut octets, &DESTINATION), others, "{length}");
@@ -65,7 +69,7 @@ fn faults(numbers: &[u32], chosen: u32) -> (Vec<u32>, u32) {
         .filter(|(bit, _)| chosen >> bit & 1 == 1)
         .map(|(_, &number)| number)
         .collect();
-    let lowest = faults.first().copied().unwrap_or(0);
+    let lowest = faults.first().copied().unwrap_or(ACCEPTED);
     (faults, lowest)
 }
 
@@ -73,13 +77,24 @@ fn faults(numbers: &[u32], chosen: u32) -> (Vec<u32>, u32) {
 fn fresh_gives_the_lowest_refusal() {
     for by in BOTH {
         for chosen in 0..1 << 2 {
-            let (faults, expected) = faults(&[1, 9], chosen);
-            let mut octets = vec![0xA5; if faults.contains(&1) { 95 } else { 96 }];
-            let own = if faults.contains(&9) { GROUP } else { OWN };
+            let (faults, expected) = faults(&[TABLE_LENGTH, BAD_ADDRESS], chosen);
+            let mut octets = vec![
+                0xA5;
+                if faults.contains(&TABLE_LENGTH) {
+                    95
+                } else {
+                    96
+                }
+            ];
+            let own = if faults.contains(&BAD_ADDRESS) {
+                GROUP
+            } else {
+                OWN
+            };
             let answer = (by.fresh)(&mut octets, &own, 1);
             assert_eq!(answer, expected, "{faults:?}: {}", by.name);
             let changed = octets.iter().any(|&octet| octet != 0xA5);
-            assert_eq!(changed, expected == 0, "{faults:?}: {}", by.name);
+            assert_eq!(changed, expected == ACCEPTED, "{faults:?}: {}", by.name);
         }
     }
     println!("fresh: every set of faults 1, 9 gives the lowest");
@@ -89,13 +104,19 @@ fn fresh_gives_the_lowest_refusal() {
 fn forget_gives_the_lowest_refusal() {
     for by in BOTH {
         for chosen in 0..1 << 4 {
-            let (faults, expected) = faults(&[1, 9, 21, 29], chosen);
+            let (faults, expected) =
+                faults(&[TABLE_LENGTH, BAD_ADDRESS, NOT_A_TABLE, NOT_HELD], chosen);
             let mut octets = damaged(table(1, 6000, 1000), &faults);
             let before = octets.clone();
-            let absent = faults.contains(&29);
+            let absent = faults.contains(&NOT_HELD);
             let answer = (by.forget)(&mut octets, &wanted(&faults, absent));
             assert_eq!(answer, expected, "{faults:?}: {}", by.name);
-            assert_eq!(octets == before, expected != 0, "{faults:?}: {}", by.name);
+            assert_eq!(
+                octets == before,
+                expected != ACCEPTED,
+                "{faults:?}: {}",
+                by.name
+            );
         }
     }
     println!("forget: every set of faults 1, 9, 21, 29 gives the lowest");
@@ -105,15 +126,28 @@ fn forget_gives_the_lowest_refusal() {
 fn next_hop_gives_the_lowest_refusal() {
     for by in BOTH {
         for chosen in 0..1 << 6 {
-            let (faults, expected) = faults(&[1, 3, 9, 21, 22, 28], chosen);
+            let (faults, expected) = faults(
+                &[
+                    TABLE_LENGTH,
+                    CLOCK_TOO_LARGE,
+                    BAD_ADDRESS,
+                    NOT_A_TABLE,
+                    OLD_CLOCK,
+                    NO_NEXT_HOP,
+                ],
+                chosen,
+            );
             let octets = damaged(table(1, 6000, 1000), &faults);
             let before = octets.clone();
-            let clock = match (faults.contains(&3), faults.contains(&22)) {
+            let clock = match (
+                faults.contains(&CLOCK_TOO_LARGE),
+                faults.contains(&OLD_CLOCK),
+            ) {
                 (true, _) => LAST_CLOCK + 1,
                 (_, true) => 999,
                 _ => 1000,
             };
-            let absent = faults.contains(&28);
+            let absent = faults.contains(&NO_NEXT_HOP);
             let found = (by.next_hop)(&octets, clock, &wanted(&faults, absent));
             assert_eq!(found, hop(expected), "{faults:?}: {}", by.name);
             assert_eq!(octets, before, "{faults:?}: {}", by.name);
@@ -124,13 +158,13 @@ fn next_hop_gives_the_lowest_refusal() {
 
 /// Fault 1 cuts off an octet, fault 21 sets the first zero octet of the head.
 fn damaged(mut octets: Vec<u8>, faults: &[u32]) -> Vec<u8> {
-    octets[6] = faults.contains(&21).into();
-    octets.truncate(octets.len() - usize::from(faults.contains(&1)));
+    octets[6] = faults.contains(&NOT_A_TABLE).into();
+    octets.truncate(octets.len() - usize::from(faults.contains(&TABLE_LENGTH)));
     octets
 }
 
 fn wanted(faults: &[u32], absent: bool) -> [u8; 6] {
-    match (faults.contains(&9), absent) {
+    match (faults.contains(&BAD_ADDRESS), absent) {
         (true, _) => GROUP,
         (_, true) => ABSENT,
         _ => DESTINATION,
@@ -142,27 +176,55 @@ fn next_hop_needs_an_active_row() {
     let last_expiry = (1 << 48) + (1 << 32);
     // Status, expiry, latest clock; clock, destination; answer.
     let edges = [
-        (1, 6000, 1000, 1000, DESTINATION, 0),
-        (1, 6000, 1000, 5999, DESTINATION, 0),
-        (1, 6000, 1000, 6000, DESTINATION, 28),
-        (1, 6000, 1000, 6001, DESTINATION, 28),
-        (2, 6000, 1000, 1000, DESTINATION, 28),
-        (1, 6000, 1000, 999, DESTINATION, 22),
-        (1, 0, 0, 0, DESTINATION, 28),
-        (1, 1, 0, 0, DESTINATION, 0),
-        (1, last_expiry, LAST_CLOCK, LAST_CLOCK, DESTINATION, 0),
-        (1, LAST_CLOCK, LAST_CLOCK, LAST_CLOCK, DESTINATION, 28),
-        (1, last_expiry, LAST_CLOCK, LAST_CLOCK - 1, DESTINATION, 22),
-        (1, last_expiry, 0, LAST_CLOCK + 1, DESTINATION, 3),
-        (1, last_expiry, 0, u64::MAX, DESTINATION, 3),
+        (1, 6000, 1000, 1000, DESTINATION, ACCEPTED),
+        (1, 6000, 1000, 5999, DESTINATION, ACCEPTED),
+        (1, 6000, 1000, 6000, DESTINATION, NO_NEXT_HOP),
+        (1, 6000, 1000, 6001, DESTINATION, NO_NEXT_HOP),
+        (2, 6000, 1000, 1000, DESTINATION, NO_NEXT_HOP),
+        (1, 6000, 1000, 999, DESTINATION, OLD_CLOCK),
+        (1, 0, 0, 0, DESTINATION, NO_NEXT_HOP),
+        (1, 1, 0, 0, DESTINATION, ACCEPTED),
+        (
+            1,
+            last_expiry,
+            LAST_CLOCK,
+            LAST_CLOCK,
+            DESTINATION,
+            ACCEPTED,
+        ),
+        (
+            1,
+            LAST_CLOCK,
+            LAST_CLOCK,
+            LAST_CLOCK,
+            DESTINATION,
+            NO_NEXT_HOP,
+        ),
+        (
+            1,
+            last_expiry,
+            LAST_CLOCK,
+            LAST_CLOCK - 1,
+            DESTINATION,
+            OLD_CLOCK,
+        ),
+        (
+            1,
+            last_expiry,
+            0,
+            LAST_CLOCK + 1,
+            DESTINATION,
+            CLOCK_TOO_LARGE,
+        ),
+        (1, last_expiry, 0, u64::MAX, DESTINATION, CLOCK_TOO_LARGE),
         // A clock whose low 32 bits alone are below the expiry.
-        (1, 1 << 32, 0, (1 << 32) + 1, DESTINATION, 28),
-        (1, 6000, 1000, 1000, OWN, 28),
-        (1, 6000, 1000, 1000, NEXT_HOP, 28),
-        (1, 6000, 1000, 1000, ABSENT, 28),
-        (1, 6000, 1000, 1000, GROUP, 9),
-        (1, 6000, 1000, 1000, [0; 6], 9),
-        (1, 6000, 1000, 1000, [0xFF; 6], 9),
+        (1, 1 << 32, 0, (1 << 32) + 1, DESTINATION, NO_NEXT_HOP),
+        (1, 6000, 1000, 1000, OWN, NO_NEXT_HOP),
+        (1, 6000, 1000, 1000, NEXT_HOP, NO_NEXT_HOP),
+        (1, 6000, 1000, 1000, ABSENT, NO_NEXT_HOP),
+        (1, 6000, 1000, 1000, GROUP, BAD_ADDRESS),
+        (1, 6000, 1000, 1000, [0; 6], BAD_ADDRESS),
+        (1, 6000, 1000, 1000, [0xFF; 6], BAD_ADDRESS),
     ];
     for by in BOTH {
         for (status, expiry, latest_clock, clock, destination, answer) in edges {
@@ -180,21 +242,21 @@ fn next_hop_needs_an_active_row() {
 fn forget_needs_a_held_row_and_zeroes_it() {
     // Status, expiry; destination; answer. The latest clock plays no part.
     let edges = [
-        (1, 6000, DESTINATION, 0),
-        (1, 0, DESTINATION, 0),
-        (2, 6000, DESTINATION, 0),
-        (1, 6000, OWN, 29),
-        (1, 6000, NEXT_HOP, 29),
-        (1, 6000, ABSENT, 29),
-        (1, 6000, GROUP, 9),
-        (1, 6000, [0; 6], 9),
-        (1, 6000, [0xFF; 6], 9),
+        (1, 6000, DESTINATION, ACCEPTED),
+        (1, 0, DESTINATION, ACCEPTED),
+        (2, 6000, DESTINATION, ACCEPTED),
+        (1, 6000, OWN, NOT_HELD),
+        (1, 6000, NEXT_HOP, NOT_HELD),
+        (1, 6000, ABSENT, NOT_HELD),
+        (1, 6000, GROUP, BAD_ADDRESS),
+        (1, 6000, [0; 6], BAD_ADDRESS),
+        (1, 6000, [0xFF; 6], BAD_ADDRESS),
     ];
     for by in BOTH {
         for (status, expiry, destination, answer) in edges {
             let mut octets = table(status, expiry, LAST_CLOCK);
             let mut expected = octets.clone();
-            if answer == 0 {
+            if answer == ACCEPTED {
                 expected[96..128].fill(0);
             }
             let case = (status, expiry, destination);
@@ -211,7 +273,12 @@ fn fresh_overwrites_everything() {
     for by in BOTH {
         for (rows, number) in [(1, 0), (4, 0x0403_0201), (128, u32::MAX)] {
             let mut octets = vec![0xA5; 32 + 32 * rows];
-            assert_eq!((by.fresh)(&mut octets, &OWN, number), 0, "{}", by.name);
+            assert_eq!(
+                (by.fresh)(&mut octets, &OWN, number),
+                ACCEPTED,
+                "{}",
+                by.name
+            );
             let mut expected = vec![0; 32 + 32 * rows];
             expected[..6].copy_from_slice(&OWN);
             expected[8..12].copy_from_slice(&number.to_le_bytes());

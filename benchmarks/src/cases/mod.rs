@@ -4,6 +4,7 @@
 mod calls;
 mod receiving;
 
+use hwmp_tests::answers::{ACCEPTED, NO_NEXT_HOP, NOT_A_TABLE, NOT_HELD, STALE};
 use hwmp_tests::implementation::Implementation;
 use hwmp_tests::random::Random;
 use hwmp_tests::reference::LEAST_OUTPUT;
@@ -62,7 +63,7 @@ const fn emitting(
 ) -> Case {
     Case {
         name,
-        answer: 0,
+        answer: ACCEPTED,
         call,
         prepare,
         frames,
@@ -74,27 +75,32 @@ fn nothing(_: &mut Input, _: &mut Random) {}
 /// The calls that emit nothing. Where a row was forgotten it is put back for the next call, and
 /// the time includes that.
 pub const SILENT: [Case; 6] = [
-    silent("next hop, no such row", 28, calls::next_hop, nothing),
+    silent(
+        "next hop, no such row",
+        NO_NEXT_HOP,
+        calls::next_hop,
+        nothing,
+    ),
     silent(
         "next hop, the last row",
-        0,
+        ACCEPTED,
         calls::next_hop,
         calls::want_last_row,
     ),
-    silent("forget, no such row", 29, calls::forget, nothing),
+    silent("forget, no such row", NOT_HELD, calls::forget, nothing),
     silent(
         "forget the last row, mended",
-        0,
+        ACCEPTED,
         calls::forget_and_mend,
         calls::want_last_row,
     ),
     silent(
         "next hop, refused early",
-        21,
+        NOT_A_TABLE,
         calls::next_hop,
         calls::spoil_head,
     ),
-    silent("fresh", 0, calls::fresh, nothing),
+    silent("fresh", ACCEPTED, calls::fresh, nothing),
 ];
 
 /// The calls that emit. The last case also makes the lost rows valid again for the next call,
@@ -148,7 +154,7 @@ pub const RECEIVING: [Case; 6] = [
     ),
     silent(
         "receive a stale RANN",
-        25,
+        STALE,
         receiving::receive,
         receiving::stale_rann,
     ),

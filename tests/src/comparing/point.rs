@@ -1,3 +1,4 @@
+use crate::answers::ACCEPTED;
 use crate::fence::Fence;
 use crate::implementation::{Implementation, LIBRARY, REFERENCE};
 use crate::library::Outcome;
@@ -119,7 +120,7 @@ impl Point {
         let beyond = found.octets as usize;
         let left_alone = output.octets()[beyond..] == blank[beyond..];
         assert!(left_alone, "{}: output beyond {beyond} changed", on());
-        if found.answer != 0 {
+        if found.answer != ACCEPTED {
             assert_eq!((found.frames, found.octets), (0, 0), "{}: no zeros", on());
             assert!(self.before == self.table(), "{}: refused but changed", on());
         }

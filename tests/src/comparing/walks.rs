@@ -1,3 +1,4 @@
+use crate::answers::{ACCEPTED, NO_ROUTE, TOO_LONG};
 use crate::fence::Fence;
 use crate::implementation::{LIBRARY, REFERENCE};
 use crate::library::Walked;
@@ -54,7 +55,7 @@ impl Walks {
         assert!(tables == walk.tables, "tables changed: {walk:?}");
         let addresses = (*start, *destination);
         assert_eq!(addresses, (walk.start, walk.destination), "{walk:?}");
-        let most = if [0, 41, 42].contains(&found.answer) {
+        let most = if [ACCEPTED, NO_ROUTE, TOO_LONG].contains(&found.answer) {
             walk.count
         } else {
             0

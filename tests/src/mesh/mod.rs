@@ -4,6 +4,7 @@
 mod ways;
 mod window;
 
+use crate::answers::ACCEPTED;
 use crate::comparing::{Point, Run, Tally, frames};
 use crate::library::Outcome;
 use crate::random::Random;
@@ -39,7 +40,7 @@ pub struct Mesh {
 }
 
 /// What is counted beside the answers.
-pub const ACCEPTED: &str = "accepted by a mesh, by ID";
+pub const ACCEPTED_BY_ID: &str = "accepted by a mesh, by ID";
 pub const WALKS: &str = "walks, with the premise 1, without 0";
 pub const LOOPS: &str = "walks that meet a point twice, without the premise 0";
 
@@ -104,8 +105,8 @@ impl Mesh {
         seen: &mut Tally,
     ) -> Vec<Sent> {
         let outcome = self.points[point].receive(received, run);
-        if outcome.answer == 0 {
-            seen.count(ACCEPTED, received.element[0].into());
+        if outcome.answer == ACCEPTED {
+            seen.count(ACCEPTED_BY_ID, received.element[0].into());
         }
         self.after(point, outcome, run, seen)
     }
@@ -117,7 +118,7 @@ impl Mesh {
 
     /// A refused call has changed nothing, so that nothing new is to be checked.
     fn after(&mut self, point: usize, outcome: Outcome, run: &Run, seen: &mut Tally) -> Vec<Sent> {
-        if outcome.answer != 0 {
+        if outcome.answer != ACCEPTED {
             return Vec::new();
         }
         let sent = self.cut_sent(point, outcome);

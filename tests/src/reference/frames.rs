@@ -3,6 +3,7 @@
 use super::element::{Destinations, Element};
 use super::refusal::ensure;
 use super::{Address, Refusal};
+use crate::answers::SHORT_OUTPUT;
 
 /// Room for all that one call can emit.
 pub const LEAST_OUTPUT: usize = 1560;
@@ -23,7 +24,7 @@ pub struct Frames<'a> {
 impl<'a> Frames<'a> {
     /// Refused with 2 unless the output holds what any call can emit.
     pub fn start(output: &'a mut [u8]) -> Result<Frames<'a>, Refusal> {
-        ensure(output.len() >= LEAST_OUTPUT, Refusal::Output)?;
+        ensure(output.len() >= LEAST_OUTPUT, SHORT_OUTPUT)?;
         Ok(Frames {
             output,
             emitted: Emitted::default(),

@@ -5,6 +5,7 @@ use super::element::{Destination, Rreq};
 use super::refusal::ensure;
 use super::table::Table;
 use super::{Address, Refusal};
+use crate::answers::{BAD_ADDRESS, BAD_COUNT, BAD_LIST};
 
 const ITEM_OCTETS: usize = 7;
 
@@ -30,7 +31,7 @@ impl<'a> Items<'a> {
     pub fn cut(octets: &'a [u8]) -> Result<Items<'a>, Refusal> {
         let (items, remainder) = octets.as_chunks();
         let fits = remainder.is_empty() && (1..=Rreq::MOST).contains(&items.len());
-        ensure(fits, Refusal::ElementLength)?;
+        ensure(fits, BAD_COUNT)?;
         Ok(Items { items })
     }
 
@@ -45,11 +46,11 @@ impl<'a> Items<'a> {
     /// What can be said of them without the table. All ones is no individual address.
     pub fn check(&self) -> Result<(), Refusal> {
         let individual = self.addresses().all(Address::is_individual);
-        ensure(individual, Refusal::NotIndividual)?;
+        ensure(individual, BAD_ADDRESS)?;
         let most = Destination::DO | Destination::RF;
         let flags_fit = self.iter().all(|item| item.flags <= most);
         let fits = flags_fit && !has_twice(self.addresses());
-        ensure(fits, Refusal::ListOrFlags)
+        ensure(fits, BAD_LIST)
     }
 
     /// The destinations of the request, each with the number that the table knows of it.

@@ -7,6 +7,7 @@ use super::items::Items;
 use super::refusal::ensure;
 use super::table::{Head, write_head};
 use super::{Address, HopCount, Metric, Refusal, SequenceNumber, checks};
+use crate::answers::{ABOUT_ITSELF, BAD_LIST};
 
 /// The hops that a new element may take.
 pub(super) const TTL: u8 = 31;
@@ -25,7 +26,7 @@ pub fn ask(
     checks::is_table(&table)?;
     let head = table.head();
     let names_own = items.addresses().any(|address| address == head.own);
-    ensure(!names_own, Refusal::NamesOwn)?;
+    ensure(!names_own, ABOUT_ITSELF)?;
     let head = head.requested();
     let destinations = items.destinations(&table);
     request(&mut frames, &head, 0, lifetime, destinations.as_slice());
@@ -85,7 +86,7 @@ fn start_as_root<'a>(
 ) -> Result<(Head, Frames<'a>), Refusal> {
     let table = checks::table_length(octets)?;
     let frames = Frames::start(output)?;
-    ensure(flags_fit, Refusal::ListOrFlags)?;
+    ensure(flags_fit, BAD_LIST)?;
     checks::lifetime(lifetime)?;
     checks::is_table(&table)?;
     Ok((table.head(), frames))

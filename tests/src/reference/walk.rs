@@ -4,20 +4,13 @@ use super::element::list::has_twice;
 use super::refusal::ensure;
 use super::table::Table;
 use super::{Address, Refusal, checks};
+use crate::answers::{ACCEPTED, BAD_ADDRESS, BAD_LIST, NO_ROUTE, TABLE_LENGTH, TOO_LONG};
 
 pub const MOST_POINTS: usize = 16;
 
-/// How a walk ends, by its number in document 01.
-#[derive(Clone, Copy, Debug, PartialEq, Eq)]
-pub enum End {
-    Met = 0,
-    NoWay = 41,
-    AsManyHopsAsPoints = 42,
-}
-
 #[derive(Clone, Copy, Debug, PartialEq, Eq)]
 pub struct Walked {
-    pub end: End,
+    pub answer: u32,
     pub hops: usize,
 }
 
@@ -28,11 +21,11 @@ pub fn walk(
     start: Address,
     destination: Address,
 ) -> Result<Walked, Refusal> {
-    let points = Points::cut(octets, count).ok_or(Refusal::TableLength)?;
+    let points = Points::cut(octets, count).ok_or(TABLE_LENGTH)?;
     checks::clock(clock)?;
-    ensure(destination.is_individual(), Refusal::NotIndividual)?;
-    ensure(!has_twice(points.addresses()), Refusal::ListOrFlags)?;
-    let start = points.at(start).ok_or(Refusal::ListOrFlags)?;
+    ensure(destination.is_individual(), BAD_ADDRESS)?;
+    ensure(!has_twice(points.addresses()), BAD_LIST)?;
+    let start = points.at(start).ok_or(BAD_LIST)?;
     points
         .iter()
         .try_for_each(|table| checks::is_table(&table))?;
@@ -78,22 +71,22 @@ impl<'a> Points<'a> {
     }
 
     fn follow(&self, start: Table<'a>, destination: Address, clock: u64) -> Walked {
-        let ends = |end, hops| Walked { end, hops };
+        let ends = |answer, hops| Walked { answer, hops };
         if start.head().own == destination {
-            return ends(End::Met, 0);
+            return ends(ACCEPTED, 0);
         }
         let mut here = start;
         for hops in 0..self.count {
             let row = here.active_row_for(destination, clock);
             let next_hop = row.map(|(_, row)| row.next_hop);
             if next_hop == Some(destination) {
-                return ends(End::Met, hops + 1);
+                return ends(ACCEPTED, hops + 1);
             }
             match next_hop.and_then(|next_hop| self.at(next_hop)) {
                 Some(next) => here = next,
-                None => return ends(End::NoWay, hops),
+                None => return ends(NO_ROUTE, hops),
             }
         }
-        ends(End::AsManyHopsAsPoints, self.count)
+        ends(TOO_LONG, self.count)
     }
 }

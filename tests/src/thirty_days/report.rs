@@ -5,29 +5,53 @@ use std::fmt::Display;
 
 use super::sending::{DAMAGED, LATE, LOST, OUT_OF_ORDER, REPEATED, STRAY};
 use super::{DAY, Days, MOST_POINTS, WRAPPED, head};
+use crate::answers::{
+    ABOUT_ITSELF, ACCEPTED, BAD_ADDRESS, BAD_COUNT, BAD_LIST, BAD_NEIGHBOUR, CLOCK_TOO_LARGE,
+    ELEMENT_LENGTH, FROM_ITSELF, LOW_TTL, METRIC_TOO_LARGE, NO_LIFETIME, NO_LINK, NO_MATCH,
+    NO_NEXT_HOP, NO_ROOM, NO_ROUTE, OLD_CLOCK, SHORT_OUTPUT, STALE, TOO_MANY_HOPS, UNKNOWN_ID,
+};
 use crate::comparing::Listed;
-use crate::mesh::{ACCEPTED, LOOPS, WALKS};
+use crate::mesh::{ACCEPTED_BY_ID, LOOPS, WALKS};
 
 /// What the calls can answer, and how often each must have occurred.
 const LEAST_ANSWERED: u64 = 5;
 const ANSWERS: [Listed; 7] = [
-    ("fresh", &[0]),
-    ("ask", &[0, 2, 10, 24]),
-    ("announce", &[0, 2]),
-    ("root request", &[0, 2]),
-    ("break", &[0, 2, 22]),
-    ("next hop", &[0, 9, 22, 28]),
+    ("fresh", &[ACCEPTED]),
+    ("ask", &[ACCEPTED, SHORT_OUTPUT, BAD_LIST, ABOUT_ITSELF]),
+    ("announce", &[ACCEPTED, SHORT_OUTPUT]),
+    ("root request", &[ACCEPTED, SHORT_OUTPUT]),
+    ("break", &[ACCEPTED, SHORT_OUTPUT, OLD_CLOCK]),
+    ("next hop", &[ACCEPTED, BAD_ADDRESS, OLD_CLOCK, NO_NEXT_HOP]),
     (
         "receive",
         &[
-            0, 2, 3, 4, 5, 6, 7, 8, 9, 10, 11, 12, 13, 14, 22, 23, 24, 25, 26, 27,
+            ACCEPTED,
+            SHORT_OUTPUT,
+            CLOCK_TOO_LARGE,
+            BAD_NEIGHBOUR,
+            NO_LINK,
+            ELEMENT_LENGTH,
+            UNKNOWN_ID,
+            BAD_COUNT,
+            BAD_ADDRESS,
+            BAD_LIST,
+            NO_LIFETIME,
+            TOO_MANY_HOPS,
+            METRIC_TOO_LARGE,
+            LOW_TTL,
+            OLD_CLOCK,
+            FROM_ITSELF,
+            ABOUT_ITSELF,
+            STALE,
+            NO_MATCH,
+            NO_ROOM,
         ],
     ),
 ];
-const WALKED: [Listed; 1] = [("walk", &[0, 9, 10, 22, NO_ROUTE])];
-
-/// An answer of a walk and no refusal.
-const NO_ROUTE: u32 = 41;
+const WALKED: [Listed; 1] = [(
+    "walk",
+    &[ACCEPTED, BAD_ADDRESS, BAD_LIST, OLD_CLOCK, NO_ROUTE],
+)];
 
 /// What else must have occurred, and how often.
 const LEAST_SEEN: u64 = 100;
@@ -41,7 +65,7 @@ impl Days {
         let days = (self.last - self.first) / DAY;
         let mut answers = self.answers();
         let calls: u64 = answers.values().sum();
-        let accepted = answers.remove(&0).unwrap_or(0);
+        let accepted = answers.remove(&ACCEPTED).unwrap_or(0);
         let no_route = answers.remove(&NO_ROUTE).unwrap_or(0);
         let lines = [
             format!("days: {days}, from clock {} to {}", self.first, self.last),
@@ -94,7 +118,7 @@ impl Days {
     }
 
     fn accepted_by_id(&self) -> [(u32, u64); 4] {
-        IDS.map(|id| (id, self.seen.of(ACCEPTED, id)))
+        IDS.map(|id| (id, self.seen.of(ACCEPTED_BY_ID, id)))
     }
 
     fn bad_deliveries(&self) -> [(&str, u64); 6] {

@@ -2,6 +2,7 @@
 
 use super::queue::Event;
 use super::{Days, HOUR};
+use crate::answers::{ACCEPTED, TOO_LONG};
 use crate::comparing::Walk;
 use crate::library::Walked;
 use crate::tables;
@@ -51,8 +52,8 @@ impl Days {
     /// have met one twice.
     fn walk(&mut self, walk: &Walk) {
         let Walked { answer, hops } = self.walks.compare(walk);
-        assert_ne!(answer, 42, "{walk:?}");
-        if answer == 0 {
+        assert_ne!(answer, TOO_LONG, "{walk:?}");
+        if answer == ACCEPTED {
             self.most_hops = self.most_hops.max(hops);
         }
     }

@@ -1,5 +1,9 @@
 //! Ask, announce, root request and break.
 
+use hwmp_tests::answers::{
+    ABOUT_ITSELF, ACCEPTED, BAD_ADDRESS, BAD_COUNT, BAD_LIST, BAD_NEIGHBOUR, CLOCK_TOO_LARGE,
+    FROM_ITSELF, NO_LIFETIME, NOT_A_TABLE, OLD_CLOCK, SHORT_OUTPUT, TABLE_LENGTH,
+};
 use hwmp_tests::comparing::{Listed, Point, Run, Tally};
 use hwmp_tests::random::Random;
 use hwmp_tests::reference::Address;
@@ -12,10 +16,55 @@ const CALLS_PER_TABLE: usize = 8;
 /// The answers that each call can give, and how often each must have occurred.
 const LEAST_ANSWERED: u64 = 5_000;
 const ANSWERS: [Listed; 4] = [
-    ("ask", &[0, 1, 2, 8, 9, 10, 11, 21, 24]),
-    ("announce", &[0, 1, 2, 10, 11, 21]),
-    ("root request", &[0, 1, 2, 10, 11, 21]),
-    ("break", &[0, 1, 2, 3, 4, 21, 22, 23]),
+    (
+        "ask",
+        &[
+            ACCEPTED,
+            TABLE_LENGTH,
+            SHORT_OUTPUT,
+            BAD_COUNT,
+            BAD_ADDRESS,
+            BAD_LIST,
+            NO_LIFETIME,
+            NOT_A_TABLE,
+            ABOUT_ITSELF,
+        ],
+    ),
+    (
+        "announce",
+        &[
+            ACCEPTED,
+            TABLE_LENGTH,
+            SHORT_OUTPUT,
+            BAD_LIST,
+            NO_LIFETIME,
+            NOT_A_TABLE,
+        ],
+    ),
+    (
+        "root request",
+        &[
+            ACCEPTED,
+            TABLE_LENGTH,
+            SHORT_OUTPUT,
+            BAD_LIST,
+            NO_LIFETIME,
+            NOT_A_TABLE,
+        ],
+    ),
+    (
+        "break",
+        &[
+            ACCEPTED,
+            TABLE_LENGTH,
+            SHORT_OUTPUT,
+            CLOCK_TOO_LARGE,
+            BAD_NEIGHBOUR,
+            NOT_A_TABLE,
+            OLD_CLOCK,
+            FROM_ITSELF,
+        ],
+    ),
 ];
 
 /// What accepted calls must have met besides; where it is a yes or no, 1 stands for yes.
@@ -78,7 +127,7 @@ fn some_table(random: &mut Random) -> Vec<u8> {
 fn ask(point: &mut Point, run: &mut Run, seen: &mut Tally) {
     let lifetime = tables::some_lifetime(&mut run.random);
     let items = tables::some_items(point.table(), &mut run.random);
-    if point.ask(lifetime, &items, run).answer == 0 {
+    if point.ask(lifetime, &items, run).answer == ACCEPTED {
         see_items(point.before(), &items, seen);
         seen.count(NUMBER_OF_ASK_PASSES, number_passes(point.before()));
         seen.count(ID_OF_ASK_PASSES, request_id_passes(point.before()));
@@ -113,7 +162,7 @@ fn request_id_passes(table: &[u8]) -> u32 {
 fn announce(point: &mut Point, run: &mut Run, seen: &mut Tally) {
     let flags = tables::some_flags(&mut run.random);
     let lifetime = tables::some_lifetime(&mut run.random);
-    if point.announce(flags, lifetime, run).answer == 0 {
+    if point.announce(flags, lifetime, run).answer == ACCEPTED {
         seen.count(NUMBER_OF_ANNOUNCE_PASSES, number_passes(point.before()));
     }
 }
@@ -121,7 +170,7 @@ fn announce(point: &mut Point, run: &mut Run, seen: &mut Tally) {
 fn root_request(point: &mut Point, run: &mut Run, seen: &mut Tally) {
     let flags = tables::some_flags(&mut run.random);
     let lifetime = tables::some_lifetime(&mut run.random);
-    if point.root_request(flags, lifetime, run).answer == 0 {
+    if point.root_request(flags, lifetime, run).answer == ACCEPTED {
         seen.count(NUMBER_OF_ROOT_PASSES, number_passes(point.before()));
         seen.count(ID_OF_ROOT_PASSES, request_id_passes(point.before()));
     }
@@ -131,7 +180,7 @@ fn report_break(point: &mut Point, run: &mut Run, seen: &mut Tally) {
     let neighbour = tables::some_neighbour(point.table(), &mut run.random);
     let clock = tables::some_clock(point.table(), &mut run.random);
     let outcome = point.report_break(clock, neighbour, run);
-    if outcome.answer == 0 {
+    if outcome.answer == ACCEPTED {
         seen.count(FRAMES, outcome.frames);
         see_break(point.before(), point.table(), seen);
     }

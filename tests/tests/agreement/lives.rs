@@ -1,6 +1,10 @@
 //! Tables that live: made fresh over junk and filled up to some row, then learning and all
 //! calls by turns, each on what the calls before it left.
 
+use hwmp_tests::answers::{
+    ABOUT_ITSELF, ACCEPTED, BAD_ADDRESS, BAD_COUNT, BAD_LIST, BAD_NEIGHBOUR, CLOCK_TOO_LARGE,
+    FROM_ITSELF, NO_LIFETIME, NO_NEXT_HOP, NOT_HELD, OLD_CLOCK, SHORT_OUTPUT,
+};
 use hwmp_tests::comparing::{Listed, Point, Run, Tally};
 use hwmp_tests::reference::Address;
 use hwmp_tests::reference::table::{HEAD_OCTETS, MAX_ROWS, ROW_OCTETS, write_row};
@@ -12,13 +16,40 @@ const STEPS: usize = 60;
 /// What a table that stays one can answer, and how often each must have occurred.
 const LEAST: u64 = 1_000;
 const ANSWERS: [Listed; 7] = [
-    ("fresh", &[0]),
-    ("forget", &[0, 29]),
-    ("next hop", &[0, 3, 22, 28]),
-    ("ask", &[0, 2, 8, 9, 10, 11, 24]),
-    ("announce", &[0, 2, 10, 11]),
-    ("root request", &[0, 2, 10, 11]),
-    ("break", &[0, 2, 3, 4, 22, 23]),
+    ("fresh", &[ACCEPTED]),
+    ("forget", &[ACCEPTED, NOT_HELD]),
+    (
+        "next hop",
+        &[ACCEPTED, CLOCK_TOO_LARGE, OLD_CLOCK, NO_NEXT_HOP],
+    ),
+    (
+        "ask",
+        &[
+            ACCEPTED,
+            SHORT_OUTPUT,
+            BAD_COUNT,
+            BAD_ADDRESS,
+            BAD_LIST,
+            NO_LIFETIME,
+            ABOUT_ITSELF,
+        ],
+    ),
+    ("announce", &[ACCEPTED, SHORT_OUTPUT, BAD_LIST, NO_LIFETIME]),
+    (
+        "root request",
+        &[ACCEPTED, SHORT_OUTPUT, BAD_LIST, NO_LIFETIME],
+    ),
+    (
+        "break",
+        &[
+            ACCEPTED,
+            SHORT_OUTPUT,
+            CLOCK_TOO_LARGE,
+            BAD_NEIGHBOUR,
+            OLD_CLOCK,
+            FROM_ITSELF,
+        ],
+    ),
 ];
 
 /// How often breaks with no frame, with one and with several must have occurred.
@@ -66,7 +97,7 @@ fn fill(point: &mut Point, rows: usize, run: &mut Run) {
 fn report_break(point: &mut Point, clock: u64, run: &mut Run, seen: &mut Tally) {
     let neighbour = tables::some_neighbour(point.table(), &mut run.random);
     let outcome = point.report_break(clock, neighbour, run);
-    if outcome.answer == 0 {
+    if outcome.answer == ACCEPTED {
         seen.count(FRAMES, outcome.frames.min(SEVERAL));
     }
 }

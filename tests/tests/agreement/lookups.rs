@@ -1,5 +1,9 @@
 //! Fresh, forget and next hop.
 
+use hwmp_tests::answers::{
+    ACCEPTED, BAD_ADDRESS, CLOCK_TOO_LARGE, NO_NEXT_HOP, NOT_A_TABLE, NOT_HELD, OLD_CLOCK,
+    TABLE_LENGTH,
+};
 use hwmp_tests::comparing::{Listed, Point, Run};
 use hwmp_tests::random::Random;
 use hwmp_tests::reference::table::MAX_ROWS;
@@ -11,9 +15,23 @@ const TABLES_PER_LENGTH: usize = 950;
 /// The answers that each call can give, and how often each must have occurred.
 const LEAST: u64 = 5_000;
 const ANSWERS: [Listed; 3] = [
-    ("fresh", &[0, 1, 9]),
-    ("forget", &[0, 1, 9, 21, 29]),
-    ("next hop", &[0, 1, 3, 9, 21, 22, 28]),
+    ("fresh", &[ACCEPTED, TABLE_LENGTH, BAD_ADDRESS]),
+    (
+        "forget",
+        &[ACCEPTED, TABLE_LENGTH, BAD_ADDRESS, NOT_A_TABLE, NOT_HELD],
+    ),
+    (
+        "next hop",
+        &[
+            ACCEPTED,
+            TABLE_LENGTH,
+            CLOCK_TOO_LARGE,
+            BAD_ADDRESS,
+            NOT_A_TABLE,
+            OLD_CLOCK,
+            NO_NEXT_HOP,
+        ],
+    ),
 ];
 
 fn next_hop_or_forget(point: &mut Point, run: &mut Run) {

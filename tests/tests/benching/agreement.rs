@@ -1,5 +1,9 @@
 //! Random streams of every kind.
 
+use hwmp_tests::answers::{
+    ABOUT_ITSELF, ACCEPTED, BAD_ADDRESS, BAD_LIST, FROM_ITSELF, METRIC_TOO_LARGE, NO_LIFETIME,
+    NO_LINK, NO_MATCH, NO_ROUTE, STALE, TOO_LONG,
+};
 use hwmp_tests::comparing::{Listed, Tally};
 use hwmp_tests::random::Random;
 use hwmp_tests::reference::bench::{self, Done, Fault, Line};
@@ -16,14 +20,28 @@ const STREAMS: usize = 10_500;
 /// occurred.
 const LEAST_ANSWERED: u64 = 60;
 const ANSWERS: [Listed; 8] = [
-    ("point", &[0, 9]),
-    ("advance", &[0]),
-    ("link", &[0]),
-    ("ask", &[0, 9, 10, 11, 24]),
-    ("announce", &[0, 11]),
-    ("deliver", &[0, 5, 13, 23, 24, 25, 26]),
-    ("break", &[0, 23]),
-    ("walk", &[0, 10, 41, 42]),
+    ("point", &[ACCEPTED, BAD_ADDRESS]),
+    ("advance", &[ACCEPTED]),
+    ("link", &[ACCEPTED]),
+    (
+        "ask",
+        &[ACCEPTED, BAD_ADDRESS, BAD_LIST, NO_LIFETIME, ABOUT_ITSELF],
+    ),
+    ("announce", &[ACCEPTED, NO_LIFETIME]),
+    (
+        "deliver",
+        &[
+            ACCEPTED,
+            NO_LINK,
+            METRIC_TOO_LARGE,
+            FROM_ITSELF,
+            ABOUT_ITSELF,
+            STALE,
+            NO_MATCH,
+        ],
+    ),
+    ("break", &[ACCEPTED, FROM_ITSELF]),
+    ("walk", &[ACCEPTED, BAD_LIST, NO_ROUTE, TOO_LONG]),
 ];
 
 /// What a run ends on, by the command; all unknown ones count as 0.
@@ -81,11 +99,11 @@ impl Reached {
         self.answers.count(name, done.answer);
         let third = done.third as u32;
         match (name, done.answer) {
-            ("deliver", 0) => self.third.count(DELIVERED, third),
-            ("break", 0) => self.third.count(BROKEN, third),
-            ("walk", 0) => self.third.count(MET, third.min(12)),
-            ("walk", 41) => self.third.count(NO_WAY, third.min(6)),
-            ("walk", 42) => self.third.count(ROUND, third.max(4)),
+            ("deliver", ACCEPTED) => self.third.count(DELIVERED, third),
+            ("break", ACCEPTED) => self.third.count(BROKEN, third),
+            ("walk", ACCEPTED) => self.third.count(MET, third.min(12)),
+            ("walk", NO_ROUTE) => self.third.count(NO_WAY, third.min(6)),
+            ("walk", TOO_LONG) => self.third.count(ROUND, third.max(4)),
             _ => {}
         }
     }

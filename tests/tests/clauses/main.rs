@@ -8,6 +8,7 @@ mod table_octets;
 
 use std::collections::BTreeMap;
 
+use hwmp_tests::answers::{ACCEPTED, NO_MATCH, NO_NEXT_HOP, NO_ROUTE, NOT_A_TABLE, NOT_HELD};
 use hwmp_tests::implementation::{Implementation, LIBRARY, REFERENCE};
 use hwmp_tests::library::{Outcome, Walked};
 use hwmp_tests::reference::table::{Flaw, Table};
@@ -27,8 +28,8 @@ fn judge(octets: &[u8], breaks: Option<Flaw>, what: &str) {
     let flaw = Table::cut(octets).expect("a table's length").check().err();
     assert_eq!(flaw, breaks, "{what}: the case breaks another clause");
     let [forget, next_hop, walk] = match breaks {
-        Some(_) => [21, 21, 21],
-        None => [29, 28, 41],
+        Some(_) => [NOT_A_TABLE, NOT_A_TABLE, NOT_A_TABLE],
+        None => [NOT_HELD, NO_NEXT_HOP, NO_ROUTE],
     };
     for by in [&LIBRARY, &REFERENCE] {
         let mut lent = octets.to_vec();
@@ -54,19 +55,19 @@ fn judge(octets: &[u8], breaks: Option<Flaw>, what: &str) {
 fn judge_emitting(by: &Implementation, octets: &[u8], breaks: Option<Flaw>, what: &str) {
     type Call = fn(&Implementation, &mut [u8], &mut [u8]) -> Outcome;
     let calls: [(&str, u32, Call); 5] = [
-        ("ask", 0, |by, table, output| {
+        ("ask", ACCEPTED, |by, table, output| {
             (by.ask)(table, output, 1, &[[0].as_slice(), &ABSENT].concat())
         }),
-        ("announce", 0, |by, table, output| {
+        ("announce", ACCEPTED, |by, table, output| {
             (by.announce)(table, output, 1, 1)
         }),
-        ("root request", 0, |by, table, output| {
+        ("root request", ACCEPTED, |by, table, output| {
             (by.root_request)(table, output, 1, 1)
         }),
-        ("break", 0, |by, table, output| {
+        ("break", ACCEPTED, |by, table, output| {
             (by.report_break)(table, output, LAST_CLOCK, &ABSENT)
         }),
-        ("receive", 26, |by, table, output| {
+        ("receive", NO_MATCH, |by, table, output| {
             let error = [&[132, 12, 0, 1][..], &ABSENT, &[0; 4]].concat();
             (by.receive)(table, output, LAST_CLOCK, &ABSENT, 1, &error)
         }),
@@ -78,7 +79,7 @@ fn judge_emitting(by: &Implementation, octets: &[u8], breaks: Option<Flaw>, what
         if breaks.is_none() {
             assert_eq!(outcome.answer, answer, "{what}");
         } else {
-            assert_eq!(outcome.answer, 21, "{what}");
+            assert_eq!(outcome.answer, NOT_A_TABLE, "{what}");
             assert_eq!(lent, octets, "{what}: table changed");
             assert_eq!(output, [0xA5; 1560], "{what}: output changed");
         }

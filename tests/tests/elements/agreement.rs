@@ -3,6 +3,7 @@
 
 use std::collections::BTreeMap;
 
+use hwmp_tests::answers::{ACCEPTED, BAD_COUNT, ELEMENT_LENGTH, SHORT_OUTPUT, UNKNOWN_ID};
 use hwmp_tests::elements::{self, KINDS, Kind};
 use hwmp_tests::fence::{Fence, Side};
 use hwmp_tests::probe::{LIBRARY, Probe, REFERENCE};
@@ -37,10 +38,10 @@ fn sort_of(element: &[u8]) -> &'static str {
 /// Everything that can come of a call, and each legal number of entries.
 fn outcomes() -> Vec<(&'static str, &'static str, Vec<u32>)> {
     let mut outcomes = vec![
-        ("read", ANOTHER_ID, vec![6, 7]),
-        ("read", NO_OCTETS, vec![6]),
-        ("write", ANOTHER_ID, vec![6, 7]),
-        ("write", NO_OCTETS, vec![6]),
+        ("read", ANOTHER_ID, vec![ELEMENT_LENGTH, UNKNOWN_ID]),
+        ("read", NO_OCTETS, vec![ELEMENT_LENGTH]),
+        ("write", ANOTHER_ID, vec![ELEMENT_LENGTH, UNKNOWN_ID]),
+        ("write", NO_OCTETS, vec![ELEMENT_LENGTH]),
         ("faults", "RANN", vec![0]),
         ("faults", "RREQ", (0..16).collect()),
     ];
@@ -50,8 +51,12 @@ fn outcomes() -> Vec<(&'static str, &'static str, Vec<u32>)> {
         outcomes.push(("faults", name, (0..16).filter(with_individuals).collect()));
     }
     for kind in &KINDS {
-        outcomes.push(("read", kind.name, vec![0, 6, 8]));
-        outcomes.push(("write", kind.name, vec![0, 2, 6, 8]));
+        outcomes.push(("read", kind.name, vec![ACCEPTED, ELEMENT_LENGTH, BAD_COUNT]));
+        outcomes.push((
+            "write",
+            kind.name,
+            vec![ACCEPTED, SHORT_OUTPUT, ELEMENT_LENGTH, BAD_COUNT],
+        ));
         let counts = kind.counts().map(|count| count as u32);
         outcomes.push(("entries", kind.name, counts.collect()));
     }
@@ -85,7 +90,7 @@ fn compare_write(element: &[u8], random: &mut Random) -> u32 {
     };
     let what = || format!("write {element:?} to {to:?}, {room:?}, singly {singly}");
     let (answer, expected) = write(&REFERENCE, 0);
-    if answer == 0 {
+    if answer == ACCEPTED {
         let at = OUT_GUARD + room.at;
         let frame = [&to, element].concat();
         let by_hand = [&before[..at], &frame, &before[at + frame.len()..]].concat();
@@ -120,7 +125,7 @@ fn one_element(fence: &mut Fence, random: &mut Random, tally: &mut Tally) {
     count("read", answer);
     count("write", compare_write(lent, random));
     let faults = compare_faults(lent, random);
-    if answer == 0 {
+    if answer == ACCEPTED {
         let at = Kind::of(&element).and_then(Kind::count_at);
         count("entries", at.map_or(0, |at| element[at].into()));
         count("faults", faults);

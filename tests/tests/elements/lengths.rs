@@ -3,6 +3,7 @@
 
 use std::collections::BTreeMap;
 
+use hwmp_tests::answers::{ACCEPTED, BAD_COUNT, ELEMENT_LENGTH, UNKNOWN_ID};
 use hwmp_tests::fence::{Fence, Side};
 use hwmp_tests::probe::{LIBRARY, Probe, REFERENCE};
 use hwmp_tests::random::Random;
@@ -28,16 +29,16 @@ fn count_at(id: u8) -> Option<usize> {
 
 fn answer(id: u8, length: usize, after: usize, count: usize) -> u32 {
     if after != length {
-        return 6;
+        return ELEMENT_LENGTH;
     }
     let fits = match id {
         126 => length == 21,
         130 => (1..=20).contains(&count) && length == 26 + 11 * count,
         131 => count <= 22 && length == 32 + 10 * count,
         132 => (1..=25).contains(&count) && length == 2 + 10 * count,
-        _ => return 7,
+        _ => return UNKNOWN_ID,
     };
-    if fits { 0 } else { 8 }
+    if fits { ACCEPTED } else { BAD_COUNT }
 }
 
 /// The element and the output are each lent beside a fence.
@@ -83,10 +84,14 @@ impl Comparison {
             let out = self.out.lend(&before, side);
             let found = by.write(element, &TO, out, 0, singly);
             assert_eq!(found, expected, "write {}", what());
-            let written = if expected == 0 { &frame } else { &before };
+            let written = if expected == ACCEPTED {
+                &frame
+            } else {
+                &before
+            };
             assert_eq!(out, written, "write {}", what());
         }
-        if expected != 0 {
+        if expected != ACCEPTED {
             assert_eq!(numbers, [u64::MAX; MOST_NUMBERS], "read {}", what());
             assert_eq!(faults, 0, "faults of {}", what());
         }
@@ -111,7 +116,7 @@ fn each_length_fits_just_its_type_and_count() {
     }
     let answers = comparison.answers;
     println!("lengths and counts, by answer: {answers:?}");
-    assert_eq!(answers[&0], 1 + 20 + 23 + 25);
-    assert_eq!(answers[&7], 6 * 256);
+    assert_eq!(answers[&ACCEPTED], 1 + 20 + 23 + 25);
+    assert_eq!(answers[&UNKNOWN_ID], 6 * 256);
     assert_eq!(answers.len(), 4, "{answers:?}");
 }

@@ -1,6 +1,7 @@
 //! One small element of each type, octet by octet, with the numbers and the frame that
 //! 'Element octets' of document 01 gives it, asked of the library and the reference alike.
 
+use hwmp_tests::answers::ACCEPTED;
 use hwmp_tests::fence::{Fence, Side};
 use hwmp_tests::probe::Probe;
 
@@ -113,13 +114,13 @@ fn accepted(by: &Probe, element: &[u8], expected: &[u64]) {
     let name = by.name;
     let (answer, numbers) = read(by, element);
     let (found, beyond) = numbers.split_at(expected.len());
-    assert_eq!((answer, found), (0, expected), "{element:?}: {name}");
+    assert_eq!((answer, found), (ACCEPTED, expected), "{element:?}: {name}");
     let left_alone = beyond.iter().all(|&number| number == UNTOUCHED);
     assert!(left_alone, "{element:?}: numbers beyond by the {name}");
     for singly in [0, 1] {
         let mut out = vec![0xA5; 3 + 6 + element.len() + 3];
         let answer = by.write(element, &TO, &mut out, 3, singly);
-        assert_eq!(answer, 0, "write {element:?} by the {name}");
+        assert_eq!(answer, ACCEPTED, "write {element:?} by the {name}");
         let guard: &[u8] = &[0xA5; 3];
         let frame = [guard, &TO, element, guard].concat();
         assert_eq!(out, frame, "write {element:?} by the {name}");

@@ -1,5 +1,6 @@
 //! Asks. An item is flags and address, 7 octets.
 
+use hwmp_tests::answers::NO_LIFETIME;
 use hwmp_tests::implementation::Implementation;
 use hwmp_tests::library::Outcome;
 use hwmp_tests::worked::{Address, FREE, Row, STEPS, accepted, refused_with_room, rreq, table};
@@ -121,7 +122,7 @@ fn both_counters_step_and_the_frame_has_them_after_the_step() {
 fn a_lifetime_is_not_0() {
     let (before, after) = (table(5, 7, 5000, &rows()), table(6, 8, 5000, &rows()));
     let items = octets(&[(0, ABSENT)]);
-    refused_with_room("lifetime 0", &before, &ask(0, &items), 11);
+    refused_with_room("lifetime 0", &before, &ask(0, &items), NO_LIFETIME);
     for lifetime in [1, 0x100, 0x8000_0000, u32::MAX] {
         let frame = rreq(0, 8, 6, lifetime, &[(0, ABSENT, 0)]);
         let what = format!("lifetime {lifetime}");

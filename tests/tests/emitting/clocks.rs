@@ -1,5 +1,6 @@
 //! The clock that a break brings and stores, and the neighbours that it may name.
 
+use hwmp_tests::answers::{BAD_NEIGHBOUR, CLOCK_TOO_LARGE, FROM_ITSELF, OLD_CLOCK};
 use hwmp_tests::worked::{
     ALL_ONES, FREE, GROUP, LAST_CLOCK, OWN, Row, ZERO, accepted, refused_with_room, rerr, table,
 };
@@ -51,19 +52,19 @@ fn the_clock_is_stored() {
 fn clocks_and_neighbours_that_are_refused() {
     // Latest clock, clock and neighbour; answer.
     let edges = [
-        (1000, 999, BROKEN, 22),
-        (LAST_CLOCK, LAST_CLOCK - 1, BROKEN, 22),
-        (1 << 32, (1 << 32) - 1, BROKEN, 22),
-        (1 << 40, 1 << 39, BROKEN, 22),
-        ((1 << 32) + 1, 2, BROKEN, 22),
-        (0, LAST_CLOCK + 1, BROKEN, 3),
-        (0, 1 << 63, BROKEN, 3),
-        (0, u64::MAX, BROKEN, 3),
-        (0, 1000, GROUP, 4),
-        (0, 1000, ZERO, 4),
-        (0, 1000, ALL_ONES, 4),
-        (0, 1000, [1, 0, 0, 0, 0, 0], 4),
-        (0, 1000, OWN, 23),
+        (1000, 999, BROKEN, OLD_CLOCK),
+        (LAST_CLOCK, LAST_CLOCK - 1, BROKEN, OLD_CLOCK),
+        (1 << 32, (1 << 32) - 1, BROKEN, OLD_CLOCK),
+        (1 << 40, 1 << 39, BROKEN, OLD_CLOCK),
+        ((1 << 32) + 1, 2, BROKEN, OLD_CLOCK),
+        (0, LAST_CLOCK + 1, BROKEN, CLOCK_TOO_LARGE),
+        (0, 1 << 63, BROKEN, CLOCK_TOO_LARGE),
+        (0, u64::MAX, BROKEN, CLOCK_TOO_LARGE),
+        (0, 1000, GROUP, BAD_NEIGHBOUR),
+        (0, 1000, ZERO, BAD_NEIGHBOUR),
+        (0, 1000, ALL_ONES, BAD_NEIGHBOUR),
+        (0, 1000, [1, 0, 0, 0, 0, 0], BAD_NEIGHBOUR),
+        (0, 1000, OWN, FROM_ITSELF),
     ];
     for (latest, clock, neighbour, answer) in edges {
         let before = table(5, 7, latest, &[through(BROKEN, 1), FREE]);

@@ -1,5 +1,6 @@
 //! The items of an ask: how many there may be, and the faults of each and of all together.
 
+use hwmp_tests::answers::{ABOUT_ITSELF, BAD_ADDRESS, BAD_COUNT, BAD_LIST};
 use hwmp_tests::fence::{Fence, Side};
 use hwmp_tests::worked::{
     ALL_ONES, Address, GROUP, OWN, ZERO, accepted, refused_with_room, rreq, table,
@@ -55,7 +56,12 @@ fn one_to_twenty_whole_items_are_asked_for() {
         if lengths.contains(&length) {
             asked_with(&what, lent, &absent(length / 7));
         } else {
-            refused_with_room(&what, &table(5, 7, 5000, &rows()), &ask(1000, lent), 8);
+            refused_with_room(
+                &what,
+                &table(5, 7, 5000, &rows()),
+                &ask(1000, lent),
+                BAD_COUNT,
+            );
         }
     }
     println!(
@@ -74,7 +80,7 @@ fn item_flags_go_up_to_3() {
             if flags <= 3 {
                 asked(&what, &items);
             } else {
-                not_asked(&what, &items, 10);
+                not_asked(&what, &items, BAD_LIST);
             }
         }
     }
@@ -100,7 +106,11 @@ fn only_individual_addresses_are_asked_for() {
         for place in 0..count {
             for address in refused {
                 let what = format!("{address:?} in place {place} of {count}");
-                not_asked(&what, &with(&absent(count), place, (0, address)), 9);
+                not_asked(
+                    &what,
+                    &with(&absent(count), place, (0, address)),
+                    BAD_ADDRESS,
+                );
             }
             for address in inside {
                 let what = format!("{address:?} in place {place} of {count}");
@@ -120,7 +130,7 @@ fn a_destination_twice_is_refused_with_10() {
             let (_, address) = items[first];
             for flags in [items[first].0, items[second].0] {
                 let what = format!("places {first} and {second} alike");
-                not_asked(&what, &with(&items, second, (flags, address)), 10);
+                not_asked(&what, &with(&items, second, (flags, address)), BAD_LIST);
             }
         }
     }
@@ -138,7 +148,7 @@ fn the_own_address_is_refused_with_24() {
     for count in [1, 2, 20] {
         for place in 0..count {
             let what = format!("the own address in place {place} of {count}");
-            not_asked(&what, &with(&absent(count), place, (0, OWN)), 24);
+            not_asked(&what, &with(&absent(count), place, (0, OWN)), ABOUT_ITSELF);
             for octet in 0..6 {
                 let mut nearly = OWN;
                 nearly[octet] ^= 0x80;
@@ -154,12 +164,12 @@ fn the_own_address_is_refused_with_24() {
 #[test]
 fn several_grounds_give_the_lowest() {
     let lists: [(&[(u8, Address)], u32); 6] = [
-        (&[(0, GROUP), (0, GROUP)], 9),
-        (&[(4, A), (0, GROUP)], 9),
-        (&[(0, OWN), (0, GROUP)], 9),
-        (&[(0, A), (0, A), (0, ZERO)], 9),
-        (&[(0, OWN), (0, OWN)], 10),
-        (&[(0, OWN), (4, A)], 10),
+        (&[(0, GROUP), (0, GROUP)], BAD_ADDRESS),
+        (&[(4, A), (0, GROUP)], BAD_ADDRESS),
+        (&[(0, OWN), (0, GROUP)], BAD_ADDRESS),
+        (&[(0, A), (0, A), (0, ZERO)], BAD_ADDRESS),
+        (&[(0, OWN), (0, OWN)], BAD_LIST),
+        (&[(0, OWN), (4, A)], BAD_LIST),
     ];
     for (items, answer) in lists {
         not_asked(&format!("{items:?}"), items, answer);

@@ -1,5 +1,6 @@
 //! Announcements and root requests.
 
+use hwmp_tests::answers::{BAD_LIST, NO_LIFETIME};
 use hwmp_tests::implementation::Implementation;
 use hwmp_tests::library::Outcome;
 use hwmp_tests::worked::{
@@ -113,7 +114,7 @@ fn flags_of_an_announcement_are_0_or_1() {
         if [0, 1].contains(&flags) {
             accepted(&what, &before, &call, &after, &[rann(flags, 6, 1000)]);
         } else {
-            refused_with_room(&what, &before, &call, 10);
+            refused_with_room(&what, &before, &call, BAD_LIST);
         }
     }
     println!("announce: flags 0 and 1 accepted, 254 others refused with 10");
@@ -129,7 +130,7 @@ fn flags_of_a_root_request_are_0_1_4_or_5() {
             let frame = rreq(flags, 8, 6, 1000, &[EVERYONE]);
             accepted(&what, &before, &call, &after, &[frame]);
         } else {
-            refused_with_room(&what, &before, &call, 10);
+            refused_with_room(&what, &before, &call, BAD_LIST);
         }
     }
     println!("root request: flags 0, 1, 4 and 5 accepted, 252 others refused with 10");
@@ -138,8 +139,8 @@ fn flags_of_a_root_request_are_0_1_4_or_5() {
 #[test]
 fn a_lifetime_is_not_0() {
     let before = table(5, 7, 5000, &rows());
-    refused_with_room("lifetime 0", &before, &announce(1, 0), 11);
-    refused_with_room("lifetime 0", &before, &root_request(4, 0), 11);
+    refused_with_room("lifetime 0", &before, &announce(1, 0), NO_LIFETIME);
+    refused_with_room("lifetime 0", &before, &root_request(4, 0), NO_LIFETIME);
     for lifetime in [1, 0x100, 0x8000_0000, u32::MAX] {
         let what = format!("lifetime {lifetime}");
         let (call, frame) = (announce(1, lifetime), rann(1, 6, lifetime));

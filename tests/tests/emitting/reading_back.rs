@@ -1,6 +1,7 @@
 //! What the calls emit is read back, by the library's reader and by the reference's, as the
 //! fields that were to be written. An address is one number here, its first octet the lowest.
 
+use hwmp_tests::answers::ACCEPTED;
 use hwmp_tests::implementation::LIBRARY;
 use hwmp_tests::library::Outcome;
 use hwmp_tests::probe::{self, Probe};
@@ -22,7 +23,11 @@ const NO_NUMBER: u64 = u64::MAX;
 fn read(by: &Probe, element: &[u8]) -> Vec<u64> {
     let mut numbers = [NO_NUMBER; MOST_NUMBERS];
     let answer = by.read(element, &mut numbers);
-    assert_eq!(answer, 0, "{element:?} is refused by the {}", by.name);
+    assert_eq!(
+        answer, ACCEPTED,
+        "{element:?} is refused by the {}",
+        by.name
+    );
     let own = numbers.iter().take_while(|&&number| number != NO_NUMBER);
     own.copied().collect()
 }
@@ -100,7 +105,7 @@ impl Point {
         let items = tables::some_items(&self.octets, random);
         let mut output = [0; LEAST_OUTPUT];
         let outcome = (LIBRARY.ask)(&mut self.octets, &mut output, lifetime, &items);
-        if outcome.answer != 0 {
+        if outcome.answer != ACCEPTED {
             return 0;
         }
         let (items, _) = items.as_chunks::<7>();
@@ -117,7 +122,7 @@ impl Point {
         let (flags, lifetime) = (tables::some_flags(random), tables::some_lifetime(random));
         let mut output = [0; LEAST_OUTPUT];
         let outcome = (LIBRARY.announce)(&mut self.octets, &mut output, flags, lifetime);
-        if outcome.answer != 0 {
+        if outcome.answer != ACCEPTED {
             return 0;
         }
         let numbers = vec![
@@ -138,7 +143,7 @@ impl Point {
         let (flags, lifetime) = (tables::some_flags(random), tables::some_lifetime(random));
         let mut output = [0; LEAST_OUTPUT];
         let outcome = (LIBRARY.root_request)(&mut self.octets, &mut output, flags, lifetime);
-        if outcome.answer != 0 {
+        if outcome.answer != ACCEPTED {
             return 0;
         }
         let mut numbers = self.request(flags, lifetime, 1);
@@ -151,7 +156,7 @@ impl Point {
         let neighbour = tables::some_neighbour(&self.octets, random);
         let mut output = [0; LEAST_OUTPUT];
         let outcome = (LIBRARY.report_break)(&mut self.octets, &mut output, clock, &neighbour);
-        if outcome.answer != 0 {
+        if outcome.answer != ACCEPTED {
             return 0;
         }
         let lost: Vec<[u64; 2]> = self

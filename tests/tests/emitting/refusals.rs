@@ -1,5 +1,9 @@
 //! The order of the refusals, and the lengths of table and output, for all four calls.
 
+use hwmp_tests::answers::{
+    ABOUT_ITSELF, ACCEPTED, BAD_ADDRESS, BAD_COUNT, BAD_LIST, BAD_NEIGHBOUR, CLOCK_TOO_LARGE,
+    FROM_ITSELF, NO_LIFETIME, NOT_A_TABLE, OLD_CLOCK, SHORT_OUTPUT, TABLE_LENGTH,
+};
 use hwmp_tests::fence::{Fence, Side};
 use hwmp_tests::implementation::Implementation;
 use hwmp_tests::library::Outcome;
@@ -36,35 +40,43 @@ impl Faults {
     /// Fault 1 cuts off an octet, fault 21 sets the first zero octet of the head.
     fn table(&self) -> Vec<u8> {
         let mut octets = sample();
-        octets[6] = self.has(21).into();
-        octets.truncate(octets.len() - usize::from(self.has(1)));
+        octets[6] = self.has(NOT_A_TABLE).into();
+        octets.truncate(octets.len() - usize::from(self.has(TABLE_LENGTH)));
         octets
     }
 
     fn output(&self) -> Vec<u8> {
-        vec![0xA5; LEAST_OUTPUT - usize::from(self.has(2))]
+        vec![0xA5; LEAST_OUTPUT - usize::from(self.has(SHORT_OUTPUT))]
     }
 
     /// Three items; faults 9, 10 and 24 each spoil another one, fault 8 cuts off an octet.
     fn items(&self) -> Vec<u8> {
-        let first = if self.has(24) { OWN } else { DESTINATION };
-        let flags = if self.has(10) { 4 } else { 3 };
-        let last = if self.has(9) { GROUP } else { NEIGHBOUR };
+        let first = if self.has(ABOUT_ITSELF) {
+            OWN
+        } else {
+            DESTINATION
+        };
+        let flags = if self.has(BAD_LIST) { 4 } else { 3 };
+        let last = if self.has(BAD_ADDRESS) {
+            GROUP
+        } else {
+            NEIGHBOUR
+        };
         let mut items = [&[0][..], &first, &[flags], &[2, 0, 0, 0, 0, 3], &[1], &last].concat();
-        items.truncate(items.len() - usize::from(self.has(8)));
+        items.truncate(items.len() - usize::from(self.has(BAD_COUNT)));
         items
     }
 
     fn lifetime(&self) -> u32 {
-        if self.has(11) { 0 } else { 1000 }
+        if self.has(NO_LIFETIME) { 0 } else { 1000 }
     }
 
     fn flags(&self) -> u8 {
-        if self.has(10) { 2 } else { 1 }
+        if self.has(BAD_LIST) { 2 } else { 1 }
     }
 
     fn clock(&self) -> u64 {
-        match (self.has(3), self.has(22)) {
+        match (self.has(CLOCK_TOO_LARGE), self.has(OLD_CLOCK)) {
             (true, _) => LAST_CLOCK + 1,
             (_, true) => 999,
             _ => 1000,
@@ -72,7 +84,7 @@ impl Faults {
     }
 
     fn neighbour(&self) -> Address {
-        match (self.has(4), self.has(23)) {
+        match (self.has(BAD_NEIGHBOUR), self.has(FROM_ITSELF)) {
             (true, _) => GROUP,
             (_, true) => OWN,
             _ => NEIGHBOUR,
@@ -87,24 +99,53 @@ type FaultyCall = fn(&Faults, &Implementation, &mut [u8], &mut [u8]) -> Outcome;
 const CALLS: [(&str, &[u32], FaultyCall); 4] = [
     (
         "ask",
-        &[1, 2, 8, 9, 10, 11, 21, 24],
+        &[
+            TABLE_LENGTH,
+            SHORT_OUTPUT,
+            BAD_COUNT,
+            BAD_ADDRESS,
+            BAD_LIST,
+            NO_LIFETIME,
+            NOT_A_TABLE,
+            ABOUT_ITSELF,
+        ],
         |faults, by, table, output| (by.ask)(table, output, faults.lifetime(), &faults.items()),
     ),
     (
         "announce",
-        &[1, 2, 10, 11, 21],
+        &[
+            TABLE_LENGTH,
+            SHORT_OUTPUT,
+            BAD_LIST,
+            NO_LIFETIME,
+            NOT_A_TABLE,
+        ],
         |faults, by, table, output| (by.announce)(table, output, faults.flags(), faults.lifetime()),
     ),
     (
         "root request",
-        &[1, 2, 10, 11, 21],
+        &[
+            TABLE_LENGTH,
+            SHORT_OUTPUT,
+            BAD_LIST,
+            NO_LIFETIME,
+            NOT_A_TABLE,
+        ],
         |faults, by, table, output| {
             (by.root_request)(table, output, faults.flags(), faults.lifetime())
         },
     ),
     (
         "break",
-        &[1, 2, 3, 4, 21, 22, 23],
+        &[
+            TABLE_LENGTH,
+            SHORT_OUTPUT,
+            CLOCK_TOO_LARGE,
+            BAD_NEIGHBOUR,
+            NOT_A_TABLE,
+            OLD_CLOCK,
+            FROM_ITSELF,
+        ],
         |faults, by, table, output| {
             (by.report_break)(table, output, faults.clock(), &faults.neighbour())
         },
@@ -144,7 +185,7 @@ fn accepted_by_both(what: &str, call: Call) {
         let outcome = call(by, &mut sample(), &mut [0xA5; LEAST_OUTPUT]);
         assert_eq!(
             (outcome.answer, outcome.frames),
-            (0, 1),
+            (ACCEPTED, 1),
             "{what}: {}",
             by.name
         );
@@ -166,7 +207,11 @@ fn only_whole_tables_of_1_to_128_rows_have_a_length() {
     each_call(|name, call| {
         for length in 0..=most {
             // Zeros are no table, so a length that fits is refused with 21 instead.
-            let answer = if lengths.contains(&length) { 21 } else { 1 };
+            let answer = if lengths.contains(&length) {
+                NOT_A_TABLE
+            } else {
+                TABLE_LENGTH
+            };
             refused_with_room(
                 &format!("{name} on {length}"),
                 &vec![0; length],
@@ -190,7 +235,11 @@ fn an_output_has_at_least_1560_octets() {
             for length in (0..1570).chain([2000, 4096, 65536]) {
                 let output = fence.lend(&vec![0xA5; length], Side::After);
                 let outcome = call(by, &mut sample(), output);
-                let expected = if length < 1560 { 2 } else { 0 };
+                let expected = if length < 1560 {
+                    SHORT_OUTPUT
+                } else {
+                    ACCEPTED
+                };
                 assert_eq!(outcome.answer, expected, "{name} in {length}: {}", by.name);
                 let changed = output.iter().any(|&octet| octet != 0xA5);
                 assert_eq!(changed, length >= 1560, "{name} in {length}: {}", by.name);

@@ -1,5 +1,6 @@
 //! Refusals 9, 10 and 24: addresses that may not stand where they do.
 
+use hwmp_tests::answers::{ABOUT_ITSELF, BAD_ADDRESS, BAD_LIST};
 use hwmp_tests::worked::{ALL_ONES, Address, FREE, GROUP, OWN, Row, ZERO};
 
 use crate::cases::{A, B, C, END, PATH, Path, T, active, rann, refuses, rerr, rrep, rreq};
@@ -15,13 +16,13 @@ fn to(end: Address) -> Path {
 fn ends_and_sources_are_individual() {
     for bad in NOT_INDIVIDUAL {
         let what = format!("{bad:?}");
-        refuses(&what, &ROWS, &rann(0, to(bad)), 9);
-        refuses(&what, &ROWS, &rreq(0, to(bad), &[(0, A, 0)]), 9);
-        refuses(&what, &ROWS, &rrep(0, to(bad), A, &[]), 9);
-        refuses(&what, &ROWS, &rrep(0, PATH, bad, &[]), 9);
+        refuses(&what, &ROWS, &rann(0, to(bad)), BAD_ADDRESS);
+        refuses(&what, &ROWS, &rreq(0, to(bad), &[(0, A, 0)]), BAD_ADDRESS);
+        refuses(&what, &ROWS, &rrep(0, to(bad), A, &[]), BAD_ADDRESS);
+        refuses(&what, &ROWS, &rrep(0, PATH, bad, &[]), BAD_ADDRESS);
     }
     // Also where both are the same, which would be 10.
-    refuses("both", &ROWS, &rrep(0, to(GROUP), GROUP, &[]), 9);
+    refuses("both", &ROWS, &rrep(0, to(GROUP), GROUP, &[]), BAD_ADDRESS);
 }
 
 /// All ones may be the destination of a request, and of nothing else; in any place of a list.
@@ -32,12 +33,16 @@ fn destinations_are_individual() {
             let address = |at| if at == place { bad } else { listed(at) };
             let asked: Vec<_> = (0..20).map(|at| (0, address(at), 0)).collect();
             let named: Vec<_> = (0..25).map(|at| (address(at), 0)).collect();
-            let of_request = if bad == ALL_ONES { 10 } else { 9 };
+            let of_request = if bad == ALL_ONES {
+                BAD_LIST
+            } else {
+                BAD_ADDRESS
+            };
             let what = format!("{bad:?} in place {place}");
             refuses(&what, &ROWS, &rreq(0, PATH, &asked), of_request);
-            refuses(&what, &ROWS, &rerr(0, &named), 9);
+            refuses(&what, &ROWS, &rerr(0, &named), BAD_ADDRESS);
         }
-        refuses("alone", &ROWS, &rerr(0, &[(bad, 0)]), 9);
+        refuses("alone", &ROWS, &rerr(0, &[(bad, 0)]), BAD_ADDRESS);
     }
 }
 
@@ -57,14 +62,14 @@ fn no_destination_stands_twice() {
                 let asked: Vec<_> = (0..20)
                     .map(|at| (at as u8, address(at), at as u32))
                     .collect();
-                refuses(&what, &ROWS, &rreq(0, PATH, &asked), 10);
+                refuses(&what, &ROWS, &rreq(0, PATH, &asked), BAD_LIST);
             }
             let named: Vec<_> = (0..25).map(|at| (address(at), at as u32)).collect();
             let row = Row {
                 next_hop: T,
                 ..active(listed(earlier))
             };
-            refuses(&what, &[row], &rerr(0, &named), 10);
+            refuses(&what, &[row], &rerr(0, &named), BAD_LIST);
         }
     }
 }
@@ -88,20 +93,30 @@ fn lists_that_do_not_go_together() {
         ("unicast to all ones, all flags", 0xFF, &[everyone]),
     ];
     for (what, flags, asked) in cases {
-        refuses(what, &ROWS, &rreq(flags, PATH, asked), 10);
+        refuses(what, &ROWS, &rreq(flags, PATH, asked), BAD_LIST);
     }
-    refuses("a reply to its source", &ROWS, &rrep(0, PATH, END, &[]), 10);
+    refuses(
+        "a reply to its source",
+        &ROWS,
+        &rrep(0, PATH, END, &[]),
+        BAD_LIST,
+    );
     // A bad address comes first, wherever it stands.
     let asked = [(0, A, 0), (0, A, 0), (0, GROUP, 0)];
-    refuses("10 and 9", &ROWS, &rreq(2, PATH, &asked), 9);
+    refuses("10 and 9", &ROWS, &rreq(2, PATH, &asked), BAD_ADDRESS);
 }
 
 /// The own address as the end of a path; an error may name it, and a request ask for it.
 #[test]
 fn no_path_leads_to_the_point_itself() {
-    refuses("RANN", &ROWS, &rann(0, to(OWN)), 24);
-    refuses("RREQ", &ROWS, &rreq(0, to(OWN), &[(0, A, 0)]), 24);
-    refuses("RREP", &ROWS, &rrep(0, to(OWN), C, &[]), 24);
+    refuses("RANN", &ROWS, &rann(0, to(OWN)), ABOUT_ITSELF);
+    refuses("RREQ", &ROWS, &rreq(0, to(OWN), &[(0, A, 0)]), ABOUT_ITSELF);
+    refuses("RREP", &ROWS, &rrep(0, to(OWN), C, &[]), ABOUT_ITSELF);
     // Also on a full table, where 27 would be next.
-    refuses("full", &[active(A), active(B)], &rann(0, to(OWN)), 24);
+    refuses(
+        "full",
+        &[active(A), active(B)],
+        &rann(0, to(OWN)),
+        ABOUT_ITSELF,
+    );
 }

@@ -1,6 +1,11 @@
 //! Single calls on legal and damaged tables, with elements that suit them, damaged ones and
 //! random octets.
 
+use hwmp_tests::answers::{
+    ABOUT_ITSELF, ACCEPTED, BAD_ADDRESS, BAD_COUNT, BAD_LIST, BAD_NEIGHBOUR, CLOCK_TOO_LARGE,
+    ELEMENT_LENGTH, FROM_ITSELF, LOW_TTL, METRIC_TOO_LARGE, NO_LIFETIME, NO_LINK, NO_MATCH,
+    NO_ROOM, NOT_A_TABLE, OLD_CLOCK, SHORT_OUTPUT, STALE, TABLE_LENGTH, TOO_MANY_HOPS, UNKNOWN_ID,
+};
 use hwmp_tests::comparing::{Listed, Point, Run, Tally};
 use hwmp_tests::random::Random;
 use hwmp_tests::received;
@@ -15,11 +20,32 @@ const LEAST: u64 = 2_000;
 const ANSWERS: [Listed; 1] = [(
     "receive",
     &[
-        0, 1, 2, 3, 4, 5, 6, 7, 8, 9, 10, 11, 12, 13, 14, 21, 22, 23, 24, 25, 26, 27,
+        ACCEPTED,
+        TABLE_LENGTH,
+        SHORT_OUTPUT,
+        CLOCK_TOO_LARGE,
+        BAD_NEIGHBOUR,
+        NO_LINK,
+        ELEMENT_LENGTH,
+        UNKNOWN_ID,
+        BAD_COUNT,
+        BAD_ADDRESS,
+        BAD_LIST,
+        NO_LIFETIME,
+        TOO_MANY_HOPS,
+        METRIC_TOO_LARGE,
+        LOW_TTL,
+        NOT_A_TABLE,
+        OLD_CLOCK,
+        FROM_ITSELF,
+        ABOUT_ITSELF,
+        STALE,
+        NO_MATCH,
+        NO_ROOM,
     ],
 )];
-const SEEN: [Listed; 1] = [(ACCEPTED, &[126, 130, 131, 132])];
-const ACCEPTED: &str = "accepted by ID";
+const SEEN: [Listed; 1] = [(ACCEPTED_BY_ID, &[126, 130, 131, 132])];
+const ACCEPTED_BY_ID: &str = "accepted by ID";
 
 fn some_table(random: &mut Random) -> Vec<u8> {
     let most = random.pick(&[4, 16, 40, MAX_ROWS]);
@@ -47,8 +73,8 @@ fn library_and_reference_agree() {
             } else {
                 received::faulty(point.table(), random)
             };
-            if point.receive(&received, run).answer == 0 {
-                seen.count(ACCEPTED, received.element[0].into());
+            if point.receive(&received, run).answer == ACCEPTED {
+                seen.count(ACCEPTED_BY_ID, received.element[0].into());
             }
         }
     }

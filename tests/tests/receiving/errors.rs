@@ -1,5 +1,6 @@
 //! Errors that are received.
 
+use hwmp_tests::answers::{NO_LINK, NO_MATCH};
 use hwmp_tests::worked::{ALL_ONES, Address, FREE, OWN, Row, accepted, refused_with_room, table};
 
 use crate::cases::{
@@ -96,13 +97,23 @@ fn not_concerned() -> [(&'static str, Row); 5] {
 #[test]
 fn without_a_match_it_is_refused_with_26() {
     for (what, row) in not_concerned() {
-        refuses(what, &[row], &rerr(0, &[(A, 10)]), 26);
-        refuses(what, &[row], &rerr(0, &[(A, 10), (C, 10)]), 26);
+        refuses(what, &[row], &rerr(0, &[(A, 10)]), NO_MATCH);
+        refuses(what, &[row], &rerr(0, &[(A, 10), (C, 10)]), NO_MATCH);
     }
-    refuses("no row", &[FREE], &rerr(0, &[(A, 10)]), 26);
-    refuses("the own address", &[through(B)], &rerr(0, &[(OWN, 10)]), 26);
+    refuses("no row", &[FREE], &rerr(0, &[(A, 10)]), NO_MATCH);
+    refuses(
+        "the own address",
+        &[through(B)],
+        &rerr(0, &[(OWN, 10)]),
+        NO_MATCH,
+    );
     // The transmitter's row as it is made.
-    refuses("unknown neighbour", &[NEIGHBOUR], &rerr(0, &[(T, 10)]), 26);
+    refuses(
+        "unknown neighbour",
+        &[NEIGHBOUR],
+        &rerr(0, &[(T, 10)]),
+        NO_MATCH,
+    );
 }
 
 /// Only the matches go on and change, in the order of the error and not of the table.
@@ -187,5 +198,5 @@ fn the_link_of_an_error() {
         let call = receive(CLOCK, T, link, &element);
         accepted(&format!("link {link}"), &before, &call, &after, &frames);
     }
-    refused_with_room("link 0", &before, &receive(CLOCK, T, 0, &element), 5);
+    refused_with_room("link 0", &before, &receive(CLOCK, T, 0, &element), NO_LINK);
 }

@@ -1,5 +1,6 @@
 //! Refusal 27: just if more new rows are needed than rows are free, wherever these lie.
 
+use hwmp_tests::answers::NO_ROOM;
 use hwmp_tests::worked::{Address, FREE, Row};
 
 use crate::cases::{
@@ -76,7 +77,7 @@ fn try_with(count: usize, free: &[usize]) -> [usize; 2] {
             };
             let what = format!("{held:?} held of {count}, free {free:?}");
             if needed > free.len() {
-                refuses(&what, &before, &rann(0, PATH), 27);
+                refuses(&what, &before, &rann(0, PATH), NO_ROOM);
                 outcomes[1] += 1;
             } else {
                 let mut after = before.clone();

@@ -1,6 +1,7 @@
 //! Elements of every kind on legal tables: requests whose destinations have rows of all sorts,
 //! replies with any number of dependents, errors with any number of matches.
 
+use hwmp_tests::answers::ACCEPTED;
 use hwmp_tests::comparing::{Listed, Point, Run, Tally, frames};
 use hwmp_tests::random::Random;
 use hwmp_tests::received::{self, Received};
@@ -233,7 +234,7 @@ fn library_and_reference_agree() {
         for _ in 0..CALLS_PER_TABLE {
             now_and_then_lose(&mut point, run);
             let received = received::suited(point.table(), &mut run.random);
-            if point.receive(&received, run).answer == 0 {
+            if point.receive(&received, run).answer == ACCEPTED {
                 let [before, after] = [point.before(), point.table()]
                     .map(|octets| Table::cut(octets).expect("it was accepted"));
                 assert_eq!(after.check(), Ok(()), "no table is left by {received:?}");

@@ -1,6 +1,7 @@
 //! Steps 1 and 2 of 'Receiving RREQ, RREP, RANN', and refusals 25 and 27, which are about the
 //! same rows.
 
+use hwmp_tests::answers::{NO_ROOM, STALE};
 use hwmp_tests::worked::{FREE, LAST_CLOCK, Row, accepted, refused_with_room, table};
 
 use crate::cases::{
@@ -273,7 +274,7 @@ fn numbers_are_compared_round_zero_and_then_metrics() {
                 if fresh {
                     accepts(&what, &[row, FREE], &element, &[after, NEIGHBOUR], &[]);
                 } else {
-                    refuses(&what, &[row, FREE], &element, 25);
+                    refuses(&what, &[row, FREE], &element, STALE);
                 }
             }
         }
@@ -297,7 +298,7 @@ fn any_number_is_accepted_where_none_is_known() {
 #[test]
 fn p5_link_15_is_refused_and_link_14_gives_39() {
     let (before, element) = (table(5, 7, 1000, &[active(END), FREE]), rann(0, PATH));
-    refused_with_room("link 15", &before, &receive(CLOCK, T, 15, &element), 25);
+    refused_with_room("link 15", &before, &receive(CLOCK, T, 15, &element), STALE);
     learns("link 14", PATH, &[active(END), FREE], &[LEARNT, NEIGHBOUR]);
 }
 
@@ -307,7 +308,12 @@ fn p8_free_rows_are_taken_in_order() {
     let (a, b, c) = (active(A), active(B), active(C));
     let after = [a, LEARNT, b, NEIGHBOUR];
     learns("rows 0 and 2 held", PATH, &[a, FREE, b, FREE], &after);
-    refuses("rows 0, 1, 2 held", &[a, b, c, FREE], &rann(0, PATH), 27);
+    refuses(
+        "rows 0, 1, 2 held",
+        &[a, b, c, FREE],
+        &rann(0, PATH),
+        NO_ROOM,
+    );
 }
 
 /// The source of a reply, its number and the dependents are used for no row.

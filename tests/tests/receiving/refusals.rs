@@ -1,5 +1,10 @@
 //! The order of the refusals, and the lengths of table, output and element.
 
+use hwmp_tests::answers::{
+    ABOUT_ITSELF, ACCEPTED, BAD_ADDRESS, BAD_COUNT, BAD_LIST, BAD_NEIGHBOUR, CLOCK_TOO_LARGE,
+    ELEMENT_LENGTH, FROM_ITSELF, LOW_TTL, METRIC_TOO_LARGE, NO_LIFETIME, NO_LINK, NO_MATCH,
+    NO_ROOM, NOT_A_TABLE, OLD_CLOCK, SHORT_OUTPUT, STALE, TABLE_LENGTH, TOO_MANY_HOPS, UNKNOWN_ID,
+};
 use hwmp_tests::fence::{Fence, Side};
 use hwmp_tests::worked::{
     BOTH, FREE, GROUP, LAST_CLOCK, LEAST_OUTPUT, OWN, Row, ZERO, refused, refused_with_room, table,
@@ -32,62 +37,70 @@ impl Faults {
             next_hop: T,
             ..active(A)
         };
-        let last = self.or(27, active(C), FREE);
+        let last = self.or(NO_ROOM, active(C), FREE);
         let mut octets = table(5, 7, 1000, &[end, hit, active(B), last]);
-        octets[6] = self.has(21).into();
-        octets.truncate(octets.len() - usize::from(self.has(1)));
+        octets[6] = self.has(NOT_A_TABLE).into();
+        octets.truncate(octets.len() - usize::from(self.has(TABLE_LENGTH)));
         octets
     }
 
     fn output(&self) -> Vec<u8> {
-        vec![0xA5; LEAST_OUTPUT - usize::from(self.has(2))]
+        vec![0xA5; LEAST_OUTPUT - usize::from(self.has(SHORT_OUTPUT))]
     }
 
     fn clock(&self) -> u64 {
-        self.or(3, LAST_CLOCK + 1, self.or(22, 999, CLOCK))
+        self.or(
+            CLOCK_TOO_LARGE,
+            LAST_CLOCK + 1,
+            self.or(OLD_CLOCK, 999, CLOCK),
+        )
     }
 
     fn transmitter(&self) -> [u8; 6] {
-        self.or(4, GROUP, self.or(23, OWN, T))
+        self.or(BAD_NEIGHBOUR, GROUP, self.or(FROM_ITSELF, OWN, T))
     }
 
     fn link_metric(&self) -> u32 {
-        self.or(5, 0, LINK)
+        self.or(NO_LINK, 0, LINK)
     }
 
     fn path(&self) -> Path {
         Path {
-            hop_count: self.or(12, 255, PATH.hop_count),
-            ttl: self.or(14, 1, PATH.ttl),
-            end: self.or(24, OWN, END),
-            number: self.or(25, 7, 9),
-            lifetime: self.or(11, 0, PATH.lifetime),
-            metric: self.or(13, 0xFFFF_FFFF, PATH.metric),
+            hop_count: self.or(TOO_MANY_HOPS, 255, PATH.hop_count),
+            ttl: self.or(LOW_TTL, 1, PATH.ttl),
+            end: self.or(ABOUT_ITSELF, OWN, END),
+            number: self.or(STALE, 7, 9),
+            lifetime: self.or(NO_LIFETIME, 0, PATH.lifetime),
+            metric: self.or(METRIC_TOO_LARGE, 0xFFFF_FFFF, PATH.metric),
         }
     }
 
     /// A RANN has one address, and the others need theirs for other faults.
     fn rann(&self) -> Vec<u8> {
         let path = self.path();
-        let end = self.or(9, GROUP, path.end);
+        let end = self.or(BAD_ADDRESS, GROUP, path.end);
         rann(0, Path { end, ..path })
     }
 
     fn rreq(&self) -> Vec<u8> {
-        let second = self.or(9, GROUP, C);
-        rreq(self.or(10, 2, 0), self.path(), &[(0, A, 0), (0, second, 0)])
+        let second = self.or(BAD_ADDRESS, GROUP, C);
+        rreq(
+            self.or(BAD_LIST, 2, 0),
+            self.path(),
+            &[(0, A, 0), (0, second, 0)],
+        )
     }
 
     fn rrep(&self) -> Vec<u8> {
         let path = self.path();
-        let source = self.or(9, GROUP, self.or(10, path.end, C));
+        let source = self.or(BAD_ADDRESS, GROUP, self.or(BAD_LIST, path.end, C));
         rrep(0, path, source, &[(A, 1)])
     }
 
     fn rerr(&self) -> Vec<u8> {
-        let hit = self.or(26, B, A);
-        let third = self.or(10, hit, ZERO);
-        let mut named = vec![(hit, 10), (self.or(9, GROUP, C), 10)];
+        let hit = self.or(NO_MATCH, B, A);
+        let third = self.or(BAD_LIST, hit, ZERO);
+        let mut named = vec![(hit, 10), (self.or(BAD_ADDRESS, GROUP, C), 10)];
         if third != ZERO {
             named.push((third, 10));
         }
@@ -96,14 +109,14 @@ impl Faults {
 
     /// Fault 8 takes an octet off, with a Length that counts the rest; fault 6 adds one.
     fn spoilt(&self, mut element: Vec<u8>) -> Vec<u8> {
-        if self.has(8) {
+        if self.has(BAD_COUNT) {
             element.pop();
             element[1] -= 1;
         }
-        if self.has(7) {
+        if self.has(UNKNOWN_ID) {
             element[0] = 99;
         }
-        if self.has(6) {
+        if self.has(ELEMENT_LENGTH) {
             element.push(0);
         }
         element
@@ -116,27 +129,96 @@ const TYPES: [Type; 4] = [
     (
         "RANN",
         &[
-            1, 2, 3, 4, 5, 6, 7, 8, 9, 11, 12, 13, 21, 22, 23, 24, 25, 27,
+            TABLE_LENGTH,
+            SHORT_OUTPUT,
+            CLOCK_TOO_LARGE,
+            BAD_NEIGHBOUR,
+            NO_LINK,
+            ELEMENT_LENGTH,
+            UNKNOWN_ID,
+            BAD_COUNT,
+            BAD_ADDRESS,
+            NO_LIFETIME,
+            TOO_MANY_HOPS,
+            METRIC_TOO_LARGE,
+            NOT_A_TABLE,
+            OLD_CLOCK,
+            FROM_ITSELF,
+            ABOUT_ITSELF,
+            STALE,
+            NO_ROOM,
         ],
         Faults::rann,
     ),
     (
         "RREQ",
         &[
-            1, 2, 3, 4, 5, 6, 7, 8, 9, 10, 11, 12, 13, 21, 22, 23, 24, 25, 27,
+            TABLE_LENGTH,
+            SHORT_OUTPUT,
+            CLOCK_TOO_LARGE,
+            BAD_NEIGHBOUR,
+            NO_LINK,
+            ELEMENT_LENGTH,
+            UNKNOWN_ID,
+            BAD_COUNT,
+            BAD_ADDRESS,
+            BAD_LIST,
+            NO_LIFETIME,
+            TOO_MANY_HOPS,
+            METRIC_TOO_LARGE,
+            NOT_A_TABLE,
+            OLD_CLOCK,
+            FROM_ITSELF,
+            ABOUT_ITSELF,
+            STALE,
+            NO_ROOM,
         ],
         Faults::rreq,
     ),
     (
         "RREP",
         &[
-            1, 2, 3, 4, 5, 6, 7, 8, 9, 10, 11, 12, 13, 14, 21, 22, 23, 24, 25, 27,
+            TABLE_LENGTH,
+            SHORT_OUTPUT,
+            CLOCK_TOO_LARGE,
+            BAD_NEIGHBOUR,
+            NO_LINK,
+            ELEMENT_LENGTH,
+            UNKNOWN_ID,
+            BAD_COUNT,
+            BAD_ADDRESS,
+            BAD_LIST,
+            NO_LIFETIME,
+            TOO_MANY_HOPS,
+            METRIC_TOO_LARGE,
+            LOW_TTL,
+            NOT_A_TABLE,
+            OLD_CLOCK,
+            FROM_ITSELF,
+            ABOUT_ITSELF,
+            STALE,
+            NO_ROOM,
         ],
         Faults::rrep,
     ),
     (
         "RERR",
-        &[1, 2, 3, 4, 5, 6, 7, 8, 9, 10, 21, 22, 23, 26],
+        &[
+            TABLE_LENGTH,
+            SHORT_OUTPUT,
+            CLOCK_TOO_LARGE,
+            BAD_NEIGHBOUR,
+            NO_LINK,
+            ELEMENT_LENGTH,
+            UNKNOWN_ID,
+            BAD_COUNT,
+            BAD_ADDRESS,
+            BAD_LIST,
+            NOT_A_TABLE,
+            OLD_CLOCK,
+            FROM_ITSELF,
+            NO_MATCH,
+        ],
         Faults::rerr,
     ),
 ];
@@ -174,7 +256,7 @@ fn each_type_gives_the_lowest_refusal() {
                 None => {
                     for by in BOTH {
                         let outcome = call(by, &mut table.clone(), &mut output.clone());
-                        assert_eq!(outcome.answer, 0, "{what}: {}", by.name);
+                        assert_eq!(outcome.answer, ACCEPTED, "{what}: {}", by.name);
                     }
                 }
             }
@@ -189,7 +271,11 @@ fn only_whole_tables_of_1_to_128_rows_have_a_length() {
     let element = rann(0, PATH);
     for length in 0..=32 + 32 * 131 {
         // Zeros are no table, so a length that fits is refused with 21 instead.
-        let answer = if lengths.contains(&length) { 21 } else { 1 };
+        let answer = if lengths.contains(&length) {
+            NOT_A_TABLE
+        } else {
+            TABLE_LENGTH
+        };
         let call = receive(CLOCK, T, LINK, &element);
         refused_with_room(&format!("length {length}"), &vec![0; length], &call, answer);
     }
@@ -207,7 +293,11 @@ fn an_output_has_at_least_1560_octets() {
                 let output = fence.lend(&vec![0xA5; length], Side::After);
                 let table = &mut table(5, 7, 1000, &[FREE; 2]);
                 let outcome = receive(CLOCK, T, LINK, &element)(by, table, output);
-                let expected = if length < 1560 { 2 } else { 0 };
+                let expected = if length < 1560 {
+                    SHORT_OUTPUT
+                } else {
+                    ACCEPTED
+                };
                 assert_eq!(outcome.answer, expected, "in {length}: {}", by.name);
                 let changed = output.iter().any(|&octet| octet != 0xA5);
                 assert_eq!(changed, outcome.frames > 0, "in {length}: {}", by.name);
@@ -231,10 +321,10 @@ fn elements_that_are_cut_short() {
         let whole = element(&Faults(vec![]));
         for length in 0..whole.len() {
             let mut cut = whole[..length].to_vec();
-            refuse(name, &cut, 6);
+            refuse(name, &cut, ELEMENT_LENGTH);
             if length >= 2 {
                 cut[1] = length as u8 - 2;
-                refuse(name, &cut, 8);
+                refuse(name, &cut, BAD_COUNT);
             }
         }
     }
@@ -255,21 +345,26 @@ fn counts_of_entries() {
             (
                 rreq(0, PATH, &asked),
                 1..=20,
-                0,
+                ACCEPTED,
                 26 + 11 * usize::from(count),
             ),
             (
                 rrep(0, PATH, C, &named),
                 0..=22,
-                0,
+                ACCEPTED,
                 32 + 10 * usize::from(count),
             ),
-            (rerr(0, &named), 1..=25, 26, 2 + 10 * usize::from(count)),
+            (
+                rerr(0, &named),
+                1..=25,
+                NO_MATCH,
+                2 + 10 * usize::from(count),
+            ),
         ];
         for (element, fitting, answer, length) in elements {
             let answer = match (length > 255, fitting.contains(&count)) {
-                (true, _) => 6,
-                (false, false) => 8,
+                (true, _) => ELEMENT_LENGTH,
+                (false, false) => BAD_COUNT,
                 (false, true) => answer,
             };
             for by in BOTH {
@@ -292,14 +387,14 @@ fn clocks_and_transmitters() {
         let call = receive(clock, transmitter, LINK, &element);
         refused_with_room(what, before, &call, answer);
     };
-    refuse("clock 2^48", &before, LAST_CLOCK + 1, T, 3);
-    refuse("clock 2^63", &before, 1 << 63, T, 3);
-    refuse("clock 2^64 - 1", &before, u64::MAX, T, 3);
-    refuse("clock one behind", &before, 999, T, 22);
-    refuse("clock 0", &before, 0, T, 22);
-    refuse("clock behind the last", &late, LAST_CLOCK - 1, T, 22);
-    refuse("group", &before, CLOCK, GROUP, 4);
-    refuse("all ones", &before, CLOCK, [0xFF; 6], 4);
-    refuse("zero", &before, CLOCK, ZERO, 4);
-    refuse("own", &before, CLOCK, OWN, 23);
+    refuse("clock 2^48", &before, LAST_CLOCK + 1, T, CLOCK_TOO_LARGE);
+    refuse("clock 2^63", &before, 1 << 63, T, CLOCK_TOO_LARGE);
+    refuse("clock 2^64 - 1", &before, u64::MAX, T, CLOCK_TOO_LARGE);
+    refuse("clock one behind", &before, 999, T, OLD_CLOCK);
+    refuse("clock 0", &before, 0, T, OLD_CLOCK);
+    refuse("clock behind the last", &late, LAST_CLOCK - 1, T, OLD_CLOCK);
+    refuse("group", &before, CLOCK, GROUP, BAD_NEIGHBOUR);
+    refuse("all ones", &before, CLOCK, [0xFF; 6], BAD_NEIGHBOUR);
+    refuse("zero", &before, CLOCK, ZERO, BAD_NEIGHBOUR);
+    refuse("own", &before, CLOCK, OWN, FROM_ITSELF);
 }

@@ -1,5 +1,6 @@
 //! Replies and announcements that go on.
 
+use hwmp_tests::answers::{LOW_TTL, METRIC_TOO_LARGE, STALE, TOO_MANY_HOPS};
 use hwmp_tests::worked::{ALL_ONES, Address, FREE, OWN, Row};
 
 use crate::cases::{
@@ -70,7 +71,7 @@ fn hops_left() {
     for ttl in [0, 1] {
         let path = Path { ttl, ..PATH };
         for source in [C, OWN] {
-            refuses("reply", &before, &rrep(0, path, source, &[]), 14);
+            refuses("reply", &before, &rrep(0, path, source, &[]), LOW_TTL);
         }
         accepts("announcement", &before, &rann(0, path), &after, &[]);
     }
@@ -97,8 +98,8 @@ fn a_reply_with_an_equal_number_must_be_better() {
         ..active(END)
     };
     let element = rrep(0, PATH, OWN, &[]);
-    refuses("worse", &[held(38), FREE], &element, 25);
-    refuses("equal", &[held(39), FREE], &element, 25);
+    refuses("worse", &[held(38), FREE], &element, STALE);
+    refuses("equal", &[held(39), FREE], &element, STALE);
     accepts(
         "better",
         &[held(40), FREE],
@@ -107,7 +108,7 @@ fn a_reply_with_an_equal_number_must_be_better() {
         &[],
     );
     let inactive = invalidated(held(38));
-    refuses("worse, inactive", &[inactive, FREE], &element, 25);
+    refuses("worse, inactive", &[inactive, FREE], &element, STALE);
 }
 
 /// The largest hop count and metric that can be received, and what comes of them.
@@ -138,15 +139,25 @@ fn the_largest_path() {
         hop_count: 255,
         ..path
     };
-    refuses("a hop more", &before, &rann(0, farther), 12);
+    refuses("a hop more", &before, &rann(0, farther), TOO_MANY_HOPS);
     let worse = Path {
         metric: path.metric + 1,
         ..path
     };
-    refuses("metric one more", &before, &rann(0, worse), 13);
+    refuses(
+        "metric one more",
+        &before,
+        &rann(0, worse),
+        METRIC_TOO_LARGE,
+    );
     let largest = Path {
         metric: 0xFFFF_FFFF,
         ..path
     };
-    refuses("the sum goes round", &before, &rann(0, largest), 13);
+    refuses(
+        "the sum goes round",
+        &before,
+        &rann(0, largest),
+        METRIC_TOO_LARGE,
+    );
 }

@@ -1,7 +1,11 @@
 //! Many meshes, one after another.
 
+use hwmp_tests::answers::{
+    ABOUT_ITSELF, ACCEPTED, BAD_LIST, BAD_NEIGHBOUR, FROM_ITSELF, METRIC_TOO_LARGE, NO_MATCH,
+    NO_ROOM, OLD_CLOCK, SHORT_OUTPUT, STALE,
+};
 use hwmp_tests::comparing::{Listed, Run, Tally};
-use hwmp_tests::mesh::{ACCEPTED, LOOPS, WALKS};
+use hwmp_tests::mesh::{ACCEPTED_BY_ID, LOOPS, WALKS};
 
 use crate::mesh::RandomMesh;
 
@@ -11,18 +15,40 @@ const DELIVERIES: u64 = 6_000_000;
 /// What the calls of a mesh can answer, and how often each must have occurred.
 const LEAST_ANSWERED: u64 = 300;
 const ANSWERS: [Listed; 6] = [
-    ("fresh", &[0]),
-    ("ask", &[0, 2, 10, 24]),
-    ("announce", &[0, 2]),
-    ("root request", &[0, 2]),
-    ("break", &[0, 2, 4, 22, 23]),
-    ("receive", &[0, 2, 13, 22, 23, 24, 25, 26, 27]),
+    ("fresh", &[ACCEPTED]),
+    ("ask", &[ACCEPTED, SHORT_OUTPUT, BAD_LIST, ABOUT_ITSELF]),
+    ("announce", &[ACCEPTED, SHORT_OUTPUT]),
+    ("root request", &[ACCEPTED, SHORT_OUTPUT]),
+    (
+        "break",
+        &[
+            ACCEPTED,
+            SHORT_OUTPUT,
+            BAD_NEIGHBOUR,
+            OLD_CLOCK,
+            FROM_ITSELF,
+        ],
+    ),
+    (
+        "receive",
+        &[
+            ACCEPTED,
+            SHORT_OUTPUT,
+            METRIC_TOO_LARGE,
+            OLD_CLOCK,
+            FROM_ITSELF,
+            ABOUT_ITSELF,
+            STALE,
+            NO_MATCH,
+            NO_ROOM,
+        ],
+    ),
 ];
 
 /// Loops that are met outside the premise show that a walk can fail.
 const LEAST_SEEN: u64 = 100;
 const SEEN: [Listed; 3] = [
-    (ACCEPTED, &[126, 130, 131, 132]),
+    (ACCEPTED_BY_ID, &[126, 130, 131, 132]),
     (WALKS, &[0, 1]),
     (LOOPS, &[0]),
 ];

@@ -1,5 +1,6 @@
 //! Points that are made to call and to hear each other, step by step.
 
+use hwmp_tests::answers::ACCEPTED;
 use hwmp_tests::comparing::frames;
 use hwmp_tests::implementation::Implementation;
 use hwmp_tests::library::Outcome;
@@ -25,7 +26,7 @@ impl Script<'_> {
     pub fn fresh<'a>(by: &'a Implementation, numbers: &[u32]) -> Script<'a> {
         let table = |(point, number): (usize, &u32)| {
             let mut table = vec![0; 32 + 32 * 16];
-            assert_eq!((by.fresh)(&mut table, &address(point), *number), 0);
+            assert_eq!((by.fresh)(&mut table, &address(point), *number), ACCEPTED);
             table
         };
         Script {
@@ -57,7 +58,7 @@ impl Script<'_> {
         let answer = self.call(point, |by, table, output| {
             (by.announce)(table, output, 0, LIFETIME)
         });
-        assert_eq!(answer, 0);
+        assert_eq!(answer, ACCEPTED);
     }
 
     /// With a reply wanted.
@@ -65,7 +66,7 @@ impl Script<'_> {
         let answer = self.call(point, |by, table, output| {
             (by.root_request)(table, output, 4, LIFETIME)
         });
-        assert_eq!(answer, 0);
+        assert_eq!(answer, ACCEPTED);
     }
 
     pub fn ask(&mut self, point: usize, flags: u8, destination: usize, lifetime: u32) {
@@ -73,14 +74,14 @@ impl Script<'_> {
         let answer = self.call(point, |by, table, output| {
             (by.ask)(table, output, lifetime, &item)
         });
-        assert_eq!(answer, 0);
+        assert_eq!(answer, ACCEPTED);
     }
 
     pub fn report_break(&mut self, point: usize, neighbour: usize) {
         let answer = self.call(point, |by, table, output| {
             (by.report_break)(table, output, 0, &address(neighbour))
         });
-        assert_eq!(answer, 0);
+        assert_eq!(answer, ACCEPTED);
     }
 
     /// The answer to a frame, by its number, that a point hears over a link of that metric.

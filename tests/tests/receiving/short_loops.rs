@@ -1,6 +1,7 @@
 //! Lists of calls that would leave two points leading to each other if one rule were another.
 //! Each ends with the delivery that a point must refuse. The destination is point 3.
 
+use hwmp_tests::answers::{ACCEPTED, NO_NEXT_HOP, STALE};
 use hwmp_tests::worked::{BOTH, address};
 
 use crate::script::Script;
@@ -23,9 +24,9 @@ fn by_both(run: impl Fn(&mut Script)) {
 fn an_expired_row_does_not_take_an_equal_number() {
     by_both(|points| {
         points.ask(D, 0, E, 1);
-        assert_eq!(points.deliver_at(9, 0, A, 6), 0);
-        assert_eq!(points.deliver_at(1, 1, B, 8), 0);
-        assert_eq!(points.deliver_at(11, 2, A, 5), 25);
+        assert_eq!(points.deliver_at(9, 0, A, 6), ACCEPTED);
+        assert_eq!(points.deliver_at(1, 1, B, 8), ACCEPTED);
+        assert_eq!(points.deliver_at(11, 2, A, 5), STALE);
     });
 }
 
@@ -34,12 +35,12 @@ fn an_expired_row_does_not_take_an_equal_number() {
 fn a_broken_row_is_remembered() {
     by_both(|points| {
         points.announce(D);
-        assert_eq!(points.deliver(0, A, 5), 0);
-        assert_eq!(points.deliver(1, B, 5), 0);
+        assert_eq!(points.deliver(0, A, 5), ACCEPTED);
+        assert_eq!(points.deliver(1, B, 5), ACCEPTED);
         points.report_break(A, D);
-        assert_eq!(points.deliver(2, A, 1), 25);
-        assert_eq!(points.next_hop(A, D).0, 28);
-        assert_eq!(points.next_hop(B, D), (0, address(A)));
+        assert_eq!(points.deliver(2, A, 1), STALE);
+        assert_eq!(points.next_hop(A, D).0, NO_NEXT_HOP);
+        assert_eq!(points.next_hop(B, D), (ACCEPTED, address(A)));
     });
 }
 
@@ -48,13 +49,13 @@ fn a_broken_row_is_remembered() {
 fn a_row_hit_by_an_error_is_remembered() {
     by_both(|points| {
         points.announce(D);
-        assert_eq!(points.deliver(0, A, 5), 0);
-        assert_eq!(points.deliver(1, B, 5), 0);
-        assert_eq!(points.deliver(2, C, 5), 0);
+        assert_eq!(points.deliver(0, A, 5), ACCEPTED);
+        assert_eq!(points.deliver(1, B, 5), ACCEPTED);
+        assert_eq!(points.deliver(2, C, 5), ACCEPTED);
         points.report_break(A, D);
-        assert_eq!(points.deliver(4, B, 5), 0);
-        assert_eq!(points.deliver(3, B, 1), 25);
-        assert_eq!(points.next_hop(B, D).0, 28);
+        assert_eq!(points.deliver(4, B, 5), ACCEPTED);
+        assert_eq!(points.deliver(3, B, 1), STALE);
+        assert_eq!(points.next_hop(B, D).0, NO_NEXT_HOP);
     });
 }
 
@@ -63,15 +64,15 @@ fn a_row_hit_by_an_error_is_remembered() {
 fn a_reply_is_not_taken_back() {
     by_both(|points| {
         points.root_request(E);
-        assert_eq!(points.deliver(0, A, 1), 0);
+        assert_eq!(points.deliver(0, A, 1), ACCEPTED);
         // A's reply is frame 1 and its onward request 2; of B 3 and 4; of D 5 and 6.
-        assert_eq!(points.deliver(2, B, 1), 0);
-        assert_eq!(points.deliver(4, D, 1), 0);
-        assert_eq!(points.deliver(5, A, 1), 0);
-        assert_eq!(points.deliver(7, B, 1), 0);
-        assert_eq!(points.deliver(8, A, 1), 25);
-        assert_eq!(points.next_hop(A, D), (0, address(D)));
-        assert_eq!(points.next_hop(B, D), (0, address(A)));
+        assert_eq!(points.deliver(2, B, 1), ACCEPTED);
+        assert_eq!(points.deliver(4, D, 1), ACCEPTED);
+        assert_eq!(points.deliver(5, A, 1), ACCEPTED);
+        assert_eq!(points.deliver(7, B, 1), ACCEPTED);
+        assert_eq!(points.deliver(8, A, 1), STALE);
+        assert_eq!(points.next_hop(A, D), (ACCEPTED, address(D)));
+        assert_eq!(points.next_hop(B, D), (ACCEPTED, address(A)));
     });
 }
 
@@ -81,12 +82,12 @@ fn a_number_that_went_round_is_newer() {
     for by in BOTH {
         let points = &mut Script::fresh(by, &[7, 7, 7, 0xFFFF_FFFE, 7]);
         points.root_request(D);
-        assert_eq!(points.deliver(0, A, 2), 0);
+        assert_eq!(points.deliver(0, A, 2), ACCEPTED);
         points.report_break(A, D);
         // A's reply is frame 1, its onward request 2, its error 3; of B 4 and 5.
-        assert_eq!(points.deliver(2, B, 2), 0);
-        assert_eq!(points.deliver(5, A, 2), 25);
-        assert_eq!(points.next_hop(A, D).0, 28);
+        assert_eq!(points.deliver(2, B, 2), ACCEPTED);
+        assert_eq!(points.deliver(5, A, 2), STALE);
+        assert_eq!(points.next_hop(A, D).0, NO_NEXT_HOP);
     }
 }
 
@@ -95,13 +96,13 @@ fn a_number_that_went_round_is_newer() {
 fn a_worse_link_is_not_taken() {
     by_both(|points| {
         points.announce(D);
-        assert_eq!(points.deliver(0, C, 5), 0);
-        assert_eq!(points.deliver(1, A, 3), 0);
+        assert_eq!(points.deliver(0, C, 5), ACCEPTED);
+        assert_eq!(points.deliver(1, A, 3), ACCEPTED);
         points.announce(E);
-        assert_eq!(points.deliver(3, D, 1), 0);
+        assert_eq!(points.deliver(3, D, 1), ACCEPTED);
         // C hears D as the transmitter of what E announced.
-        assert_eq!(points.deliver(4, C, 15), 0);
-        assert_eq!(points.deliver(2, C, 2), 25);
-        assert_eq!(points.next_hop(C, D), (0, address(D)));
+        assert_eq!(points.deliver(4, C, 15), ACCEPTED);
+        assert_eq!(points.deliver(2, C, 2), STALE);
+        assert_eq!(points.next_hop(C, D), (ACCEPTED, address(D)));
     });
 }

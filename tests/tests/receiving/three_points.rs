@@ -1,6 +1,7 @@
 //! The case of document 01's 'Walk and bench', call by call: point 0 asks for point 2 and learns
 //! the way by point 1.
 
+use hwmp_tests::answers::{ACCEPTED, STALE};
 use hwmp_tests::worked::{ALL_ONES, Address, BOTH, address};
 
 use crate::script::Script;
@@ -35,10 +36,10 @@ fn a_request_and_its_reply_teach_both_ways() {
     for by in BOTH {
         let mut points = Script::fresh(by, &[0, 0, 0]);
         points.ask(0, 1, 2, 1000);
-        assert_eq!(points.deliver(0, 1, 10), 0, "{}", by.name);
-        assert_eq!(points.deliver(1, 2, 20), 0, "{}", by.name);
-        assert_eq!(points.deliver(2, 1, 20), 0, "{}", by.name);
-        assert_eq!(points.deliver(3, 0, 10), 0, "{}", by.name);
+        assert_eq!(points.deliver(0, 1, 10), ACCEPTED, "{}", by.name);
+        assert_eq!(points.deliver(1, 2, 20), ACCEPTED, "{}", by.name);
+        assert_eq!(points.deliver(2, 1, 20), ACCEPTED, "{}", by.name);
+        assert_eq!(points.deliver(3, 0, 10), ACCEPTED, "{}", by.name);
 
         let sent: Vec<_> = points.sent.iter().map(|sent| &sent.octets).collect();
         let expected = [
@@ -50,13 +51,13 @@ fn a_request_and_its_reply_teach_both_ways() {
         assert_eq!(sent, expected.iter().collect::<Vec<_>>(), "{}", by.name);
 
         // Two hops from each end to the other.
-        assert_eq!(points.next_hop(0, 2), (0, address(1)), "{}", by.name);
-        assert_eq!(points.next_hop(1, 2), (0, address(2)), "{}", by.name);
-        assert_eq!(points.next_hop(2, 0), (0, address(1)), "{}", by.name);
-        assert_eq!(points.next_hop(1, 0), (0, address(0)), "{}", by.name);
+        assert_eq!(points.next_hop(0, 2), (ACCEPTED, address(1)), "{}", by.name);
+        assert_eq!(points.next_hop(1, 2), (ACCEPTED, address(2)), "{}", by.name);
+        assert_eq!(points.next_hop(2, 0), (ACCEPTED, address(1)), "{}", by.name);
+        assert_eq!(points.next_hop(1, 0), (ACCEPTED, address(0)), "{}", by.name);
 
         let before = points.table(0).to_vec();
-        assert_eq!(points.deliver(3, 0, 10), 25, "{}", by.name);
+        assert_eq!(points.deliver(3, 0, 10), STALE, "{}", by.name);
         assert_eq!(points.table(0), before, "{}", by.name);
         assert_eq!(points.sent.len(), 4, "{}", by.name);
     }

@@ -1,5 +1,9 @@
 //! The library against the separately written implementation: random walks.
 
+use hwmp_tests::answers::{
+    ACCEPTED, BAD_ADDRESS, BAD_LIST, CLOCK_TOO_LARGE, NO_ROUTE, NOT_A_TABLE, OLD_CLOCK,
+    TABLE_LENGTH, TOO_LONG,
+};
 use hwmp_tests::comparing::{Listed, Tally, Walk, Walks};
 use hwmp_tests::library::Walked;
 use hwmp_tests::random::Random;
@@ -14,7 +18,20 @@ const WALKS_PER_MESH: usize = 10;
 
 /// How often each answer must have occurred, and each number of hops with it.
 const LEAST_ANSWERED: u64 = 5_000;
-const ANSWERS: [Listed; 1] = [("walk", &[0, 1, 3, 9, 10, 21, 22, 41, 42])];
+const ANSWERS: [Listed; 1] = [(
+    "walk",
+    &[
+        ACCEPTED,
+        TABLE_LENGTH,
+        CLOCK_TOO_LARGE,
+        BAD_ADDRESS,
+        BAD_LIST,
+        NOT_A_TABLE,
+        OLD_CLOCK,
+        NO_ROUTE,
+        TOO_LONG,
+    ],
+)];
 const LEAST_HOPS: u64 = 30;
 const HOPS: [Listed; 3] = [
     (
@@ -32,7 +49,7 @@ const NO_WAY: &str = "hops with answer 41";
 const ROUND: &str = "hops with answer 42";
 
 fn count_hops(walked: Walked, hops: &mut Tally) {
-    let ends = [(0, MET), (41, NO_WAY), (42, ROUND)];
+    let ends = [(ACCEPTED, MET), (NO_ROUTE, NO_WAY), (TOO_LONG, ROUND)];
     if let Some((_, name)) = ends.iter().find(|(answer, _)| *answer == walked.answer) {
         hops.count(name, walked.hops);
     }

@@ -1,5 +1,6 @@
 //! Walks worked out by hand, a sentence of document 01 after the other.
 
+use hwmp_tests::answers::{ACCEPTED, NO_ROUTE, TOO_LONG};
 use hwmp_tests::fence::{Fence, Side};
 use hwmp_tests::library::Walked;
 use hwmp_tests::worked::{Address, BOTH, FREE, Row, STRANGER, address, table};
@@ -81,9 +82,9 @@ fn gives_at(
 #[test]
 fn from_the_destination_itself_there_are_no_hops() {
     let [own, other] = [address(0), address(1)];
-    gives("alone", &[ignorant(0)], [own, own], (0, 0));
+    gives("alone", &[ignorant(0)], [own, own], (ACCEPTED, 0));
     let both = [leading(0, other, other), leading(1, own, own)];
-    gives("beside another", &both, [other, other], (0, 0));
+    gives("beside another", &both, [other, other], (ACCEPTED, 0));
 }
 
 /// 'Answer 0: destination met, among the points or not.'
@@ -92,17 +93,27 @@ fn a_destination_is_met_at_the_end_of_a_line() {
     for count in 1..=16 {
         let last = address(count - 1);
         let known = line(count, last, FREE);
-        gives("a point", &known, [address(0), last], (0, count as u32 - 1));
+        gives(
+            "a point",
+            &known,
+            [address(0), last],
+            (ACCEPTED, count as u32 - 1),
+        );
         let beyond = line(count, STRANGER, row(STRANGER, STRANGER));
         gives(
             "no point",
             &beyond,
             [address(0), STRANGER],
-            (0, count as u32),
+            (ACCEPTED, count as u32),
         );
         for start in 0..count {
             let hops = (count - start) as u32;
-            gives("on the way", &beyond, [address(start), STRANGER], (0, hops));
+            gives(
+                "on the way",
+                &beyond,
+                [address(start), STRANGER],
+                (ACCEPTED, hops),
+            );
         }
     }
 }
@@ -113,9 +124,9 @@ fn the_order_of_the_tables_plays_no_part() {
     let mut tables = line(5, STRANGER, row(STRANGER, STRANGER));
     for _ in 0..5 {
         tables.rotate_left(1);
-        gives("turned", &tables, [address(0), STRANGER], (0, 5));
+        gives("turned", &tables, [address(0), STRANGER], (ACCEPTED, 5));
         tables.reverse();
-        gives("reversed", &tables, [address(1), STRANGER], (0, 4));
+        gives("reversed", &tables, [address(1), STRANGER], (ACCEPTED, 4));
         tables.reverse();
     }
 }
@@ -128,7 +139,7 @@ fn without_a_row_there_is_no_way() {
         "at the start",
         &[ignorant(0)],
         [address(0), STRANGER],
-        (41, 0),
+        (NO_ROUTE, 0),
     );
     let cut = [
         leading(0, destination, address(1)),
@@ -136,13 +147,18 @@ fn without_a_row_there_is_no_way() {
         ignorant(2),
         ignorant(3),
     ];
-    gives("after two hops", &cut, [address(0), destination], (41, 2));
-    gives("after one", &cut, [address(1), destination], (41, 1));
-    gives("at once", &cut, [address(2), destination], (41, 0));
+    gives(
+        "after two hops",
+        &cut,
+        [address(0), destination],
+        (NO_ROUTE, 2),
+    );
+    gives("after one", &cut, [address(1), destination], (NO_ROUTE, 1));
+    gives("at once", &cut, [address(2), destination], (NO_ROUTE, 0));
     for count in 1..=16 {
         let all = line(count, STRANGER, FREE);
         let hops = count as u32 - 1;
-        gives("at the end", &all, [address(0), STRANGER], (41, hops));
+        gives("at the end", &all, [address(0), STRANGER], (NO_ROUTE, hops));
     }
 }
 
@@ -157,10 +173,20 @@ fn only_rows_for_the_destination_are_followed() {
         point(1, &[row(address(0), address(0)), row(STRANGER, address(2))]),
         point(2, &[row(STRANGER, STRANGER), FREE]),
     ];
-    gives("none", &tables, [address(0), STRANGER], (41, 0));
-    gives("for it", &tables, [address(1), STRANGER], (0, 2));
-    gives("to a neighbour", &tables, [address(0), address(1)], (0, 1));
-    gives("half the way", &tables, [address(0), address(2)], (41, 1));
+    gives("none", &tables, [address(0), STRANGER], (NO_ROUTE, 0));
+    gives("for it", &tables, [address(1), STRANGER], (ACCEPTED, 2));
+    gives(
+        "to a neighbour",
+        &tables,
+        [address(0), address(1)],
+        (ACCEPTED, 1),
+    );
+    gives(
+        "half the way",
+        &tables,
+        [address(0), address(2)],
+        (NO_ROUTE, 1),
+    );
 }
 
 /// 'or a next hop that is neither a point nor the destination (not counted)'.
@@ -170,14 +196,14 @@ fn a_hop_out_of_the_mesh_is_not_counted() {
     for count in 1..=16 {
         let tables = line(count, STRANGER, row(STRANGER, elsewhere));
         let hops = count as u32 - 1;
-        gives("leaves", &tables, [address(0), STRANGER], (41, hops));
+        gives("leaves", &tables, [address(0), STRANGER], (NO_ROUTE, hops));
     }
     for count in 1..16 {
         let destination = address(count);
         let mut tables = line(count, destination, row(destination, elsewhere));
         tables.push(ignorant(count));
         let (way, hops) = ([address(0), destination], count as u32 - 1);
-        gives("leaves before a point", &tables, way, (41, hops));
+        gives("leaves before a point", &tables, way, (NO_ROUTE, hops));
     }
 }
 
@@ -193,9 +219,9 @@ fn a_next_hop_much_like_a_point_is_none() {
                 continue;
             }
             let tables = [leading(0, STRANGER, near), leading(1, STRANGER, STRANGER)];
-            gives("near", &tables, [address(0), STRANGER], (41, 0));
+            gives("near", &tables, [address(0), STRANGER], (NO_ROUTE, 0));
             let tables = [leading(0, near, address(1)), leading(1, STRANGER, STRANGER)];
-            gives("another", &tables, [address(0), STRANGER], (41, 0));
+            gives("another", &tables, [address(0), STRANGER], (NO_ROUTE, 0));
         }
     }
 }
@@ -207,19 +233,24 @@ fn in_a_ring_there_are_as_many_hops_as_points() {
         let hops = count as u32;
         let ring = line(count, STRANGER, row(STRANGER, address(0)));
         for start in 0..count {
-            gives("ring", &ring, [address(start), STRANGER], (42, hops));
+            gives("ring", &ring, [address(start), STRANGER], (TOO_LONG, hops));
         }
         // The last two lead to each other, and the others to them.
         let into_a_ring = line(count, STRANGER, row(STRANGER, address(count - 2)));
         let way = [address(0), STRANGER];
-        gives("line into a ring", &into_a_ring, way, (42, hops));
+        gives("line into a ring", &into_a_ring, way, (TOO_LONG, hops));
     }
     let beside = [
         leading(0, address(2), address(1)),
         leading(1, address(2), address(0)),
         ignorant(2),
     ];
-    gives("to a point", &beside, [address(0), address(2)], (42, 3));
+    gives(
+        "to a point",
+        &beside,
+        [address(0), address(2)],
+        (TOO_LONG, 3),
+    );
 }
 
 /// 'follows rows active then': status 1, and the clock below expiry.
@@ -228,14 +259,14 @@ fn rows_count_while_they_are_active() {
     let way = [address(0), STRANGER];
     let second = |row: Row| [leading(0, STRANGER, address(1)), point(1, &[row])];
     let sound = row(STRANGER, STRANGER);
-    gives("lasting", &second(sound), way, (0, 2));
+    gives("lasting", &second(sound), way, (ACCEPTED, 2));
     let invalidated = Row { status: 2, ..sound };
-    gives("invalidated", &second(invalidated), way, (41, 1));
+    gives("invalidated", &second(invalidated), way, (NO_ROUTE, 1));
     for (expiry, outcome) in [
-        (CLOCK + 1, (0, 2)),
-        (CLOCK, (41, 1)),
-        (CLOCK - 1, (41, 1)),
-        (0, (41, 1)),
+        (CLOCK + 1, (ACCEPTED, 2)),
+        (CLOCK, (NO_ROUTE, 1)),
+        (CLOCK - 1, (NO_ROUTE, 1)),
+        (0, (NO_ROUTE, 1)),
     ] {
         let expiring = Row { expiry, ..sound };
         gives("expiring", &second(expiring), way, outcome);
@@ -244,17 +275,27 @@ fn rows_count_while_they_are_active() {
         gives("expiring first", &first, way, (outcome.0, hops));
     }
     // The clock of the walk counts, not the latest clock of a table.
-    for (clock, outcome) in [(CLOCK, (0, 2)), (EXPIRY - 1, (0, 2)), (EXPIRY, (41, 0))] {
+    for (clock, outcome) in [
+        (CLOCK, (ACCEPTED, 2)),
+        (EXPIRY - 1, (ACCEPTED, 2)),
+        (EXPIRY, (NO_ROUTE, 0)),
+    ] {
         gives_at("later", clock, &second(sound), way, outcome);
     }
     // A clock whose low 32 bits alone are below the expiry.
-    gives_at("much later", 1 << 32, &second(sound), way, (41, 0));
+    gives_at("much later", 1 << 32, &second(sound), way, (NO_ROUTE, 0));
     let last = (1 << 48) - 1;
     let lasting = Row {
         expiry: 1 << 48,
         ..sound
     };
-    gives_at("last clock", last, &[point(0, &[lasting])], way, (0, 1));
+    gives_at(
+        "last clock",
+        last,
+        &[point(0, &[lasting])],
+        way,
+        (ACCEPTED, 1),
+    );
 }
 
 /// Whether its number is known or not, and whatever its metric and hop count, a row is followed.
@@ -277,7 +318,12 @@ fn every_kind_of_active_row_is_followed() {
         },
     ];
     for row in rows {
-        gives("any row", &[point(0, &[row]), ignorant(1)], way, (0, 1));
+        gives(
+            "any row",
+            &[point(0, &[row]), ignorant(1)],
+            way,
+            (ACCEPTED, 1),
+        );
     }
 }
 
@@ -295,7 +341,12 @@ fn a_row_is_found_in_every_place() {
             let first = among_others(rows, place, row(STRANGER, address(1)));
             let second = among_others(rows, rows - 1 - place, row(STRANGER, STRANGER));
             let tables = [point(0, &first), point(1, &second)];
-            gives("one of many", &tables, [address(0), STRANGER], (0, 2));
+            gives(
+                "one of many",
+                &tables,
+                [address(0), STRANGER],
+                (ACCEPTED, 2),
+            );
         }
     }
 }

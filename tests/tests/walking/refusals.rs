@@ -1,5 +1,9 @@
 //! What a walk refuses, and in which order.
 
+use hwmp_tests::answers::{
+    ACCEPTED, BAD_ADDRESS, BAD_LIST, CLOCK_TOO_LARGE, NO_ROUTE, NOT_A_TABLE, OLD_CLOCK,
+    TABLE_LENGTH,
+};
 use hwmp_tests::library::Walked;
 use hwmp_tests::worked::{Address, BOTH, FREE, GROUP, LAST_CLOCK, STRANGER, ZERO, address};
 
@@ -24,7 +28,7 @@ fn refuses(what: &str, tables: &[Vec<u8>], way: [Address; 2], refusal: u32) {
 
 #[test]
 fn the_points_are_in_order() {
-    gives("sound", &three_points(), WAY, (0, 2));
+    gives("sound", &three_points(), WAY, (ACCEPTED, 2));
 }
 
 /// 'Takes 1 to 16 tables of one length side by side with their count (else 1)'. Zeros are no
@@ -39,7 +43,7 @@ fn only_whole_tables_as_many_as_the_count_have_a_length() {
             let right = (1..=16).contains(&count)
                 && (1..=128).any(|rows| length == count * (32 + 32 * rows));
             fits += u32::from(right);
-            let answer = if right { 10 } else { 1 };
+            let answer = if right { BAD_LIST } else { TABLE_LENGTH };
             for by in BOTH {
                 let tables = &octets[..length];
                 let walked = (by.walk)(tables, count as u32, 0, &WAY[0], &WAY[1]);
@@ -61,7 +65,7 @@ fn a_count_beyond_16_is_refused() {
             .collect();
         let octets = tables.concat();
         let way = [address(0), address(0)];
-        gives("the count", &tables, way, (0, 0));
+        gives("the count", &tables, way, (ACCEPTED, 0));
         let wrong = [0, count - 1, count + 1, 17, 255, 256, 257, 1 << 16];
         let wrong = wrong.into_iter().map(|wrong| wrong as u32);
         let same_in_low_bits = (5..32).map(|bit| count as u32 | 1 << bit);
@@ -77,7 +81,10 @@ fn a_count_beyond_16_is_refused() {
             }
             for by in BOTH {
                 let walked = (by.walk)(&octets, wrong, CLOCK, &way[0], &way[1]);
-                let refused = Walked { answer: 1, hops: 0 };
+                let refused = Walked {
+                    answer: TABLE_LENGTH,
+                    hops: 0,
+                };
                 assert_eq!(walked, refused, "{wrong} for {count}: {}", by.name);
             }
         }
@@ -89,16 +96,21 @@ fn a_count_beyond_16_is_refused() {
 fn a_start_must_be_a_point() {
     let tables = three_points();
     for start in [STRANGER, GROUP, ZERO, [0xFF; 6]] {
-        refuses("no point", &tables, [start, WAY[1]], 10);
+        refuses("no point", &tables, [start, WAY[1]], BAD_LIST);
     }
-    refuses("its own destination", &tables, [STRANGER, STRANGER], 10);
+    refuses(
+        "its own destination",
+        &tables,
+        [STRANGER, STRANGER],
+        BAD_LIST,
+    );
     for octet in 0..6 {
         for bit in 0..8 {
             let mut near = address(0);
             near[octet] ^= 1 << bit;
             let known = (0..3).any(|place| address(place) == near);
             if !known {
-                refuses("near", &tables, [near, WAY[1]], 10);
+                refuses("near", &tables, [near, WAY[1]], BAD_LIST);
             }
         }
     }
@@ -110,17 +122,17 @@ fn two_points_may_not_have_one_address() {
     for count in 2..=16 {
         let tables: Vec<_> = (0..count).map(|place| point(place, &[FREE])).collect();
         let way = [address(0), address(0)];
-        gives("all different", &tables, way, (0, 0));
+        gives("all different", &tables, way, (ACCEPTED, 0));
         for one in 0..count {
             for other in 0..one {
                 let mut tables = tables.clone();
                 tables[one][..6].copy_from_slice(&address(other));
-                refuses("two alike", &tables, [address(0), address(0)], 10);
+                refuses("two alike", &tables, [address(0), address(0)], BAD_LIST);
             }
         }
     }
     let twice = [three_points(), three_points()].concat();
-    refuses("all twice", &twice, WAY, 10);
+    refuses("all twice", &twice, WAY, BAD_LIST);
 }
 
 /// 10 is judged on the first six octets of each table, before 21.
@@ -129,26 +141,36 @@ fn addresses_are_judged_before_tables() {
     let nothing = vec![0; 96];
     let sound = point(0, &[FREE, FREE]);
     let zeros = [sound.clone(), nothing.clone(), nothing.clone()];
-    refuses("zero twice", &zeros, WAY, 10);
+    refuses("zero twice", &zeros, WAY, BAD_LIST);
     let zero = [sound.clone(), nothing];
-    refuses("zero once", &zero, [address(0), WAY[1]], 21);
-    refuses("from zero", &zero, [ZERO, WAY[1]], 21);
+    refuses("zero once", &zero, [address(0), WAY[1]], NOT_A_TABLE);
+    refuses("from zero", &zero, [ZERO, WAY[1]], NOT_A_TABLE);
     let mut of_a_group = point(1, &[FREE, FREE]);
     of_a_group[..6].copy_from_slice(&GROUP);
     let group = [sound, of_a_group];
-    refuses("from a group", &group, [GROUP, WAY[1]], 21);
-    refuses("from another group", &group, [[0xFF; 6], WAY[1]], 10);
+    refuses("from a group", &group, [GROUP, WAY[1]], NOT_A_TABLE);
+    refuses("from another group", &group, [[0xFF; 6], WAY[1]], BAD_LIST);
 }
 
 /// 9: the destination of a walk is an individual address.
 #[test]
 fn a_destination_must_be_individual() {
     for destination in [GROUP, ZERO, [0xFF; 6], [1, 0, 0, 0, 0, 0]] {
-        refuses("group", &three_points(), [WAY[0], destination], 9);
-        refuses("from itself", &three_points(), [destination; 2], 9);
+        refuses("group", &three_points(), [WAY[0], destination], BAD_ADDRESS);
+        refuses(
+            "from itself",
+            &three_points(),
+            [destination; 2],
+            BAD_ADDRESS,
+        );
     }
     let individual = [0, 0, 0, 0, 0, 1];
-    gives("least", &three_points(), [WAY[0], individual], (41, 0));
+    gives(
+        "least",
+        &three_points(),
+        [WAY[0], individual],
+        (NO_ROUTE, 0),
+    );
 }
 
 /// 21 and 22 are judged of every table, met on the way or not, and of start and destination
@@ -161,18 +183,18 @@ fn every_table_is_judged() {
             let way = [address(0), address(0)];
             let mut damaged = tables.clone();
             damaged[spoilt][31] = 1;
-            refuses("no table", &damaged, way, 21);
+            refuses("no table", &damaged, way, NOT_A_TABLE);
             let mut ahead = tables.clone();
             ahead[spoilt][16..24].copy_from_slice(&(CLOCK + 1).to_le_bytes());
-            refuses("ahead", &ahead, way, 22);
+            refuses("ahead", &ahead, way, OLD_CLOCK);
             let mut behind = tables.clone();
             behind[spoilt][16..24].copy_from_slice(&(CLOCK - 1).to_le_bytes());
-            gives("behind", &behind, way, (0, 0));
+            gives("behind", &behind, way, (ACCEPTED, 0));
             // 21 of a later table comes before 22 of an earlier one.
             for other in 0..count {
                 let mut both = ahead.clone();
                 both[other][31] = 1;
-                refuses("ahead and no table", &both, way, 21);
+                refuses("ahead and no table", &both, way, NOT_A_TABLE);
             }
         }
     }
@@ -182,7 +204,14 @@ fn every_table_is_judged() {
 /// points of one address.
 #[test]
 fn the_lowest_fault_is_given() {
-    let faults = [1, 3, 9, 10, 21, 22];
+    let faults = [
+        TABLE_LENGTH,
+        CLOCK_TOO_LARGE,
+        BAD_ADDRESS,
+        BAD_LIST,
+        NOT_A_TABLE,
+        OLD_CLOCK,
+    ];
     for chosen in 0_u32..1 << faults.len() {
         for start_is_no_point in [false, true] {
             let has = |fault| {
@@ -190,27 +219,30 @@ fn the_lowest_fault_is_given() {
                 chosen >> bit.expect("a fault of a walk") & 1 == 1
             };
             let mut tables = three_points();
-            tables[2][6] = has(21).into();
-            if has(10) && !start_is_no_point {
+            tables[2][6] = has(NOT_A_TABLE).into();
+            if has(BAD_LIST) && !start_is_no_point {
                 tables[1][..6].copy_from_slice(&address(2));
             }
             let mut octets = tables.concat();
-            octets.truncate(octets.len() - usize::from(has(1)));
-            let clock = match (has(3), has(22)) {
+            octets.truncate(octets.len() - usize::from(has(TABLE_LENGTH)));
+            let clock = match (has(CLOCK_TOO_LARGE), has(OLD_CLOCK)) {
                 (true, _) => LAST_CLOCK + 1,
                 (_, true) => CLOCK - 1,
                 _ => CLOCK,
             };
-            let start = if has(10) && start_is_no_point {
+            let start = if has(BAD_LIST) && start_is_no_point {
                 STRANGER
             } else {
                 WAY[0]
             };
-            let destination = if has(9) { GROUP } else { WAY[1] };
+            let destination = if has(BAD_ADDRESS) { GROUP } else { WAY[1] };
             let lowest = faults.into_iter().find(|&fault| has(fault));
             let expected = match lowest {
                 Some(answer) => Walked { answer, hops: 0 },
-                None => Walked { answer: 0, hops: 2 },
+                None => Walked {
+                    answer: ACCEPTED,
+                    hops: 2,
+                },
             };
             for by in BOTH {
                 let walked = (by.walk)(&octets, 3, clock, &start, &destination);
@@ -228,7 +260,10 @@ fn a_clock_above_the_last_is_refused() {
     for clock in beyond.chain([LAST_CLOCK + 1, u64::MAX]) {
         for by in BOTH {
             let walked = (by.walk)(&octets, 3, clock, &WAY[0], &WAY[1]);
-            let refused = Walked { answer: 3, hops: 0 };
+            let refused = Walked {
+                answer: CLOCK_TOO_LARGE,
+                hops: 0,
+            };
             assert_eq!(walked, refused, "{clock}: {}", by.name);
         }
     }

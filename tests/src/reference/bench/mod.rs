@@ -10,6 +10,7 @@ use super::{
     Address, Emitted, LEAST_OUTPUT, Metric, Refusal, SequenceNumber, answer, breaks, calls,
     cut_frames, originate, receive,
 };
+use crate::answers::ACCEPTED;
 
 pub use command::{Command, Index};
 pub use line::{Done, Fault, Line};
@@ -66,7 +67,7 @@ struct Answered {
 }
 
 const DONE: Answered = Answered {
-    answer: 0,
+    answer: ACCEPTED,
     third: 0,
 };
 
@@ -170,11 +171,11 @@ impl Bench {
         let (tables, count) = (self.tables.as_flattened(), self.points() as u32);
         Ok(match walk(tables, count, self.clock, start, destination) {
             Ok(walked) => Answered {
-                answer: walked.end as u32,
+                answer: walked.answer,
                 third: walked.hops,
             },
             Err(refusal) => Answered {
-                answer: refusal as u32,
+                answer: refusal,
                 third: 0,
             },
         })

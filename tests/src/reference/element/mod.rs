@@ -9,6 +9,7 @@ mod rreq;
 
 use super::refusal::ensure;
 use super::{Address, Refusal};
+use crate::answers::{BAD_COUNT, ELEMENT_LENGTH, SHORT_OUTPUT, UNKNOWN_ID};
 
 pub use list::{Destination, NumberedAddress};
 pub use rann::Rann;
@@ -41,17 +42,17 @@ pub enum Destinations {
 impl<'a> Element<'a> {
     pub fn read(octets: &'a [u8]) -> Result<Element<'a>, Refusal> {
         let [id, length, fields @ ..] = octets else {
-            return Err(Refusal::ElementOctets);
+            return Err(ELEMENT_LENGTH);
         };
-        ensure(usize::from(*length) == fields.len(), Refusal::ElementOctets)?;
+        ensure(usize::from(*length) == fields.len(), ELEMENT_LENGTH)?;
         let element = match *id {
             Rann::ID => Rann::read(fields).map(Element::Rann),
             Rreq::ID => Rreq::read(fields).map(Element::Rreq),
             Rrep::ID => Rrep::read(fields).map(Element::Rrep),
             Rerr::ID => Rerr::read(fields).map(Element::Rerr),
-            _ => return Err(Refusal::AnotherId),
+            _ => return Err(UNKNOWN_ID),
         };
-        element.ok_or(Refusal::ElementLength)
+        element.ok_or(BAD_COUNT)
     }
 
     /// What follows the Length octet, in octets.
@@ -89,7 +90,7 @@ impl<'a> Element<'a> {
         let frame = out
             .get_mut(at..)
             .and_then(|rest| rest.get_mut(..octets))
-            .ok_or(Refusal::Output)?;
+            .ok_or(SHORT_OUTPUT)?;
         let (receiver, element) = frame.split_at_mut(RECEIVER);
         receiver.copy_from_slice(&to.0);
         match self {

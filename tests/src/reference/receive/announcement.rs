@@ -1,12 +1,13 @@
 use super::path::Path;
 use super::{Reception, ttl_left};
+use crate::answers::BAD_ADDRESS;
 use crate::reference::element::{Element, Rann};
 use crate::reference::refusal::ensure;
 use crate::reference::{Address, Refusal};
 
 impl Reception<'_> {
     pub(super) fn announcement(&mut self, rann: &Rann) -> Result<(), Refusal> {
-        ensure(rann.originator.is_individual(), Refusal::NotIndividual)?;
+        ensure(rann.originator.is_individual(), BAD_ADDRESS)?;
         let path = path(rann).over(self.link)?;
         self.learn(&path)?;
         if let Some(ttl) = ttl_left(rann.ttl) {

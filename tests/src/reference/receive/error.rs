@@ -1,4 +1,5 @@
 use super::Reception;
+use crate::answers::{BAD_ADDRESS, BAD_LIST, NO_MATCH};
 use crate::reference::element::list::{Entries, has_twice};
 use crate::reference::element::{Element, NumberedAddress, Rerr};
 use crate::reference::refusal::ensure;
@@ -10,11 +11,11 @@ impl Reception<'_> {
     pub(super) fn error(&mut self, rerr: &Rerr) -> Result<(), Refusal> {
         let addresses = rerr.destinations().map(|entry| entry.address);
         let individual = addresses.clone().all(Address::is_individual);
-        ensure(individual, Refusal::NotIndividual)?;
-        ensure(!has_twice(addresses), Refusal::ListOrFlags)?;
+        ensure(individual, BAD_ADDRESS)?;
+        ensure(!has_twice(addresses), BAD_LIST)?;
         let head = checks::head_at(self.clock, self.transmitter, &self.table())?;
         let has_match = |entry: NumberedAddress| self.match_for(entry.address).is_some();
-        ensure(rerr.destinations().any(has_match), Refusal::NoMatch)?;
+        ensure(rerr.destinations().any(has_match), NO_MATCH)?;
         let mut hit = Entries::<{ NumberedAddress::OCTETS }, { Rerr::MOST }>::new();
         for entry in rerr.destinations() {
             if let Some((place, row)) = self.match_for(entry.address) {

@@ -4,6 +4,7 @@ use std::iter;
 
 use super::Reception;
 use super::path::Path;
+use crate::answers::{ABOUT_ITSELF, NO_ROOM, STALE};
 use crate::reference::refusal::ensure;
 use crate::reference::table::{FREE, Head, Row, Table, VALID, write_head, write_row};
 use crate::reference::{HopCount, Refusal, checks};
@@ -15,7 +16,7 @@ impl Reception<'_> {
     /// Judges the path by the state, stores rows and clock, and returns the head.
     pub(super) fn learn(&mut self, path: &Path) -> Result<Head, Refusal> {
         let head = checks::head_at(self.clock, self.transmitter, &self.table())?;
-        ensure(path.end != head.own, Refusal::NamesOwn)?;
+        ensure(path.end != head.own, ABOUT_ITSELF)?;
         let (end, transmitter) = self.rows_learnt(path)?;
         for (place, row) in iter::once(end).chain(transmitter) {
             write_row(self.octets, place, &row);
@@ -30,7 +31,7 @@ impl Reception<'_> {
         let table = self.table();
         let held = table.row_for(path.end);
         let stale = held.is_some_and(|(_, row)| is_stale(path, &row));
-        ensure(!stale, Refusal::Stale)?;
+        ensure(!stale, STALE)?;
         let mut free = table.free_places();
         let (place, row) = held_or_free(held, &mut free)?;
         let end = self.towards_end(&row, path);
@@ -120,5 +121,5 @@ fn held_or_free(
     free: &mut impl Iterator<Item = usize>,
 ) -> Result<Placed, Refusal> {
     let free_row = || free.next().map(|place| (place, Row::default()));
-    held.or_else(free_row).ok_or(Refusal::NoFreeRow)
+    held.or_else(free_row).ok_or(NO_ROOM)
 }

@@ -14,6 +14,7 @@ use super::frames::{Emitted, Frames};
 use super::refusal::ensure;
 use super::table::Table;
 use super::{Address, Metric, Refusal, checks};
+use crate::answers::NO_LINK;
 
 /// What is lent to the call, and how the element came in.
 struct Reception<'a> {
@@ -36,7 +37,7 @@ pub fn receive(
     let frames = Frames::start(output)?;
     checks::clock(clock)?;
     checks::neighbour(transmitter)?;
-    ensure(link > Metric(0), Refusal::LinkMetric)?;
+    ensure(link > Metric(0), NO_LINK)?;
     let mut reception = Reception {
         octets,
         frames,

@@ -1,3 +1,4 @@
+use crate::answers::{METRIC_TOO_LARGE, TOO_MANY_HOPS};
 use crate::reference::{Address, HopCount, Metric, Refusal, SequenceNumber, checks};
 
 /// What a RREQ or RANN tells of the path to its originator, or a RREP of that to its
@@ -16,8 +17,8 @@ impl Path {
     /// what goes on.
     pub fn over(self, link: Metric) -> Result<Path, Refusal> {
         checks::lifetime(self.lifetime)?;
-        let hop_count = self.hop_count.next().ok_or(Refusal::HopCount)?;
-        let metric = self.metric.over(link).ok_or(Refusal::Metric)?;
+        let hop_count = self.hop_count.next().ok_or(TOO_MANY_HOPS)?;
+        let metric = self.metric.over(link).ok_or(METRIC_TOO_LARGE)?;
         Ok(Path {
             hop_count,
             metric,

@@ -1,5 +1,6 @@
 use super::path::Path;
 use super::{Reception, ttl_left};
+use crate::answers::{BAD_ADDRESS, BAD_LIST, LOW_TTL};
 use crate::reference::Refusal;
 use crate::reference::element::{Element, Rrep};
 use crate::reference::refusal::ensure;
@@ -8,10 +9,10 @@ impl Reception<'_> {
     /// Dependents are passed on unread.
     pub(super) fn reply(&mut self, rrep: &Rrep) -> Result<(), Refusal> {
         let individual = rrep.destination.is_individual() && rrep.source.is_individual();
-        ensure(individual, Refusal::NotIndividual)?;
-        ensure(rrep.destination != rrep.source, Refusal::ListOrFlags)?;
+        ensure(individual, BAD_ADDRESS)?;
+        ensure(rrep.destination != rrep.source, BAD_LIST)?;
         let path = path(rrep).over(self.link)?;
-        let ttl = ttl_left(rrep.ttl).ok_or(Refusal::Ttl)?;
+        let ttl = ttl_left(rrep.ttl).ok_or(LOW_TTL)?;
         self.learn(&path)?;
         // No row has the own address, so a reply does not go on from its source.
         if let Some(next_hop) = self.next_hop(rrep.source) {

@@ -1,5 +1,6 @@
 use super::path::Path;
 use super::{Reception, ttl_left};
+use crate::answers::{BAD_ADDRESS, BAD_LIST};
 use crate::reference::element::list::{Entries, has_twice};
 use crate::reference::element::{Destination, Element, Rrep, Rreq};
 use crate::reference::originate::TTL;
@@ -12,8 +13,8 @@ type Kept = Entries<{ Destination::OCTETS }, { Rreq::MOST }>;
 
 impl Reception<'_> {
     pub(super) fn request(&mut self, rreq: &Rreq) -> Result<(), Refusal> {
-        ensure(has_fit_addresses(rreq), Refusal::NotIndividual)?;
-        ensure(has_fit_list(rreq), Refusal::ListOrFlags)?;
+        ensure(has_fit_addresses(rreq), BAD_ADDRESS)?;
+        ensure(has_fit_list(rreq), BAD_LIST)?;
         let path = path(rreq).over(self.link)?;
         let mut head = self.learn(&path)?;
         let mut kept = Kept::new();
