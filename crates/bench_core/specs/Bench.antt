@@ -8,7 +8,7 @@ use Rattle.octets.specs.LittleEndian.{zeros}
 use Rattle.table.specs.declared.address.Address.{Address}
 use Rattle.table.specs.Address.{addressOf}
 use Rattle.rules.specs.Decision.{Decision, _above_}
-use Rattle.rules.specs.Outcome.{lend, Effect, Exit, atExit}
+use Rattle.rules.specs.Outcome.{lend, Effect, Exit, atExit, leastOutput}
 use Rattle.rules.specs.Walk.{tableAt}
 use Rattle.bench_core.specs.Frames.{keep}
 
@@ -50,7 +50,7 @@ withTableAt tables p u = take (544 * p) tables ++ (u ++ drop 544 (drop (544 * p)
 
 -- The output that the bench lends has the least length, and is zero.
 abbrev pub calledBy : Bench → ℕ → Decision Effect → Exit
-calledBy b p d = atExit (lend (tableOf b p)) (zeros 1560) d
+calledBy b p d = atExit (lend (tableOf b p)) (zeros leastOutput) d
 
 -- its table is kept, and its frames with their sender, unless there were more than 128
 unfoldable pub settled : Bench → ℕ → Exit → Done

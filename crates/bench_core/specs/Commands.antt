@@ -5,10 +5,11 @@ use mathlib.Core.Bool.{_&&_, cond}
 use mathlib.Core.List.{List}
 use lib.Dec.{ltb}
 use lib.ListN.{take}
+use Rattle.table.specs.Row.{maxClock}
 use Rattle.counters.specs.declared.SequenceNumber.{SequenceNumber}
 use Rattle.table.specs.declared.address.Address.{Address}
 use Rattle.table.specs.Address.{addressOf}
-use Rattle.rules.specs.Outcome.{lend}
+use Rattle.rules.specs.Outcome.{lend, leastOutput}
 use Rattle.rules.specs.Decision.{Decision, refused, accepted, _above_, _below_}
 use Rattle.rules.specs.declared.Arrival.{Arrival}
 use Rattle.rules.specs.Fresh.{makeFresh}
@@ -39,7 +40,7 @@ addPoint b own number = cond ((b .points) below 16) (added b (makeFresh (tableOf
 -- 2 advance clock
 unfoldable pub advance : Bench → ℕ → Done
 advance b by =
-    cond ((b .clock + by) above 2 ^ 48 - 1) fault
+    cond ((b .clock + by) above maxClock) fault
     (line 0 0
     (record {
       tables = b .tables;
@@ -56,15 +57,15 @@ link b links p q metric =
 
 -- 4 ask for one destination: its item is flags and address
 unfoldable pub askFor : Bench → ℕ → (item : List ℕ) → (lifetime : ℕ) → Done
-askFor b p item lifetime = cond (isPoint b p) (settled b p (calledBy b p (ask (lend (tableOf b p)) 1560 lifetime item))) fault
+askFor b p item lifetime = cond (isPoint b p) (settled b p (calledBy b p (ask (lend (tableOf b p)) leastOutput lifetime item))) fault
 
 -- 5 announce, flags 0
 unfoldable pub announceSelf : Bench → ℕ → (lifetime : ℕ) → Done
-announceSelf b p lifetime = cond (isPoint b p) (settled b p (calledBy b p (announce (lend (tableOf b p)) 1560 0 lifetime))) fault
+announceSelf b p lifetime = cond (isPoint b p) (settled b p (calledBy b p (announce (lend (tableOf b p)) leastOutput 0 lifetime))) fault
 
 -- 6 deliver frame k: from its sender, over the link between the two, whoever its receiver is
 unfoldable pub handedOver : Bench → (k p : ℕ) → Arrival → Done
-handedOver b k p arrival = settled b p (calledBy b p (receive (lend (tableOf b p)) 1560 arrival (elementOf (b .slots) k)))
+handedOver b k p arrival = settled b p (calledBy b p (receive (lend (tableOf b p)) leastOutput arrival (elementOf (b .slots) k)))
 
 abbrev pub arrivalFrom : (tables : List ℕ) → List (List ℕ) → (clock sender p : ℕ) → Arrival
 arrivalFrom tables links clock sender p =
@@ -79,7 +80,7 @@ deliver b links k p =
 -- 7 break: the neighbour is a point
 unfoldable pub breakOff : Bench → (p q : ℕ) → Done
 breakOff b p q =
-    cond (isPoint b p && isPoint b q) (settled b p (calledBy b p (breakNeighbour (lend (tableOf b p)) 1560 (b .clock) (addressIn b q)))) fault
+    cond (isPoint b p && isPoint b q) (settled b p (calledBy b p (breakNeighbour (lend (tableOf b p)) leastOutput (b .clock) (addressIn b q)))) fault
 
 -- 8 walk over the points, from one to another
 abbrev pub walkedLine : Bench → Walked → Done

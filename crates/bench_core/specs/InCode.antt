@@ -4,6 +4,7 @@ use mathlib.Core.Path.{_≡_}
 use mathlib.Core.Bool.{cond}
 use mathlib.Core.List.{List}
 use lib.ListN.{length}
+use Rattle.table.specs.Row.{maxClock}
 use Rattle.counters.specs.declared.SequenceNumber.{SequenceNumber}
 use Rattle.table.specs.declared.address.Address.{Address}
 use Rattle.rules.specs.Decision.{_above_}
@@ -47,7 +48,7 @@ settledSlots s (Accepted e) sender output slots = keptSlots s (e .frames) sender
 
 -- what holds of the numbers beside the memory
 abbrev pub Bounded : (points frames clock : ℕ) → Type 0
-Bounded points frames clock = (points ≤ 16) × (frames ≤ 128) × (clock ≤ 281474976710655)
+Bounded points frames clock = (points ≤ 16) × (frames ≤ 128) × (clock ≤ maxClock)
 
 -- what the code's functions know of the memory and of the numbers beside it
 pub record Memory (s : State) (tables slots : List ℕ) : Type 0 where

@@ -9,6 +9,7 @@ use table::address::Address;
 ghost use mathlib.Core.Path.{_≡_};
 ghost use Prim.Native.Nat.{_≤_};
 ghost use lib.ListN.{drop, length, take};
+ghost use Rattle.table.specs.Row.{maxClock};
 ghost use Rattle.octets.specs.LittleEndian.{numberAt};
 ghost use Rattle.bench_core.specs.Commands.{announceSelf, askFor, breakOff, deliver};
 ghost use Rattle.bench_core.specs.InCode.{Adds, Advances, Links, Memory, Walks, benchOf, doneIn};
@@ -25,7 +26,7 @@ pub fn point(input: &[u8], s: State, tables: &mut [u8]) -> Done
 
 pub fn advance(input: &[u8], s: State) -> Done
     requires { ⌜ 5 ≤ length (now input) ⌝ }
-    requires { ⌜ s .clock ≤ 281474976710655 ⌝ }
+    requires { ⌜ s .clock ≤ maxClock ⌝ }
     ensures { λ r. ⌜ Advances r s (numberAt 4 (now (input .entry)) 1) ⌝ }
 {
     points::advance_clock(s, octets::read_u32(input, 1))

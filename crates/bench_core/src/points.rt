@@ -9,6 +9,7 @@ use walk::pieces;
 ghost use mathlib.Core.Path.{_≡_};
 ghost use Prim.Native.Nat.{_<_, _≤_};
 ghost use lib.ListN.{length};
+ghost use Rattle.table.specs.Row.{maxClock};
 ghost use Rattle.table.specs.Address.{addressOf};
 ghost use Rattle.rules.specs.Walk.{tableAt};
 ghost use Rattle.bench_core.specs.InCode.{Adds, Advances, Walks};
@@ -50,7 +51,7 @@ pub fn add_point(s: State, own: Address, number: SequenceNumber, tables: &mut [u
 }
 
 pub fn advance_clock(s: State, by: u32) -> Done
-    requires { ⌜ s .clock ≤ 281474976710655 ⌝ }
+    requires { ⌜ s .clock ≤ maxClock ⌝ }
     ensures { λ r. ⌜ Advances r s by ⌝ }
 {
     let clock = s.clock + by as u64;

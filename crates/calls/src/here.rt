@@ -5,11 +5,11 @@ use element::PathInfo;
 use rules::Arrival;
 ghost use mathlib.Core.Path.{_≡_};
 ghost use Prim.Native.Nat.{_+_, _<_, _≤_};
-ghost use Rattle.rules.specs.Learn.{hopsHere, metricHere};
+ghost use Rattle.rules.specs.Learn.{hopsHere, maxMetric, metricHere, mostHops};
 
 // Received metric + link metric.
 pub fn metric_here(a: Arrival, p: PathInfo) -> Metric
-    requires { ⌜ p .metric .0 + a .link .0 ≤ 4294967294 ⌝ }
+    requires { ⌜ metricHere a p .0 ≤ maxMetric ⌝ }
     ensures { λ r. ⌜ r ≡ metricHere a p ⌝ }
 {
     Metric(p.metric.0 + a.link.0)
@@ -17,7 +17,7 @@ pub fn metric_here(a: Arrival, p: PathInfo) -> Metric
 
 // Received hop count + 1.
 pub fn hops_here(p: PathInfo) -> HopCount
-    requires { ⌜ p .hops .0 < 255 ⌝ }
+    requires { ⌜ p .hops .0 < mostHops ⌝ }
     ensures { λ r. ⌜ r ≡ hopsHere p ⌝ }
 {
     HopCount(p.hops.0 + 1)

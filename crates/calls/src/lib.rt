@@ -5,10 +5,14 @@ pub mod here;
 ghost use mathlib.Core.Path.{_≡_};
 ghost use mathlib.Core.List.{[]};
 ghost use Prim.Native.Nat.{_≤_};
+ghost use Rattle.rules.specs.Outcome.{leastOutput};
 ghost use Rattle.calls.specs.Answers.{answerOf, emitted};
 
 // Octets of an output that holds the frames of any call.
 pub const LEAST_OUTPUT: usize = 1560;
+
+// The TTL of an element that a point sends of itself, or replies with.
+pub const INITIAL_TTL: u8 = 31;
 
 // The answer of a call that writes no frame, and of the check of one that may.
 pub enum Answer {
@@ -33,7 +37,7 @@ impl Emitted {
     }
 
     pub fn one_frame(octets: usize) -> Self
-        requires { ⌜ octets ≤ 1560 ⌝ }
+        requires { ⌜ octets ≤ leastOutput ⌝ }
         ensures { λ r. ⌜ r ≡ record { frames = 1; octets = octets } ⌝ }
     {
         Emitted {

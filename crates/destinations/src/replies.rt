@@ -50,7 +50,7 @@ fn reply_fields(
     let path = PathInfo {
         flags: 0,
         hops,
-        ttl: 31,
+        ttl: calls::INITIAL_TTL,
         subject: destination,
         number,
         lifetime: p.lifetime,

@@ -8,6 +8,7 @@ use table::address::Address;
 ghost use mathlib.Core.Path.{_≡_};
 ghost use Prim.Native.Nat.{_+_, _<_, _≤_};
 ghost use lib.ListN.{length};
+ghost use Rattle.rules.specs.Learn.{Extends};
 ghost use Rattle.octets.specs.LittleEndian.{over};
 ghost use Rattle.rules.specs.Onward.{rannOnward};
 ghost use Rattle.rules.specs.Outcome.{frameOctets};
@@ -15,8 +16,7 @@ ghost use Rattle.calls.specs.Answers.{emitted};
 
 // Sends the RANN on from place at of the output, if its TTL is at least 2.
 pub fn send_on(output: &mut [u8], at: usize, a: Arrival, p: PathInfo) -> Emitted
-    requires { ⌜ p .metric .0 + a .link .0 ≤ 4294967294 ⌝ }
-    requires { ⌜ p .hops .0 < 255 ⌝ }
+    requires { ⌜ Extends a p ⌝ }
     requires { ⌜ at + 29 ≤ length (now output) ⌝ }
     ensures { λ r. ⌜ r ≡ emitted (rannOnward a p) ⌝ }
     ensures { λ _. ⌜ now (output .exit) ≡ over (now (output .entry)) at (frameOctets (rannOnward a p)) ⌝ }

@@ -9,12 +9,12 @@ use element::PathInfo;
 use rules::Arrival;
 ghost use mathlib.Core.Path.{_≡_};
 ghost use Prim.Native.Nat.{_+_, _<_, _≤_};
+ghost use Rattle.rules.specs.Learn.{Extends};
 ghost use Rattle.rules.specs.Onward.{onward};
 
 // The three changes: hop count + 1, TTL - 1, metric + link.
 fn onward(a: Arrival, p: PathInfo) -> PathInfo
-    requires { ⌜ p .metric .0 + a .link .0 ≤ 4294967294 ⌝ }
-    requires { ⌜ p .hops .0 < 255 ⌝ }
+    requires { ⌜ Extends a p ⌝ }
     requires { ⌜ 1 ≤ p .ttl ⌝ }
     ensures { λ r. ⌜ r ≡ onward a p ⌝ }
 {

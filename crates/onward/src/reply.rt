@@ -10,6 +10,7 @@ use table::search::NextHop;
 ghost use mathlib.Core.Path.{_≡_};
 ghost use Prim.Native.Nat.{_+_, _<_, _≤_};
 ghost use lib.ListN.{length};
+ghost use Rattle.rules.specs.Learn.{Extends};
 ghost use Rattle.octets.specs.LittleEndian.{over};
 ghost use Rattle.element.specs.Layout.{PartOf};
 ghost use Rattle.element.specs.declared.Kind.{Kind};
@@ -34,8 +35,7 @@ fn receiver_of(table: &[u8], clock: u64, source: Address) -> NextHop
 }
 
 fn fields_onward(a: Arrival, f: RrepFields) -> RrepFields
-    requires { ⌜ f .path .metric .0 + a .link .0 ≤ 4294967294 ⌝ }
-    requires { ⌜ f .path .hops .0 < 255 ⌝ }
+    requires { ⌜ Extends a (f .path) ⌝ }
     requires { ⌜ 1 ≤ f .path .ttl ⌝ }
     ensures { λ r. ⌜ r ≡ rrepForward a f ⌝ }
 {
@@ -68,8 +68,7 @@ pub fn send_on(
     part: &[u8],
 ) -> Emitted
     requires { ⌜ Sized (now table) ⌝ }
-    requires { ⌜ f .path .metric .0 + a .link .0 ≤ 4294967294 ⌝ }
-    requires { ⌜ f .path .hops .0 < 255 ⌝ }
+    requires { ⌜ Extends a (f .path) ⌝ }
     requires { ⌜ 1 ≤ f .path .ttl ⌝ }
     requires { ⌜ PartOf Kind.Rrep (now part) ⌝ }
     requires { ⌜ at + 260 ≤ length (now output) ⌝ }

@@ -14,6 +14,7 @@ ghost use mathlib.Core.Path.{_≡_};
 ghost use mathlib.Core.Bool.{false};
 ghost use Prim.Native.Nat.{_+_, _<_, _≤_};
 ghost use lib.ListN.{length};
+ghost use Rattle.rules.specs.Learn.{Extends};
 ghost use Rattle.octets.specs.LittleEndian.{over};
 ghost use Rattle.element.specs.Layout.{PartOf};
 ghost use Rattle.element.specs.declared.Kind.{Kind};
@@ -38,8 +39,7 @@ fn receiver_of(table: &[u8], clock: u64, p: PathInfo, part: &[u8]) -> NextHop
 }
 
 fn fields_onward(a: Arrival, f: RreqFields) -> RreqFields
-    requires { ⌜ f .path .metric .0 + a .link .0 ≤ 4294967294 ⌝ }
-    requires { ⌜ f .path .hops .0 < 255 ⌝ }
+    requires { ⌜ Extends a (f .path) ⌝ }
     requires { ⌜ 1 ≤ f .path .ttl ⌝ }
     ensures { λ r. ⌜ r ≡ rreqForward a f ⌝ }
 {
@@ -108,8 +108,7 @@ pub fn send_on(
     requires { ⌜ at + 254 ≤ length (now output) ⌝ }
     requires { ⌜ PartOf Kind.Rreq (now part) ⌝ }
     requires { ⌜ unicastToSeveral (f .path) (now part) ≡ false ⌝ }
-    requires { ⌜ f .path .metric .0 + a .link .0 ≤ 4294967294 ⌝ }
-    requires { ⌜ f .path .hops .0 < 255 ⌝ }
+    requires { ⌜ Extends a (f .path) ⌝ }
     ensures { λ r. ⌜ r ≡ emitted (rreqOnward (now (table .entry)) a f (keptAmong (now (table .entry)) (a .clock) (now (part .entry)))) ⌝ }
     ensures { λ _. ⌜ now (output .exit) ≡ over (now (output .entry)) at (frameOctets (rreqOnward (now (table .entry)) a f (keptAmong (now (table .entry)) (a .clock) (now (part .entry))))) ⌝ }
 {

@@ -11,7 +11,7 @@ ghost use mathlib.Core.Path.{_≡_};
 ghost use Prim.Native.Nat.{_≤_};
 ghost use lib.ListN.{length};
 ghost use Rattle.rules.specs.Decision.{accepted};
-ghost use Rattle.rules.specs.Outcome.{atExit, lend};
+ghost use Rattle.rules.specs.Outcome.{atExit, lend, leastOutput};
 ghost use Rattle.rules.specs.Originate.{announce, announced};
 ghost use Rattle.calls.specs.Answers.{exits};
 ghost use Rattle.table.specs.Layout.{Sized};
@@ -19,7 +19,7 @@ ghost use Rattle.table.specs.Layout.{Sized};
 // The table and the frame of an announcement that is not refused.
 fn send(table: &mut [u8], output: &mut [u8], flags: u8, lifetime: u32) -> Outcome
     requires { ⌜ Sized (now table) ⌝ }
-    requires { ⌜ 1560 ≤ length (now output) ⌝ }
+    requires { ⌜ leastOutput ≤ length (now output) ⌝ }
     ensures { λ r. ⌜ exits r (lend (now (table .exit))) (now (output .exit)) ≡ atExit (lend (now (table .entry))) (now (output .entry)) (accepted (announced (lend (now (table .entry))) flags lifetime)) ⌝ }
 {
     let head = common::number_head(row::read_head(table), false);

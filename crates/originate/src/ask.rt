@@ -28,7 +28,7 @@ ghost use Rattle.element.specs.Lists.{allOnes};
 ghost use Rattle.element.specs.Octets.{writeFrame};
 ghost use Rattle.rules.specs.Decision.{accepted};
 ghost use Rattle.rules.specs.Lists.{any};
-ghost use Rattle.rules.specs.Outcome.{atExit, lend};
+ghost use Rattle.rules.specs.Outcome.{atExit, lend, leastOutput};
 ghost use Rattle.rules.specs.Originate.{ask, askedFor, asking, hasHighFlags, itemChecks, itemsFit, knownNumber, ownRequest, requested};
 ghost use Rattle.calls.specs.Answers.{answerTo, exits};
 
@@ -141,7 +141,7 @@ fn write_targets(output: &mut [u8], at: usize, table: &[u8], items: &[u8]) -> us
 // The frame of an ask, as the point with this head sends it; answers the place after it.
 fn write_request(output: &mut [u8], head: Head, lifetime: u32, table: &[u8], items: &[u8]) -> usize
     requires { ⌜ Sized (now table) ⌝ }
-    requires { ⌜ 1560 ≤ length (now output) ⌝ }
+    requires { ⌜ leastOutput ≤ length (now output) ⌝ }
     requires { ⌜ 7 ≤ length (now items) ⌝ }
     requires { ⌜ length (now items) ≤ 140 ⌝ }
     ensures { λ r. ⌜ r ≡ 34 + 11 * (length (now (items .entry)) / 7) ⌝ }
@@ -154,7 +154,7 @@ fn write_request(output: &mut [u8], head: Head, lifetime: u32, table: &[u8], ite
 // The table and the frame of an ask that is not refused.
 fn send(table: &mut [u8], output: &mut [u8], lifetime: u32, items: &[u8]) -> Outcome
     requires { ⌜ Sized (now table) ⌝ }
-    requires { ⌜ 1560 ≤ length (now output) ⌝ }
+    requires { ⌜ leastOutput ≤ length (now output) ⌝ }
     requires { ⌜ 7 ≤ length (now items) ⌝ }
     requires { ⌜ length (now items) ≤ 140 ⌝ }
     ensures { λ r. ⌜ exits r (lend (now (table .exit))) (now (output .exit)) ≡ atExit (lend (now (table .entry))) (now (output .entry)) (accepted (requested (lend (now (table .entry))) 0 lifetime (map (askedFor (now (table .entry))) (itemsIn (now (items .entry)))))) ⌝ }

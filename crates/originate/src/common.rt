@@ -64,7 +64,7 @@ pub fn own_path(head: Head, flags: u8, lifetime: u32) -> PathInfo
     PathInfo {
         flags,
         hops: HopCount(0),
-        ttl: 31,
+        ttl: calls::INITIAL_TTL,
         subject,
         number,
         lifetime,

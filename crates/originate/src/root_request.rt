@@ -14,7 +14,7 @@ ghost use mathlib.Core.List.{[], _∷_};
 ghost use Prim.Native.Nat.{_≤_};
 ghost use lib.ListN.{length};
 ghost use Rattle.rules.specs.Decision.{accepted};
-ghost use Rattle.rules.specs.Outcome.{atExit, lend};
+ghost use Rattle.rules.specs.Outcome.{atExit, lend, leastOutput};
 ghost use Rattle.rules.specs.Originate.{allWithDOAndRF, isRootFlags, requested, rootRequest};
 ghost use Rattle.calls.specs.Answers.{exits};
 ghost use Rattle.table.specs.Layout.{Sized};
@@ -29,7 +29,7 @@ fn is_root_flags(flags: u8) -> bool
 // The table and the frame of a root request that is not refused.
 fn send(table: &mut [u8], output: &mut [u8], flags: u8, lifetime: u32) -> Outcome
     requires { ⌜ Sized (now table) ⌝ }
-    requires { ⌜ 1560 ≤ length (now output) ⌝ }
+    requires { ⌜ leastOutput ≤ length (now output) ⌝ }
     ensures { λ r. ⌜ exits r (lend (now (table .exit))) (now (output .exit)) ≡ atExit (lend (now (table .entry))) (now (output .entry)) (accepted (requested (lend (now (table .entry))) flags lifetime (allWithDOAndRF ∷ []))) ⌝ }
 {
     let head = common::number_head(row::read_head(table), true);

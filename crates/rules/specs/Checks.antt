@@ -1,7 +1,9 @@
 -- Checks that several calls have in common. Assumes nothing.
-use Prim.Native.Nat.{ℕ, _-_, _^_}
+use Prim.Native.Nat.{ℕ}
 use mathlib.Core.Bool.{not}
 use mathlib.Core.List.{List}
+use Rattle.rules.specs.Outcome.{leastOutput}
+use Rattle.table.specs.Row.{maxClock}
 use Rattle.table.specs.declared.address.Address.{Address}
 use Rattle.table.specs.Address.{individual, same}
 use Rattle.table.specs.Layout.{sized}
@@ -12,13 +14,13 @@ use Rattle.rules.specs.Decision.{Check, refuse_when_, _then_, _above_, _
 abbrev pub bufferChecks : List ℕ → ℕ → List Check
 bufferChecks t room =
     refuse 1 when not (sized t)
-    then refuse 2 when room below 1560
+    then refuse 2 when room below leastOutput
 
 -- of a call with an output, a clock c and a neighbour
 unfoldable pub operandChecks : List ℕ → ℕ → ℕ → Address → List Check
 operandChecks t room c neighbour =
     bufferChecks t room
-    then refuse 3 when c above 2 ^ 48 - 1
+    then refuse 3 when c above maxClock
     then refuse 4 when not (individual neighbour)
 
 -- of a clock c and of a neighbour, by the state

@@ -19,7 +19,7 @@ use Rattle.element.specs.declared.RrepFields.{RrepFields}
 use Rattle.element.specs.Element.{rrep}
 use Rattle.element.specs.Lists.{allOnes}
 use Rattle.element.specs.Flags.{replyWanted, hasDO, hasRF, withDO}
-use Rattle.rules.specs.Outcome.{Frame}
+use Rattle.rules.specs.Outcome.{Frame, initialTtl}
 use Rattle.rules.specs.declared.Arrival.{Arrival}
 
 -- what destinations come to: the own number, the replies, and the destinations that are kept
@@ -35,7 +35,7 @@ replyFields p destination number hops metric =
       path = record {
         flags = 0;
         hops = hops;
-        ttl = 31;
+        ttl = initialTtl;
         subject = destination;
         number = number;
         lifetime = p .lifetime;

@@ -3,6 +3,7 @@ use Prim.Native.Nat.{ℕ, _-_, _^_}
 use mathlib.Core.Bool.{not}
 use mathlib.Core.List.{List}
 use mathlib.Core.Option.{Option, Option·getD}
+use Rattle.table.specs.Row.{maxClock}
 use Rattle.table.specs.declared.address.Address.{Address}
 use Rattle.table.specs.Address.{individual}
 use Rattle.table.specs.Layout.{sized}
@@ -14,7 +15,7 @@ abbrev pub findingNextHop : List ℕ → ℕ → Address → Ruling Address
 findingNextHop t c destination =
     let next : Option Address = activeNext c (rowFor t destination) in do
       refuse 1 when not (sized t)
-      refuse 3 when c above 2 ^ 48 - 1
+      refuse 3 when c above maxClock
       refuse 9 when not (individual destination)
       refuse 21 when not (isTable t)
       refuse 22 when c below clock t

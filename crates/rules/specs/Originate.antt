@@ -25,7 +25,7 @@ use Rattle.element.specs.Lists.{addressesIn, allOnes, anyForbidden, among, twic
 use Rattle.rules.specs.Decision.{Decision, Check, Ruling, decide, refuse_when_, _then_, _above_, accept, _>>_}
 use Rattle.rules.specs.Checks.{bufferChecks}
 use Rattle.rules.specs.Lists.{any}
-use Rattle.rules.specs.Outcome.{Lent, withTable, Effect}
+use Rattle.rules.specs.Outcome.{Lent, withTable, Effect, initialTtl}
 use Rattle.rules.specs.Onward.{toAll}
 
 -- ---- what all three have in common
@@ -42,7 +42,7 @@ ownPath h flags lifetime =
     record {
       flags = flags;
       hops = record { 0 = 0 };
-      ttl = 31;
+      ttl = initialTtl;
       subject = h .own;
       number = h .number;
       lifetime = lifetime;

@@ -12,6 +12,14 @@ use Rattle.element.specs.Element.{Element}
 use Rattle.element.specs.Octets.{writeFrame}
 use Rattle.rules.specs.Decision.{Decision, refused, accepted}
 
+-- octets of an output that holds the frames of any call
+abbrev pub leastOutput : ℕ
+leastOutput = 1560
+
+-- the TTL of an element that a point sends of itself, or replies with
+abbrev pub initialTtl : ℕ
+initialTtl = 31
+
 -- a frame is a receiver address and an element
 pub record Frame : Type 0 where
   pub receiver : Address

@@ -27,7 +27,7 @@ use Rattle.rules.specs.Lists.{any, those, has}
 use Rattle.element.specs.Flags.{unicast}
 use Rattle.rules.specs.Outcome.{Lent, withTable, Effect, underHead}
 use Rattle.rules.specs.declared.Arrival.{Arrival}
-use Rattle.rules.specs.Learn.{metricHere, learnt}
+use Rattle.rules.specs.Learn.{metricHere, maxMetric, mostHops, learnt}
 use Rattle.rules.specs.Destinations.{Answered, allAnswered}
 use Rattle.rules.specs.Onward.{rannOnward, rreqOnward, rrepOnward, toAll}
 use Rattle.rules.specs.Errors.{matches, isMatch, erred}
@@ -98,8 +98,8 @@ fieldChecks badAddress badList lowTtl a path =
     refuse 9 when badAddress
     then refuse 10 when badList
     then refuse 11 when has (λ p. eqb (p .lifetime) 0) path
-    then refuse 12 when has (λ p. eqb (p .hops .0) 255) path
-    then refuse 13 when has (λ p. metricHere a p .0 above 2 ^ 32 - 2) path
+    then refuse 12 when has (λ p. eqb (p .hops .0) mostHops) path
+    then refuse 13 when has (λ p. metricHere a p .0 above maxMetric) path
     then refuse 14 when lowTtl
 
 -- ---- turned away by the state

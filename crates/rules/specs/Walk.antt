@@ -6,6 +6,7 @@ use mathlib.Core.List.{List, [], _∷_, map}
 use mathlib.Core.Option.{Option, none, some}
 use lib.Dec.{eqb, leb}
 use lib.ListN.{length, take, drop}
+use Rattle.table.specs.Row.{maxClock}
 use Rattle.table.specs.declared.address.Address.{Address}
 use Rattle.table.specs.declared.row.Row.{Row}
 use Rattle.table.specs.Address.{individual, same, addressOf}
@@ -96,7 +97,7 @@ tableChecks tables c =
 abbrev pub walking : List ℕ → ℕ → ℕ → Address → Address → Ruling Walked
 walking octets count c start destination = do
   refuse 1 when not (sideBySide octets count)
-  refuse 3 when c above 2 ^ 48 - 1
+  refuse 3 when c above maxClock
   refuse 9 when not (individual destination)
   refuse 10 when not (among start (points (tablesIn octets count))) || twice (points (tablesIn octets count))
   -- 21 and 22

@@ -1,5 +1,6 @@
 // A table of four rows: filled, two rows apart made free again, these taken by one announcement that needs two, and a further
 // one refused with 27. The bench cannot show this: its 16 points are too few for their 16 rows, and it has no command to forget.
+use calls::LEAST_OUTPUT;
 use calls::Outcome;
 use counters::Metric;
 use counters::SequenceNumber;
@@ -56,7 +57,7 @@ fn print_answer(call: &[u8], answer: u32) {
 
 // The announcement of one point, received from another or from itself.
 fn hear(table: &mut [u8], originator: u8, transmitter: u8) {
-    let mut output = [0u8; 1560];
+    let mut output = [0u8; LEAST_OUTPUT];
     let arrival = Arrival {
         clock: 0,
         transmitter: point(transmitter),

@@ -22,7 +22,7 @@ use Rattle.element.specs.Entries.{each}
 use Rattle.element.specs.Octets.{wrongLength, otherId, misfit, writeElement}
 use Rattle.rules.specs.Decision.{Decision, refused, accepted}
 use Rattle.rules.specs.Lists.{all, has}
-use Rattle.rules.specs.Outcome.{Frame, lend, Effect}
+use Rattle.rules.specs.Outcome.{Frame, lend, Effect, leastOutput}
 use Rattle.rules.specs.Errors.{ownError}
 use Rattle.rules.specs.Receive.{receive}
 use Rattle.rules.specs.Break.{breakNeighbour}
@@ -117,7 +117,7 @@ error destinations = writeElement (rerr ownError destinations)
 
 -- receive the element s over a link of this metric, at clock c, and at clock 0
 abbrev heardAt : ℕ → List ℕ → ℕ → List ℕ → Decision Effect
-heardAt c t link s = receive (lend t) 1560 (record { clock = c; transmitter = transmitter; link = record { 0 = link } }) s
+heardAt c t link s = receive (lend t) leastOutput (record { clock = c; transmitter = transmitter; link = record { 0 = link } }) s
 
 abbrev heard : List ℕ → ℕ → List ℕ → Decision Effect
 heard t link s = heardAt 0 t link s
@@ -189,7 +189,7 @@ edges =
     ∷ acceptedWith (leavesRow 1 9 39) (heard (tableOf 0 (row 2 originator 9 40 ∷ freeRow ∷ [])) 14 (announcement 9 25))
     -- P6: break on number 4,294,967,295, metric 30: number 0, metric 4,294,967,295
     ∷ acceptedWith (leavesRow 2 0 4294967295)
-    (breakNeighbour (lend (tableOf 0 (row 1 originator 4294967295 30 ∷ []))) 1560 0 transmitter)
+    (breakNeighbour (lend (tableOf 0 (row 1 originator 4294967295 30 ∷ []))) leastOutput 0 transmitter)
     -- P7: own 12, requested 40: reply 41; requested 5: 13
     ∷ acceptedWith (repliesWith 41) (heard (tableOf 12 (freeRow ∷ freeRow ∷ [])) 10 (request (target point 40 ∷ [])))
     ∷ acceptedWith (repliesWith 13) (heard (tableOf 12 (freeRow ∷ freeRow ∷ [])) 10 (request (target point 5 ∷ [])))

@@ -13,7 +13,7 @@ use Rattle.table.specs.declared.address.Address.{Address}
 use Rattle.table.specs.Address.{same}
 use Rattle.element.specs.Lists.{twice}
 use Rattle.rules.specs.Decision.{Decision, refused}
-use Rattle.rules.specs.Outcome.{Lent, lend, Effect, Exit, atExit}
+use Rattle.rules.specs.Outcome.{Lent, lend, Effect, Exit, atExit, leastOutput}
 use Rattle.rules.specs.Calls.{Call, asks, announces, requestsAsRoot, breaks, outcome}
 use Rattle.rules.specs.Walk.{Walked, walkedAtExit, walk}
 use Rattle.theorems.specs.Mesh.{Rules, Point, Mesh, start, boxOf, Action, delivers, makes, Event, callOf, happen, run, throughout, met}
@@ -47,7 +47,7 @@ pointWith rows n a = record { address = a; number = record { 0 = n }; rows = row
 
 -- the point p makes a call, with an output of 1,560 octets
 abbrev pub does : Address → Action → Event
-does p action = record { point = p; room = 1560; action = action }
+does p action = record { point = p; room = leastOutput; action = action }
 
 -- p receives the element at this place of the log, over a link of this metric, at this clock
 infix 70 _gets_over_at_

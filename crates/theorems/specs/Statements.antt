@@ -21,7 +21,7 @@ use Rattle.element.specs.Octets.{wrongLength, otherId, misfit, readElement, wri
 use Rattle.element.specs.Lists.{twice}
 use Rattle.rules.specs.Decision.{accepted}
 use Rattle.rules.specs.Lists.{all}
-use Rattle.rules.specs.Outcome.{Frame, Lent, Effect, frameOctets}
+use Rattle.rules.specs.Outcome.{Frame, Lent, Effect, frameOctets, leastOutput}
 use Rattle.rules.specs.Fresh.{makeFresh}
 use Rattle.rules.specs.Forget.{forget}
 use Rattle.rules.specs.Errors.{broken}
@@ -69,7 +69,7 @@ abbrev pub HasRoom : Type 0
 HasRoom =
     (l : Lent) → Octets (l .table) → (room : ℕ) (call : Call) → OperandsFit call
     → (e : Effect) → outcome l room call ≡ accepted e
-    → length (frameOctets (e .frames)) ≤ 1560
+    → length (frameOctets (e .frames)) ≤ leastOutput
 
 -- ---- reads back (`reads-back`)
 

@@ -9,7 +9,7 @@ answer-spec =
     tie.close
     (tie.spec
     (λ c κs. search needs)
-    (λ c κs. (search needs, (search (replies-room, needs), (search needs, (search needs, (search needs, search needs))))))
+    (λ c κs. (search needs, (search (replies-room, needs), (search needs, (search needs, search needs)))))
     (λ c κs. (search replies-few, (search replies-after, (search replies-short, (search onward-few, search onward-short)))))
     (λ c. search needs)
     (λ c. (search answer-counted, search answer-written)))
