@@ -17,16 +17,16 @@ pub fn check_operands(table: &[u8], output: &[u8], clock: u64, neighbour: Addres
     ensures { λ r. ⌜ r ≡ answerTo (operandChecks (now (table .entry)) (length (now (output .entry))) clock neighbour) ⌝ }
 {
     if !legal::is_sized(table) {
-        return Answer::Refused(1);
+        return Answer::Refused(refusals::TABLE_LENGTH);
     }
     if output.len() < crate::LEAST_OUTPUT {
-        return Answer::Refused(2);
+        return Answer::Refused(refusals::SHORT_OUTPUT);
     }
     if legal::MAX_CLOCK < clock {
-        return Answer::Refused(3);
+        return Answer::Refused(refusals::CLOCK_TOO_LARGE);
     }
     if !neighbour.is_individual() {
-        return Answer::Refused(4);
+        return Answer::Refused(refusals::BAD_NEIGHBOUR);
     }
     Answer::Accepted
 }
@@ -37,14 +37,14 @@ pub fn check_state(table: &[u8], clock: u64, neighbour: Address) -> Answer
     ensures { λ r. ⌜ r ≡ answerTo (stateChecks (now (table .entry)) clock neighbour) ⌝ }
 {
     if !legal::is_table(table) {
-        return Answer::Refused(21);
+        return Answer::Refused(refusals::NOT_A_TABLE);
     }
     let head = row::read_head(table);
     if clock < head.clock {
-        return Answer::Refused(22);
+        return Answer::Refused(refusals::OLD_CLOCK);
     }
     if neighbour.0 == head.own.0 {
-        return Answer::Refused(23);
+        return Answer::Refused(refusals::FROM_ITSELF);
     }
     Answer::Accepted
 }

@@ -194,15 +194,15 @@ pub fn read(element: &[u8]) -> Reading
     ensures { λ r. ⌜ r ≡ reading (now (element .entry)) ⌝ }
 {
     if has_wrong_length(element) {
-        return Reading::Refused(6);
+        return Reading::Refused(refusals::ELEMENT_LENGTH);
     }
     let id = octets::read_u8(element, 0);
     let kind = kind_with(id);
     if id != id_of(kind) {
-        return Reading::Refused(7);
+        return Reading::Refused(refusals::UNKNOWN_ID);
     }
     if !fits_kind(element, kind) {
-        return Reading::Refused(8);
+        return Reading::Refused(refusals::BAD_COUNT);
     }
     read_fixed_fields(element, kind)
 }

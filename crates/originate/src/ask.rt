@@ -58,13 +58,13 @@ fn check_items(items: &[u8]) -> Answer
     ensures { λ r. ⌜ r ≡ answerTo (itemChecks (now (items .entry))) ⌝ }
 {
     if !is_item_list(items) {
-        return Answer::Refused(8);
+        return Answer::Refused(refusals::BAD_COUNT);
     }
     if list::has_forbidden(items, ListKind::Items) {
-        return Answer::Refused(9);
+        return Answer::Refused(refusals::BAD_ADDRESS);
     }
     if list::has_twice(items, ListKind::Items) | has_high_flags(items) {
-        return Answer::Refused(10);
+        return Answer::Refused(refusals::BAD_LIST);
     }
     Answer::Accepted
 }
@@ -73,22 +73,22 @@ fn check(table: &[u8], output: &[u8], lifetime: u32, items: &[u8]) -> Answer
     ensures { λ r. ⌜ r ≡ answerTo (asking (lend (now (table .entry))) (length (now (output .entry))) lifetime (now (items .entry)) .checks) ⌝ }
 {
     if !legal::is_sized(table) {
-        return Answer::Refused(1);
+        return Answer::Refused(refusals::TABLE_LENGTH);
     }
     if output.len() < calls::LEAST_OUTPUT {
-        return Answer::Refused(2);
+        return Answer::Refused(refusals::SHORT_OUTPUT);
     }
     if let Answer::Refused(n) = check_items(items) {
         return Answer::Refused(n);
     }
     if lifetime == 0 {
-        return Answer::Refused(11);
+        return Answer::Refused(refusals::NO_LIFETIME);
     }
     if !legal::is_table(table) {
-        return Answer::Refused(21);
+        return Answer::Refused(refusals::NOT_A_TABLE);
     }
     if list::is_among(items, ListKind::Items, row::read_head(table).own) {
-        return Answer::Refused(24);
+        return Answer::Refused(refusals::ABOUT_ITSELF);
     }
     Answer::Accepted
 }

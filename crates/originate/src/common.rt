@@ -28,19 +28,19 @@ pub fn check(table: &[u8], output: &[u8], barred: bool, lifetime: u32) -> Answer
     ensures { λ r. ⌜ r ≡ answerTo (originating {A = Unit {0}} (now (table .entry)) (length (now (output .entry))) barred lifetime tt .checks) ⌝ }
 {
     if !legal::is_sized(table) {
-        return Answer::Refused(1);
+        return Answer::Refused(refusals::TABLE_LENGTH);
     }
     if output.len() < calls::LEAST_OUTPUT {
-        return Answer::Refused(2);
+        return Answer::Refused(refusals::SHORT_OUTPUT);
     }
     if barred {
-        return Answer::Refused(10);
+        return Answer::Refused(refusals::BAD_LIST);
     }
     if lifetime == 0 {
-        return Answer::Refused(11);
+        return Answer::Refused(refusals::NO_LIFETIME);
     }
     if !legal::is_table(table) {
-        return Answer::Refused(21);
+        return Answer::Refused(refusals::NOT_A_TABLE);
     }
     Answer::Accepted
 }

@@ -34,7 +34,7 @@ fn check_state(table: &[u8], a: Arrival, part: &[u8]) -> Answer
         return Answer::Refused(n);
     }
     if matching::matches_nothing(table, a, part) {
-        return Answer::Refused(26);
+        return Answer::Refused(refusals::NO_MATCH);
     }
     Answer::Accepted
 }
@@ -45,10 +45,10 @@ fn check(table: &[u8], a: Arrival, f: RerrFields, part: &[u8]) -> Answer
     ensures { λ r. ⌜ r ≡ answerTo (judging (lend (now (table .entry))) a (rerr f (lostIn (now (part .entry)))) .checks) ⌝ }
 {
     if list::has_forbidden(part, ListKind::LostDestinations) {
-        return Answer::Refused(9);
+        return Answer::Refused(refusals::BAD_ADDRESS);
     }
     if list::has_twice(part, ListKind::LostDestinations) {
-        return Answer::Refused(10);
+        return Answer::Refused(refusals::BAD_LIST);
     }
     check_state(table, a, part)
 }

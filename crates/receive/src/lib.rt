@@ -29,7 +29,7 @@ fn check_arrival(table: &[u8], output: &[u8], a: Arrival) -> Answer
         return Answer::Refused(n);
     }
     if a.link.0 == 0 {
-        return Answer::Refused(5);
+        return Answer::Refused(refusals::NO_LINK);
     }
     Answer::Accepted
 }

@@ -37,22 +37,22 @@ fn check_fields(a: Arrival, p: PathInfo, faults: Faults) -> Answer
     ensures { λ r. ⌜ r ≡ answerTo (fieldChecks (faults .address) (faults .list) (faults .ttl) a (some p)) ⌝ }
 {
     if faults.address {
-        return Answer::Refused(9);
+        return Answer::Refused(refusals::BAD_ADDRESS);
     }
     if faults.list {
-        return Answer::Refused(10);
+        return Answer::Refused(refusals::BAD_LIST);
     }
     if p.lifetime == 0 {
-        return Answer::Refused(11);
+        return Answer::Refused(refusals::NO_LIFETIME);
     }
     if p.hops.0 == 255 {
-        return Answer::Refused(12);
+        return Answer::Refused(refusals::TOO_MANY_HOPS);
     }
     if is_too_far(a, p) {
-        return Answer::Refused(13);
+        return Answer::Refused(refusals::METRIC_TOO_LARGE);
     }
     if faults.ttl {
-        return Answer::Refused(14);
+        return Answer::Refused(refusals::LOW_TTL);
     }
     Answer::Accepted
 }
@@ -63,14 +63,14 @@ fn check_rows(table: &[u8], a: Arrival, p: PathInfo) -> Judged
     ensures { λ r. ⌜ r ≡ judgedBy (now (table .entry)) p (rowChecks (now (table .entry)) a false (some p)) ⌝ }
 {
     if p.subject.0 == row::read_head(table).own.0 {
-        return Judged::Refused(24);
+        return Judged::Refused(refusals::ABOUT_ITSELF);
     }
     let found = search::find_row(table, p.subject);
     if stale::is_stale(table, found, a, p) {
-        return Judged::Refused(25);
+        return Judged::Refused(refusals::STALE);
     }
     if room::lacks_rows(table, found, a, p) {
-        return Judged::Refused(27);
+        return Judged::Refused(refusals::NO_ROOM);
     }
     Judged::Accepted(found)
 }

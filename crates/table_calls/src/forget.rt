@@ -22,17 +22,17 @@ fn row_to_free(table: &[u8], destination: Address) -> Check
     ensures { λ r. ⌜ ToFree (now (table .entry)) destination r ⌝ }
 {
     if !legal::is_sized(table) {
-        return Check::Refused(1);
+        return Check::Refused(refusals::TABLE_LENGTH);
     }
     if !destination.is_individual() {
-        return Check::Refused(9);
+        return Check::Refused(refusals::BAD_ADDRESS);
     }
     if !legal::is_table(table) {
-        return Check::Refused(21);
+        return Check::Refused(refusals::NOT_A_TABLE);
     }
     match search::find_row(table, destination) {
         Found::At(i) => Check::Row(i),
-        Found::Nothing => Check::Refused(29),
+        Found::Nothing => Check::Refused(refusals::NOT_HELD),
     }
 }
 

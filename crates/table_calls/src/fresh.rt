@@ -13,10 +13,10 @@ pub fn make_fresh(table: &mut [u8], own: Address, number: SequenceNumber) -> Ans
     ensures { λ r. ⌜ leaves r (now (table .exit)) ≡ left (now (table .entry)) (makeFresh (now (table .entry)) own number) ⌝ }
 {
     if !legal::is_sized(table) {
-        return Answer::Refused(1);
+        return Answer::Refused(refusals::TABLE_LENGTH);
     }
     if !own.is_individual() {
-        return Answer::Refused(9);
+        return Answer::Refused(refusals::BAD_ADDRESS);
     }
     store::make_fresh(table, own, number);
     Answer::Accepted

@@ -18,22 +18,22 @@ pub fn next_hop(table: &[u8], clock: u64, destination: Address) -> Hop
     ensures { λ r. ⌜ decisionOf r ≡ nextHop (now (table .entry)) clock destination ⌝ }
 {
     if !legal::is_sized(table) {
-        return Hop::Refused(1);
+        return Hop::Refused(refusals::TABLE_LENGTH);
     }
     if legal::MAX_CLOCK < clock {
-        return Hop::Refused(3);
+        return Hop::Refused(refusals::CLOCK_TOO_LARGE);
     }
     if !destination.is_individual() {
-        return Hop::Refused(9);
+        return Hop::Refused(refusals::BAD_ADDRESS);
     }
     if !legal::is_table(table) {
-        return Hop::Refused(21);
+        return Hop::Refused(refusals::NOT_A_TABLE);
     }
     if clock < row::read_head(table).clock {
-        return Hop::Refused(22);
+        return Hop::Refused(refusals::OLD_CLOCK);
     }
     match search::active_next(table, clock, destination) {
         NextHop::To(next) => Hop::Via(next),
-        NextHop::Nobody => Hop::Refused(28),
+        NextHop::Nobody => Hop::Refused(refusals::NO_NEXT_HOP),
     }
 }

@@ -13,6 +13,11 @@ ghost use Rattle.calls.specs.Answers.{answerTo};
 ghost use Rattle.walk.specs.Answers.{decisionOf, numbersOf};
 ghost use Rattle.walk.specs.Pieces.{Pieces, pieces};
 
+// The answers of a walk that does not arrive: nowhere to go on to, and as many hops as points.
+const NO_ROUTE: u32 = 41;
+
+const TOO_LONG: u32 = 42;
+
 // How a walk ends, with the hops walked, or a refusal.
 pub enum Ending {
     Arrived(HopCount),
@@ -38,11 +43,11 @@ pub fn in_numbers(ending: Ending) -> Walked
             hops: hops.0 as u32,
         },
         Ending::Stopped(hops) => Walked {
-            answer: 41,
+            answer: NO_ROUTE,
             hops: hops.0 as u32,
         },
         Ending::TooLong(hops) => Walked {
-            answer: 42,
+            answer: TOO_LONG,
             hops: hops.0 as u32,
         },
         Ending::Refused(answer) => Walked { answer, hops: 0 },
@@ -71,10 +76,10 @@ fn check_state(tables: &[u8], long: usize, count: usize, clock: u64) -> Answer
     ensures { λ r. ⌜ r ≡ answerTo (tableChecks (pieces (now (tables .entry)) long count) clock) ⌝ }
 {
     if pieces::has_non_table(tables, long, count) {
-        return Answer::Refused(21);
+        return Answer::Refused(refusals::NOT_A_TABLE);
     }
     if pieces::has_later_clock(tables, long, count, clock) {
-        return Answer::Refused(22);
+        return Answer::Refused(refusals::OLD_CLOCK);
     }
     Answer::Accepted
 }
@@ -84,17 +89,17 @@ fn check(tables: &[u8], count: usize, clock: u64, start: Address, destination: A
     ensures { λ r. ⌜ r ≡ answerTo (walking (now (tables .entry)) count clock start destination .checks) ⌝ }
 {
     if !are_side_by_side(tables, count) {
-        return Answer::Refused(1);
+        return Answer::Refused(refusals::TABLE_LENGTH);
     }
     if legal::MAX_CLOCK < clock {
-        return Answer::Refused(3);
+        return Answer::Refused(refusals::CLOCK_TOO_LARGE);
     }
     if !destination.is_individual() {
-        return Answer::Refused(9);
+        return Answer::Refused(refusals::BAD_ADDRESS);
     }
     let long = tables.len() / count;
     if !pieces::is_point(tables, long, count, start) | pieces::has_twice(tables, long, count) {
-        return Answer::Refused(10);
+        return Answer::Refused(refusals::BAD_LIST);
     }
     check_state(tables, long, count, clock)
 }
