@@ -1,6 +1,6 @@
 -- The errors of a break: written one destination after another, and closed, they are the frames that the rules say.
 -- Assumes nothing.
-use Prim.Native.Nat.{ℕ, zero, suc, _+_, _*_, _/_, _%_, _<_, _≤_}
+use Prim.Native.Nat.{ℕ, zero, suc, _+_, _-_, _*_, _/_, _%_, _<_, _≤_}
 use mathlib.Core.Path.{_≡_, refl, sym, ap, ap₂, _∙_}
 use mathlib.Core.Bool.{Bool, true, false, cond}
 use mathlib.Core.List.{List, [], _∷_, _++_, append-nil, append-assoc, flatMap}
@@ -24,7 +24,8 @@ use Rattle.element.proofs.ListParts.{losses-length}
 use Rattle.element.proofs.Written.{frame-parts, lost-length}
 use Rattle.rules.specs.Outcome.{Frame, frameOctets}
 use Rattle.rules.specs.Errors.{ownError, errorAt, errorsTaken, errorsFor}
-use Rattle.breaking.specs.Reports.{octetsFor, errorStart, begunBefore, begunAfter, closed}
+use Rattle.breaking.specs.Reports.{octetsFor, errorStart, begunBefore, begunAfter, filledBy, begunFor, reportedAfter, closed}
+use Rattle.breaking.specs.declared.errors.Reported.{Reported}
 
 -- ---- as the functions ask it
 
@@ -53,42 +54,56 @@ module _ (k : ℕ) where
   unfolding begunBefore
   before-one e = rw (eq-eqb (k % 25) 0 e)
 
-  -- after those from a place on, which take n octets
-  module _ (from n : ℕ) (ne : n ≡ octetsFor k) where
-    pub next-there : (k % 25 ≡ 0 → ⊥) → from + n ≡ from + octetsFor k + length (begunBefore k)
-    next-there e = rw (before-none e) (omega arith)
+pub same-reported : (a b : Reported) → a .lost ≡ b .lost → a .place ≡ b .place → a .full ≡ b .full → a ≡ b
+same-reported a b l p f =
+    ap₂ (λ (k q : ℕ). record { lost = k; place = q; full = a .full }) l p
+    ∙ ap (λ (m : ℕ). record { lost = b .lost; place = b .place; full = m }) f
 
-    module _ (e : k % 25 ≡ 0) where
-      pub next-begun : (at : ℕ) → at ≡ from + n + 10 → at ≡ from + octetsFor k + length (begunBefore k)
-      next-begun at ae = rw (before-one e) (omega (arith, start-long 25))
+-- before the next, nothing is begun or a RERR is
+module _ (b : Reported) (fe : b .full ≡ filledBy (b .lost)) where
+  module _ (apart : b .lost ≡ b .full → ⊥) where
+    inside : b .lost % 25 ≡ 0 → ⊥
+    inside z = apart (omega arith)
 
-      pub next-starts : (s t : List ℕ) → t ≡ over s (from + n) (errorStart 25) → t ≡ over s (from + octetsFor k) (begunBefore k)
-      next-starts s t te = rw (before-one e, ← ne) te
+    pub next-there : b ≡ begunFor b
+    unfolding begunFor
+    next-there =
+        let none : length (begunBefore (b .lost)) ≡ 0 = ap length (before-none (b .lost) inside) in
+        let rest = inside in
+        same-reported b _ refl (omega arith) (omega arith)
 
-  pub next-same : (k % 25 ≡ 0 → ⊥) → (s : List ℕ) (at : ℕ) → s ≡ over s at (begunBefore k)
-  unfolding over
-  next-same e s at = rw (before-none e)
+    pub next-same : (s : List ℕ) (at : ℕ) → s ≡ over s at (begunBefore (b .lost))
+    unfolding over
+    next-same s at = rw (before-none (b .lost) inside)
 
-  module _ (from at : ℕ) (ae : at ≡ from + octetsFor k + length (begunBefore k)) where
-    pub next-fits : (s t : List ℕ) → from + octetsFor (k + 1) ≤ length s → length t ≡ length s → at + 10 ≤ length t
-    next-fits s t l same-length = omega (arith, before-long k)
+  module _ (same : b .lost ≡ b .full) where
+    filled : b .lost % 25 ≡ 0
+    filled = omega arith
 
-    pub entry-added : (s t u : List ℕ) (x : LostDestination) → t ≡ over s (from + octetsFor k) (begunBefore k) → u ≡ over t at (lostOctets x)
-        → u ≡ over s (from + octetsFor k) (begunAfter k (x ∷ []))
-    unfolding begunAfter
-    entry-added s t u x te ue =
-        ue ∙ ap₂ (λ (l : List ℕ) (p : ℕ). over l p (lostOctets x)) te ae
-        ∙ sym (over-append s (from + octetsFor k) (begunBefore k) (lostOctets x))
-        ∙ ap (λ (l : List ℕ). over s (from + octetsFor k) (begunBefore k ++ l)) (sym (append-nil (lostOctets x)))
+    pub next-begun : (p : ℕ) → p ≡ b .place + 10 → record { lost = b .lost; place = p; full = b .full + 25 } ≡ begunFor b
+    unfolding begunFor
+    next-begun p pe =
+        let ten : length (begunBefore (b .lost)) ≡ 10 = ap length (before-one (b .lost) filled) ∙ start-long 25 in
+        same-reported _ _ refl (omega arith) (omega arith)
 
-module _ (s : List ℕ) (at k n : ℕ) (ne : n ≡ k % 25) where
-  pub close-none : n ≡ 0 → s ≡ closed s at k
-  unfolding closed
-  close-none e = rw (eq-eqb (k % 25) 0 (sym ne ∙ e))
+    pub next-starts : (s t : List ℕ) (at : ℕ) → t ≡ over s at (errorStart 25) → t ≡ over s at (begunBefore (b .lost))
+    next-starts s t at te = rw (before-one (b .lost) filled) te
 
-  pub close-last : (n ≡ 0 → ⊥) → (t : List ℕ) → t ≡ over s (at + 260 * (k / 25)) (errorStart n) → t ≡ closed s at k
-  unfolding closed
-  close-last e t te = rw (ne-eqb (k % 25) 0 (λ q. e (ne ∙ q)), ← ne) te
+  -- the last RERR has its count or gets it
+  module _ (s : List ℕ) (at : ℕ) where
+    pub close-none : b .lost ≡ b .full → s ≡ closed s at (b .lost)
+    unfolding closed
+    close-none same = rw (eq-eqb (b .lost % 25) 0 (filled same))
+
+    pub close-last : b .place ≡ at + octetsFor (b .lost) → (b .lost ≡ b .full → ⊥) → (t : List ℕ)
+        → t ≡ over s (b .place - (10 + 10 * (b .lost + 25 - b .full))) (errorStart (b .lost + 25 - b .full)) → t ≡ closed s at (b .lost)
+    unfolding closed
+    close-last pe apart t te =
+        let k : ℕ = b .lost in
+        let rest = inside apart in
+        let count : k + 25 - b .full ≡ k % 25 = omega arith in
+        let start : b .place - (10 + 10 * (k + 25 - b .full)) ≡ at + 260 * (k / 25) = omega arith in
+        rw (ne-eqb (k % 25) 0 (inside apart)) (te ∙ ap₂ (λ (p n : ℕ). over s p (errorStart n)) start count)
 
 -- ---- destinations one after another
 
@@ -118,6 +133,31 @@ begun-length k (x ∷ l) =
       before-long k,
       begun-length (suc k) l,
     )
+
+-- one destination after those before, where a RERR is begun for it
+module _ (b g : Reported) (ge : g ≡ begunFor b) where
+  begun-place : g .place ≡ b .place + length (begunBefore (b .lost))
+  unfolding begunFor
+  begun-place = ap (λ (r : Reported). r .place) ge
+
+  pub entry-fits : (s t : List ℕ) → b .place + octetsFor (b .lost + 1) ≤ length s + octetsFor (b .lost) → length t ≡ length s
+      → g .place + 10 ≤ length t
+  entry-fits s t l same-length = omega (arith, before-long (b .lost), begun-place)
+
+  pub entry-after : (x : LostDestination) (p : ℕ) → p ≡ g .place + 10
+      → record { lost = b .lost + 1; place = p; full = g .full } ≡ reportedAfter b (x ∷ [])
+  unfolding begunFor reportedAfter
+  entry-after x p pe =
+      same-reported _ _ refl (omega (arith, before-long (b .lost), begun-place, begun-length (b .lost) (x ∷ [])))
+      (ap (λ (r : Reported). r .full) ge)
+
+  pub entry-added : (s t u : List ℕ) (x : LostDestination) → t ≡ over s (b .place) (begunBefore (b .lost)) → u ≡ over t (g .place) (lostOctets x)
+      → u ≡ over s (b .place) (begunAfter (b .lost) (x ∷ []))
+  unfolding begunAfter
+  entry-added s t u x te ue =
+      ue ∙ ap₂ (λ (l : List ℕ) (n : ℕ). over l n (lostOctets x)) te begun-place
+      ∙ sym (over-append s (b .place) (begunBefore (b .lost)) (lostOctets x))
+      ∙ ap (λ (l : List ℕ). over s (b .place) (begunBefore (b .lost) ++ l)) (sym (append-nil (lostOctets x)))
 
 -- after 25 more it goes on as before
 begun-shift : (k : ℕ) (l : List LostDestination) → begunAfter (k + 25) l ≡ begunAfter k l

@@ -33,10 +33,10 @@ fn break_off(table: &mut [u8], output: &mut [u8], clock: u64, neighbour: Address
     ensures { λ r. ⌜ exits r (lend (now (table .exit))) (now (output .exit)) ≡ atExit (lend (now (table .entry))) (now (output .entry)) (accepted (brokenOff (lend (now (table .entry))) clock (isThrough clock neighbour))) ⌝ }
 {
     let head = row::read_head(table);
-    let lost = report::report(output, 0, table, clock, neighbour);
-    rows::lose_rows(table, clock, neighbour);
+    let reported = report::report(output, 0, table, clock, neighbour);
+    rows::lose_rows(table, clock, neighbour, reported.lost);
     clocked::store_head(table, head, head.number, clock);
-    Outcome::Accepted(errors::emitted(lost))
+    Outcome::Accepted(errors::emitted(reported.lost, reported.place))
 }
 
 pub fn break_neighbour(

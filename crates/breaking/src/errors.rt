@@ -14,36 +14,35 @@ ghost use lib.ListN.{length};
 ghost use Rattle.octets.specs.LittleEndian.{over};
 ghost use Rattle.table.specs.Layout.{mostRows};
 ghost use Rattle.rules.specs.Errors.{errorsTaken};
-ghost use Rattle.breaking.specs.Reports.{begunAfter, begunBefore, closed, errorStart, octetsFor};
+ghost use Rattle.breaking.specs.Reports.{begunAfter, begunBefore, begunFor, closed, errorStart};
+ghost use Rattle.breaking.specs.Reports.{filledBy, octetsFor, reportedAfter};
 
-// How many destinations a RERR names at most, and its octets then.
+// How many destinations a RERR names at most.
 const MOST_LOST: usize = 25;
 
-const FULL_ERROR: usize = write::RERR_START + list::LOST * MOST_LOST;
+// How many destinations are reported, the place after them, and how many fill the RERRs that were begun for them.
+pub struct Reported {
+    pub lost: usize,
+    pub place: usize,
+    pub full: usize,
+}
 
-// How many RERRs so many destinations take.
-fn errors_taken(lost: usize) -> usize
+// How many RERRs so many destinations take: in 32 bits, where a division is cheap.
+fn errors_taken(lost: usize) -> u32
     requires { ⌜ lost ≤ mostRows ⌝ }
     ensures { λ r. ⌜ r ≡ errorsTaken lost ⌝ }
 {
-    (lost + (MOST_LOST - 1)) / MOST_LOST
+    (lost as u32 + (MOST_LOST as u32 - 1)) / MOST_LOST as u32
 }
 
-// How many octets these take.
-fn octets_for(lost: usize) -> usize
+// What a break that lost so many destinations has written, in so many octets.
+pub fn emitted(lost: usize, octets: usize) -> Emitted
     requires { ⌜ lost ≤ mostRows ⌝ }
-    ensures { λ r. ⌜ r ≡ octetsFor lost ⌝ }
-{
-    list::LOST * lost + write::RERR_START * errors_taken(lost)
-}
-
-// What a break that lost so many destinations has written.
-pub fn emitted(lost: usize) -> Emitted
-    requires { ⌜ lost ≤ mostRows ⌝ }
+    requires { ⌜ octets ≡ octetsFor lost ⌝ }
     ensures { λ r. ⌜ r ≡ record { frames = errorsTaken lost; octets = octetsFor lost } ⌝ }
 {
-    let frames = errors_taken(lost) as u32;
-    let octets = octets_for(lost) as u32;
+    let frames = errors_taken(lost);
+    let octets = octets as u32;
     Emitted { frames, octets }
 }
 
@@ -58,38 +57,53 @@ fn begin(out: &mut [u8], at: usize, n: usize) -> usize
     write::start_rerr(out, at, Address(list::ALL_ONES), fields, n)
 }
 
-// Begins a RERR if those before are full. Answers where the next destination goes.
-fn begin_if_full(out: &mut [u8], at: usize, lost: usize) -> usize
-    requires { ⌜ lost ≤ mostRows ⌝ }
-    requires { ⌜ at + octetsFor (lost + 1) ≤ length (now out) ⌝ }
-    ensures { λ r. ⌜ r ≡ at + octetsFor lost + length (begunBefore lost) ⌝ }
-    ensures { λ _. ⌜ now (out .exit) ≡ over (now (out .entry)) (at + octetsFor lost) (begunBefore lost) ⌝ }
+// Begins a RERR after what was reported before, if that fills those begun.
+fn begin_if_full(out: &mut [u8], before: Reported) -> Reported
+    requires { ⌜ before .lost ≤ mostRows ⌝ }
+    requires { ⌜ before .full ≡ filledBy (before .lost) ⌝ }
+    requires { ⌜ before .place + octetsFor (before .lost + 1) ≤ length (now out) + octetsFor (before .lost) ⌝ }
+    ensures { λ r. ⌜ r ≡ begunFor before ⌝ }
+    ensures { λ _. ⌜ now (out .exit) ≡ over (now (out .entry)) (before .place) (begunBefore (before .lost)) ⌝ }
 {
-    let end = at + octets_for(lost);
-    if lost % MOST_LOST != 0 {
-        return end;
+    if before.lost != before.full {
+        return before;
     }
-    begin(out, end, MOST_LOST)
+    let place = begin(out, before.place, MOST_LOST);
+    let lost = before.lost;
+    let full = before.full + MOST_LOST;
+    Reported { lost, place, full }
 }
 
-// Adds a destination to those that were lost before.
-pub fn add(out: &mut [u8], at: usize, lost: usize, entry: LostDestination)
-    requires { ⌜ lost ≤ mostRows ⌝ }
-    requires { ⌜ at + octetsFor (lost + 1) ≤ length (now out) ⌝ }
-    ensures { λ _. ⌜ now (out .exit) ≡ over (now (out .entry)) (at + octetsFor lost) (begunAfter lost (entry ∷ [])) ⌝ }
+// Adds a destination to those reported before.
+pub fn add(out: &mut [u8], before: Reported, entry: LostDestination) -> Reported
+    requires { ⌜ before .lost ≤ mostRows ⌝ }
+    requires { ⌜ before .full ≡ filledBy (before .lost) ⌝ }
+    requires { ⌜ before .place + octetsFor (before .lost + 1) ≤ length (now out) + octetsFor (before .lost) ⌝ }
+    ensures { λ r. ⌜ r ≡ reportedAfter before (entry ∷ []) ⌝ }
+    ensures { λ _. ⌜ now (out .exit) ≡ over (now (out .entry)) (before .place) (begunAfter (before .lost) (entry ∷ [])) ⌝ }
 {
-    let place = begin_if_full(out, at, lost);
-    write::write_lost(out, place, entry);
+    let begun = begin_if_full(out, before);
+    let place = write::write_lost(out, begun.place, entry);
+    let lost = before.lost + 1;
+    let full = begun.full;
+    Reported { lost, place, full }
 }
 
-// Gives the last RERR its count, if that is not 25.
-pub fn close(out: &mut [u8], at: usize, lost: usize)
-    requires { ⌜ lost ≤ mostRows ⌝ }
+// Gives the last RERR of those reported from a place on its count, if that is not 25.
+pub fn close(out: &mut [u8], at: usize, reported: Reported)
+    requires { ⌜ reported .lost ≤ mostRows ⌝ }
+    requires { ⌜ reported .place ≡ at + octetsFor (reported .lost) ⌝ }
+    requires { ⌜ reported .full ≡ filledBy (reported .lost) ⌝ }
     requires { ⌜ at + octetsFor mostRows ≤ length (now out) ⌝ }
-    ensures { λ _. ⌜ now (out .exit) ≡ closed (now (out .entry)) at lost ⌝ }
+    ensures { λ _. ⌜ now (out .exit) ≡ closed (now (out .entry)) at (reported .lost) ⌝ }
 {
-    let n = lost % MOST_LOST;
-    if n != 0 {
-        begin(out, at + FULL_ERROR * (lost / MOST_LOST), n);
+    if reported.lost == reported.full {
+        return;
     }
+    let n = reported.lost + MOST_LOST - reported.full;
+    begin(
+        out,
+        reported.place - (write::RERR_START + list::LOST * n),
+        n,
+    );
 }

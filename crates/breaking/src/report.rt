@@ -1,5 +1,6 @@
 // The errors of a break: a pass over the rows that changes none of them.
 use crate::errors;
+use crate::errors::Reported;
 use crate::rows;
 use element::LostDestination;
 use table::address::Address;
@@ -15,37 +16,36 @@ ghost use Rattle.table.specs.Row.{isThrough};
 ghost use Rattle.element.specs.Entries.{each};
 ghost use Rattle.rules.specs.Errors.{brokenEntries, brokenEntry, errorsFor};
 ghost use Rattle.rules.specs.Outcome.{frameOctets};
-ghost use Rattle.breaking.specs.Reports.{begunAfter, octetsFor};
+ghost use Rattle.breaking.specs.Reports.{begunAfter, filledBy, octetsFor, reportedAfter, reportedFrom};
 
-// Adds the destination of row i to those lost before it, if the row leads through the neighbour. Answers how many are lost.
+// Adds the destination of row i to those reported before it, if the row leads through the neighbour.
 fn report_row(
     output: &mut [u8],
-    at: usize,
     table: &[u8],
     i: usize,
     clock: u64,
     neighbour: Address,
-    lost: usize,
-) -> usize
+    before: Reported,
+) -> Reported
     requires { ⌜ place i + rowOctets ≤ length (now table) ⌝ }
-    requires { ⌜ lost ≤ mostRows ⌝ }
-    requires { ⌜ at + octetsFor (lost + 1) ≤ length (now output) ⌝ }
-    ensures { λ r. ⌜ r ≡ lost + length (brokenEntry (isThrough clock neighbour) (rowAt (now (table .entry)) i)) ⌝ }
+    requires { ⌜ before .lost ≤ mostRows ⌝ }
+    requires { ⌜ before .full ≡ filledBy (before .lost) ⌝ }
+    requires { ⌜ before .place + octetsFor (before .lost + 1) ≤ length (now output) + octetsFor (before .lost) ⌝ }
+    ensures { λ r. ⌜ r ≡ reportedAfter before (brokenEntry (isThrough clock neighbour) (rowAt (now (table .entry)) i)) ⌝ }
     ensures { λ _. ⌜ now (output .exit)
-        ≡ over (now (output .entry)) (at + octetsFor lost)
-        (begunAfter lost (brokenEntry (isThrough clock neighbour) (rowAt (now (table .entry)) i))) ⌝ }
+        ≡ over (now (output .entry)) (before .place)
+        (begunAfter (before .lost) (brokenEntry (isThrough clock neighbour) (rowAt (now (table .entry)) i))) ⌝ }
 {
     let r = row::read_row(table, i);
     if !r.is_through(clock, neighbour) {
-        return lost;
+        return before;
     }
     let address = r.destination;
     let number = rows::broken(r).number;
-    errors::add(output, at, lost, LostDestination { address, number });
-    lost + 1
+    errors::add(output, before, LostDestination { address, number })
 }
 
-// The same for the n first rows.
+// The same for the n first rows, from place at on.
 fn report_rows(
     output: &mut [u8],
     at: usize,
@@ -53,35 +53,47 @@ fn report_rows(
     n: usize,
     clock: u64,
     neighbour: Address,
-) -> usize
+) -> Reported
     requires { ⌜ place n ≤ length (now table) ⌝ }
     requires { ⌜ n ≤ mostRows ⌝ }
     requires { ⌜ at + octetsFor mostRows ≤ length (now output) ⌝ }
-    ensures { λ r. ⌜ r ≡ length (flatMap (brokenEntry (isThrough clock neighbour)) (each (rowAt (now (table .entry))) 0 n)) ⌝ }
+    ensures { λ r. ⌜ r
+        ≡ reportedFrom at (flatMap (brokenEntry (isThrough clock neighbour)) (each (rowAt (now (table .entry))) 0 n)) ⌝ }
     ensures { λ _. ⌜ now (output .exit)
         ≡ over (now (output .entry)) at
         (begunAfter 0 (flatMap (brokenEntry (isThrough clock neighbour)) (each (rowAt (now (table .entry))) 0 n))) ⌝ }
 {
-    let mut lost = 0;
+    let mut reported = Reported {
+        lost: 0,
+        place: at,
+        full: 0,
+    };
     let mut i = 0;
     while i < n {
-        lost = report_row(output, at, table, i, clock, neighbour, lost);
+        reported = report_row(output, table, i, clock, neighbour, reported);
         i += 1;
     }
-    lost
+    reported
 }
 
-// Writes the errors that a break through the neighbour calls for, from place at on. Answers how many destinations they name.
-pub fn report(output: &mut [u8], at: usize, table: &[u8], clock: u64, neighbour: Address) -> usize
+// Writes the errors that a break through the neighbour calls for, from place at on. Answers how many destinations they name,
+// and the place after the errors.
+pub fn report(
+    output: &mut [u8],
+    at: usize,
+    table: &[u8],
+    clock: u64,
+    neighbour: Address,
+) -> Reported
     requires { ⌜ Sized (now table) ⌝ }
     requires { ⌜ at + octetsFor mostRows ≤ length (now output) ⌝ }
-    ensures { λ r. ⌜ r ≡ length (brokenEntries (isThrough clock neighbour) (now (table .entry))) ⌝ }
-    ensures { λ r. ⌜ r ≤ mostRows ⌝ }
+    ensures { λ r. ⌜ r ≡ reportedFrom at (brokenEntries (isThrough clock neighbour) (now (table .entry))) ⌝ }
+    ensures { λ r. ⌜ r .lost ≤ mostRows ⌝ }
     ensures { λ _. ⌜ now (output .exit)
         ≡ over (now (output .entry)) at (frameOctets (errorsFor (brokenEntries (isThrough clock neighbour) (now (table .entry))))) ⌝ }
 {
     let n = search::rows_of(table);
-    let lost = report_rows(output, at, table, n, clock, neighbour);
-    errors::close(output, at, lost);
-    lost
+    let reported = report_rows(output, at, table, n, clock, neighbour);
+    errors::close(output, at, reported);
+    reported
 }

@@ -9,7 +9,7 @@ ghost use lib.ListN.{length};
 ghost use Rattle.table.specs.Layout.{place, rowOctets, Sized};
 ghost use Rattle.table.specs.Row.{isThrough};
 ghost use Rattle.table.specs.Table.{changeAt, changeBelow, changeWhere};
-ghost use Rattle.rules.specs.Errors.{broken};
+ghost use Rattle.rules.specs.Errors.{broken, brokenEntries};
 
 // The row stays held, and a known number is stepped: what was learnt under the old one is stale.
 pub fn broken(r: Row) -> Row
@@ -46,11 +46,15 @@ fn break_rows(table: &mut [u8], n: usize, clock: u64, neighbour: Address)
     }
 }
 
-// Breaks every row that leads through the neighbour.
-pub fn lose_rows(table: &mut [u8], clock: u64, neighbour: Address)
+// Breaks every row that leads through the neighbour, of which there are so many as were reported lost.
+pub fn lose_rows(table: &mut [u8], clock: u64, neighbour: Address, lost: usize)
     requires { ⌜ Sized (now table) ⌝ }
+    requires { ⌜ lost ≡ length (brokenEntries (isThrough clock neighbour) (now table)) ⌝ }
     ensures { λ _. ⌜ now (table .exit) ≡ changeWhere (isThrough clock neighbour) broken (now (table .entry)) ⌝ }
 {
+    if lost == 0 {
+        return;
+    }
     let n = search::rows_of(table);
     break_rows(table, n, clock, neighbour);
 }

@@ -1,6 +1,6 @@
 -- `breaking::break_neighbour::break_off` meets its contract: the rows, the head and the frames. Assumes nothing.
 use borrow.Author.Needs.{needs}
-use Rattle.breaking.proofs.Broken.{broken-exit}
+use Rattle.breaking.proofs.Broken.{reported-many, reported-long, broken-exit}
 use Rattle.breaking.proofs.break_neighbour.break_off.Statement.{statement}
 use Rattle.breaking.proofs.break_neighbour.break_off.Tie as tie
 
@@ -10,9 +10,9 @@ break-off-spec =
     (tie.spec
     (λ c κs. search needs)
     (λ c κs. search needs)
+    (λ c κs. (search needs, search reported-many))
     (λ c κs. search needs)
-    (λ c κs. search needs)
-    (λ c κs. search needs)
+    (λ c κs. (search needs, search reported-long))
     (λ c. search needs)
     (λ c. search needs)
     (λ c. search broken-exit))

@@ -1,6 +1,6 @@
 -- `breaking::errors::add` meets its contract: the start, if one is begun, and the entry. Assumes nothing.
 use borrow.Author.Needs.{needs}
-use Rattle.breaking.proofs.Reported.{next-fits, entry-added}
+use Rattle.breaking.proofs.Reported.{entry-fits, entry-after, entry-added}
 use Rattle.breaking.proofs.errors.add.Statement.{statement}
 use Rattle.breaking.proofs.errors.add.Tie as tie
 
@@ -9,6 +9,7 @@ add-spec =
     tie.close
     (tie.spec
     (λ c κs. search needs)
-    (λ c κs. search next-fits)
+    (λ c κs. search entry-fits)
     (λ c. search needs)
-    (λ c. search entry-added))
+    (λ c. search needs)
+    (λ c. (search entry-after, search entry-added)))

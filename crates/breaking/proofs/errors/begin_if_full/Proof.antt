@@ -8,9 +8,8 @@ pub begin-if-full-spec : {M : Type 1} → statement M
 begin-if-full-spec =
     tie.close
     (tie.spec
-    (λ c κs. search needs)
-    (λ c. search needs)
     (λ c. (search next-there, search next-same))
     (λ c κs. search needs)
+    (λ c. search needs)
     (λ c. search needs)
     (λ c. (search next-begun, search next-starts)))

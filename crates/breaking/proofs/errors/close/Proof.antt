@@ -8,9 +8,12 @@ pub close-spec : {M : Type 1} → statement M
 close-spec =
     tie.close
     (tie.spec
+    (λ c. search close-none)
+    (λ c. search needs)
+    (λ c. search needs)
+    (λ c. search needs)
     (λ c. search needs)
     (λ c. search needs)
     (λ c κs. search needs)
     (λ c. search needs)
-    (λ c. search close-last)
-    (λ c. search close-none))
+    (λ c. search close-last))

@@ -1,6 +1,6 @@
 -- `breaking::report::report` meets its contract: all rows, and the errors closed. Assumes nothing.
 use borrow.Author.Needs.{needs}
-use Rattle.breaking.proofs.Broken.{lost-few, lost-counted, errors-closed}
+use Rattle.breaking.proofs.Broken.{lost-few, lost-placed, lost-filled, lost-counted, errors-closed}
 use Rattle.breaking.proofs.report.report.Statement.{statement}
 use Rattle.breaking.proofs.report.report.Tie as tie
 
@@ -10,6 +10,6 @@ report-spec =
     (tie.spec
     (λ c κs. search needs)
     (λ c κs. search needs)
-    (λ c κs. search (needs, lost-few))
+    (λ c κs. (search lost-few, (search lost-placed, (search lost-filled, search needs))))
     (λ c. search needs)
     (λ c. (search lost-counted, (search lost-few, search errors-closed))))

@@ -1,6 +1,6 @@
 -- `breaking::report::report_row` meets its contract: the destination is added, or nothing changes. Assumes nothing.
 use borrow.Author.Needs.{needs}
-use Rattle.breaking.proofs.Broken.{none-counted, none-added, one-counted, one-added}
+use Rattle.breaking.proofs.Broken.{none-reported, none-added, one-reported, one-added}
 use Rattle.breaking.proofs.report.report_row.Statement.{statement}
 use Rattle.breaking.proofs.report.report_row.Tie as tie
 
@@ -10,9 +10,8 @@ report-row-spec =
     (tie.spec
     (λ c κs. search needs)
     (λ c κs. search needs)
-    (λ c. (search none-counted, search none-added))
+    (λ c. (search none-reported, search none-added))
     (λ c κs. search needs)
     (λ c κs. search needs)
     (λ c. search needs)
-    (λ c. search needs)
-    (λ c. (search one-counted, search one-added)))
+    (λ c. (search one-reported, search one-added)))

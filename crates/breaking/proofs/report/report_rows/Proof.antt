@@ -4,16 +4,16 @@ use mathlib.Core.Path.{_≡_}
 use lib.ListN.{length}
 use borrow.Author.Needs.{needs}
 use Rattle.table.specs.Row.{isThrough}
-use Rattle.breaking.proofs.Broken.{Reporting, reporting-start, reporting-row, reporting-few, reporting-room, reporting-more, all-counted, all-written}
+use Rattle.breaking.proofs.Broken.{Reporting, reporting-start, reporting-row, reporting-few, reporting-filled, reporting-room, reporting-more, all-counted, all-written}
 use Rattle.breaking.proofs.report.report_rows.Statement.{statement}
 use Rattle.breaking.proofs.report.report_rows.Tie as tie
 
 abbrev Inv-loop : tie.InvT-loop
-Inv-loop output₀ at table n clock neighbour lost₀ i₀ output lost i =
-    (length output ≡ length output₀) × Reporting (isThrough clock neighbour) table n output₀ at i lost output
+Inv-loop output₀ at table n clock neighbour reported₀ i₀ output reported i =
+    (length output ≡ length output₀) × Reporting (isThrough clock neighbour) table n output₀ at i reported output
 
 abbrev μ-loop : tie.MeasureT-loop
-μ-loop output₀ at table n clock neighbour lost₀ i₀ output lost i = n - i
+μ-loop output₀ at table n clock neighbour reported₀ i₀ output reported i = n - i
 
 pub report-rows-spec : {M : Type 1} → statement M
 report-rows-spec =
@@ -22,7 +22,7 @@ report-rows-spec =
     Inv-loop
     μ-loop
     (λ c. search (needs, reporting-start))
-    (λ c κs. (search reporting-row, (search reporting-few, search reporting-room)))
+    (λ c κs. (search reporting-row, (search reporting-few, (search reporting-filled, search reporting-room))))
     (λ c. search needs)
     (λ c. search needs)
     (λ c. search (needs, reporting-more))
