@@ -5,8 +5,8 @@ use lib.Dec.{eqb, leb}
 use lib.ListN.{length}
 use mathlib.Core.Path.{_≡_, refl, sym, ap, _∙_}
 use native.Mathlib.Omega.{arith}
-use borrow.Author.Tests.{leb-true, le-leb, lt-leb, eqb-true, eq-eqb, ne-eqb, not-true, not-false}
-use mathlib.Core.Bool.{Bool, true, false, _&&_, _||_, not, and-eq-true-iff}
+use borrow.Author.Tests.{leb-true, eqb-true, eq-eqb, ne-eqb, not-true, not-false}
+use mathlib.Core.Bool.{Bool, true, false, _&&_, _||_, not, and-comm, and-true, and-false, and-eq-true-iff}
 use mathlib.Core.List.{List}
 use mathlib.Core.Option.{none, some}
 use Rattle.table.specs.declared.address.Address.{Address}
@@ -24,6 +24,11 @@ use Rattle.table.specs.Table.{vacant, holds, findRow, rowFor, activeNext
 pub both : (a b : Bool) → (a && b) ≡ true → (a ≡ true) × (b ≡ true)
 both a b = and-eq-true-iff a b .0
 
+-- a part that is the last one under the second
+and-moved : (a b c d : Bool) → (b ≡ true → a ≡ d) → ((a && b) && c) ≡ (b && (c && d))
+and-moved a true c d h = ap (λ (e : Bool). e && c) (and-true a ∙ h refl) ∙ and-comm d c
+and-moved a false c d h = ap (λ (e : Bool). e && c) (and-false a)
+
 module _ (t : List ℕ) where
   -- what check 1 tells of the length
   pub of-size : (b : Bool) → b ≡ sized t → b ≡ true → Sized t
@@ -38,14 +43,16 @@ module _ (t : List ℕ) where
         not-longer = leb-true n (place mostRows) (both (leb n (place mostRows)) (eqb ((n - headOctets) % rowOctets) 0) (all .1) .0);
       }
 
-  -- that check by its cases
-  pub too-short : length t < place 1 → false ≡ sized t
+  -- that check without a subtraction: where the first bound holds, a head and whole rows leave the same rest
+  pub size-is : ((eqb (length t % rowOctets) 0 && leb (place 1) (length t)) && leb (length t) (place mostRows)) ≡ sized t
   unfolding sized
-  too-short l = rw (lt-leb (place 1) (length t) l)
-
-  pub long-enough : place 1 ≤ length t → (leb (length t) (place mostRows) && eqb ((length t - headOctets) % rowOctets) 0) ≡ sized t
-  unfolding sized
-  long-enough l = rw (le-leb (place 1) (length t) l)
+  size-is =
+      let n : ℕ = length t in
+      let same-rest : leb (place 1) n ≡ true → eqb (n % rowOctets) 0 ≡ eqb ((n - headOctets) % rowOctets) 0 =
+      λ h. let least = leb-true (place 1) n h in
+      let rest : n % rowOctets ≡ (n - headOctets) % rowOctets = omega arith in
+      ap (λ (k : ℕ). eqb k 0) rest in
+      and-moved (eqb (n % rowOctets) 0) (leb (place 1) n) (leb n (place mostRows)) (eqb ((n - headOctets) % rowOctets) 0) same-rest
 
   -- a row that is found lies in the table
   within : (p : ℕ → Bool) (i : ℕ) → first p (rows t) ≡ At i → Sized t → place i + rowOctets ≤ length t

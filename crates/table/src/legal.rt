@@ -33,10 +33,7 @@ pub fn is_sized(table: &[u8]) -> bool
     ensures { λ r. ⌜ r ≡ sized (now (table .entry)) ⌝ }
 {
     let octets = table.len();
-    if octets < SHORTEST {
-        return false;
-    }
-    (octets <= LONGEST) & ((octets - HEAD_OCTETS) % ROW_OCTETS == 0)
+    (octets % ROW_OCTETS == HEAD_OCTETS % ROW_OCTETS) & (SHORTEST <= octets) & (octets <= LONGEST)
 }
 
 impl Address {
