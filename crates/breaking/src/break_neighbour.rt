@@ -14,7 +14,7 @@ ghost use Rattle.table.specs.Layout.{Sized};
 ghost use Rattle.table.specs.Row.{isThrough};
 ghost use Rattle.rules.specs.Break.{breakNeighbour, breaking, brokenOff};
 ghost use Rattle.rules.specs.Decision.{accepted};
-ghost use Rattle.rules.specs.Outcome.{atExit, lend};
+ghost use Rattle.rules.specs.Outcome.{atExit, lend, leastOutput};
 ghost use Rattle.calls.specs.Answers.{answerTo, exits};
 
 fn check(table: &[u8], output: &[u8], clock: u64, neighbour: Address) -> Answer
@@ -29,7 +29,7 @@ fn check(table: &[u8], output: &[u8], clock: u64, neighbour: Address) -> Answer
 // The table and the frames of a break that is not refused. The clock is stored whether or not a row was lost.
 fn break_off(table: &mut [u8], output: &mut [u8], clock: u64, neighbour: Address) -> Outcome
     requires { ⌜ Sized (now table) ⌝ }
-    requires { ⌜ 1560 ≤ length (now output) ⌝ }
+    requires { ⌜ leastOutput ≤ length (now output) ⌝ }
     ensures { λ r. ⌜ exits r (lend (now (table .exit))) (now (output .exit)) ≡ atExit (lend (now (table .entry))) (now (output .entry)) (accepted (brokenOff (lend (now (table .entry))) clock (isThrough clock neighbour))) ⌝ }
 {
     let head = row::read_head(table);

@@ -14,10 +14,12 @@ use table::store;
 ghost use mathlib.Core.Path.{_≡_};
 ghost use mathlib.Core.Bool.{_||_};
 ghost use Prim.Native.Nat.{_+_, _<_, _≤_};
+ghost use Rattle.table.specs.Row.{maxClock};
 ghost use Rattle.table.specs.Places.{isNothing};
 ghost use Rattle.table.specs.Table.{findRow, rowFor};
 ghost use Rattle.table.specs.Layout.{Sized};
-ghost use Rattle.rules.specs.Learn.{expiryOf, learnt, newRow, rowOrNew, rowTakesLink, subjectLearnt, subjectRow, transmitterLearnt, transmitterRow};
+ghost use Rattle.rules.specs.Learn.{expiryOf, Extends, learnt, newRow, rowOrNew, rowTakesLink};
+ghost use Rattle.rules.specs.Learn.{subjectLearnt, subjectRow, transmitterLearnt, transmitterRow};
 
 // A row that is to be made, with number unknown.
 fn new_row(destination: Address) -> Row
@@ -50,7 +52,7 @@ fn row_or_new(table: &[u8], found: Found, destination: Address) -> Row
 
 // Clock + lifetime, or the stored expiry if the row was active and that is larger.
 fn expiry_of(clock: u64, lifetime: u32, r: Row) -> u64
-    requires { ⌜ clock ≤ 281474976710655 ⌝ }
+    requires { ⌜ clock ≤ maxClock ⌝ }
     ensures { λ e. ⌜ e ≡ expiryOf clock lifetime r ⌝ }
 {
     let stored = r.expiry;
@@ -63,9 +65,8 @@ fn expiry_of(clock: u64, lifetime: u32, r: Row) -> u64
 
 // Step 1: valid with the received number, over the transmitter.
 fn subject_row(a: Arrival, p: PathInfo, r: Row) -> Row
-    requires { ⌜ a .clock ≤ 281474976710655 ⌝ }
-    requires { ⌜ p .metric .0 + a .link .0 ≤ 4294967294 ⌝ }
-    requires { ⌜ p .hops .0 < 255 ⌝ }
+    requires { ⌜ a .clock ≤ maxClock ⌝ }
+    requires { ⌜ Extends a p ⌝ }
     ensures { λ s. ⌜ s ≡ subjectRow a p r ⌝ }
 {
     let expiry = expiry_of(a.clock, p.lifetime, r);
@@ -78,9 +79,8 @@ fn subject_row(a: Arrival, p: PathInfo, r: Row) -> Row
 fn learn_subject(table: &mut [u8], found: Found, a: Arrival, p: PathInfo)
     requires { ⌜ Sized (now table) ⌝ }
     requires { ⌜ found ≡ findRow (now table) (p .subject) ⌝ }
-    requires { ⌜ a .clock ≤ 281474976710655 ⌝ }
-    requires { ⌜ p .metric .0 + a .link .0 ≤ 4294967294 ⌝ }
-    requires { ⌜ p .hops .0 < 255 ⌝ }
+    requires { ⌜ a .clock ≤ maxClock ⌝ }
+    requires { ⌜ Extends a p ⌝ }
     ensures { λ _. ⌜ now (table .exit) ≡ subjectLearnt a p (now (table .entry)) ⌝ }
 {
     let r = row_or_new(table, found, p.subject);
@@ -107,7 +107,7 @@ fn takes_link(a: Arrival, found: Found, r: Row) -> bool
 
 // Step 2: valid over the link itself; an existing number stays.
 fn transmitter_row(a: Arrival, lifetime: u32, r: Row) -> Row
-    requires { ⌜ a .clock ≤ 281474976710655 ⌝ }
+    requires { ⌜ a .clock ≤ maxClock ⌝ }
     ensures { λ s. ⌜ s ≡ transmitterRow a lifetime r ⌝ }
 {
     let expiry = expiry_of(a.clock, lifetime, r);
@@ -116,7 +116,7 @@ fn transmitter_row(a: Arrival, lifetime: u32, r: Row) -> Row
 
 fn learn_transmitter(table: &mut [u8], a: Arrival, lifetime: u32)
     requires { ⌜ Sized (now table) ⌝ }
-    requires { ⌜ a .clock ≤ 281474976710655 ⌝ }
+    requires { ⌜ a .clock ≤ maxClock ⌝ }
     ensures { λ _. ⌜ now (table .exit) ≡ transmitterLearnt a lifetime (now (table .entry)) ⌝ }
 {
     let found = search::find_row(table, a.transmitter);
@@ -132,9 +132,8 @@ fn learn_transmitter(table: &mut [u8], a: Arrival, lifetime: u32)
 pub fn learn(table: &mut [u8], found: Found, a: Arrival, p: PathInfo)
     requires { ⌜ Sized (now table) ⌝ }
     requires { ⌜ found ≡ findRow (now table) (p .subject) ⌝ }
-    requires { ⌜ a .clock ≤ 281474976710655 ⌝ }
-    requires { ⌜ p .metric .0 + a .link .0 ≤ 4294967294 ⌝ }
-    requires { ⌜ p .hops .0 < 255 ⌝ }
+    requires { ⌜ a .clock ≤ maxClock ⌝ }
+    requires { ⌜ Extends a p ⌝ }
     ensures { λ _. ⌜ now (table .exit) ≡ learnt a p (now (table .entry)) ⌝ }
 {
     learn_subject(table, found, a, p);

@@ -2,14 +2,14 @@
 use Prim.Native.Nat.{ℕ, _+_, _/_, _<_, _≤_}
 use mathlib.Core.Path.{_≡_, refl, sym, ap, _∙_}
 use mathlib.Core.Bool.{Bool, true, false, _&&_, _||_}
-use mathlib.Core.List.{List, []}
+use mathlib.Core.List.{List, [], _++_}
 use mathlib.Core.Option.{some}
 use lib.Dec.{eqb, ltb}
 use lib.ListN.{length}
 use native.Mathlib.Omega.{arith}
 use borrow.Author.Tests.{ltb-false, eqb-false, not-false}
+use Rattle.rules.specs.Learn.{Extends, maxMetric, metricHere, mostHops}
 use Rattle.table.specs.declared.address.Address.{Address}
-use Rattle.table.specs.declared.search.Found.{Found}
 use Rattle.element.specs.declared.PathInfo.{PathInfo}
 use Rattle.element.specs.declared.NumberedAddress.{NumberedAddress}
 use Rattle.element.specs.declared.RreqFields.{RreqFields}
@@ -21,32 +21,59 @@ use Rattle.element.specs.Entries.{lostIn, numberedIn, targetsIn}
 use Rattle.element.specs.Lists.{addressesIn, allOnes, anyForbidden, among, twice, onesBesideOthers}
 use Rattle.element.proofs.Scans.{addresses-many, target-addresses, lost-addresses}
 use Rattle.rules.specs.declared.Arrival.{Arrival}
-use Rattle.rules.specs.Decision.{accepted, decide}
+use Rattle.rules.specs.Decision.{Check, decide}
 use Rattle.rules.specs.Errors.{matches}
 use Rattle.element.specs.Flags.{unicast}
 use Rattle.rules.specs.Lists.{any, has}
-use Rattle.rules.specs.Outcome.{lend, Exit, atExit}
-use Rattle.rules.specs.Receive.{pathOf, targetAddresses, hasBadAddress, hasBadList, severalOrAll, isLowTtlReply, matchesNothing, received, judging}
+use Rattle.rules.specs.Outcome.{lend, atExit}
+use Rattle.rules.specs.Receive.{pathOf, targetAddresses, hasBadAddress, hasBadList, severalOrAll, isLowTtlReply, fieldChecks, matchesNothing, judging}
 use Rattle.rules.proofs.Rulings.{listed, Passed, passed-check}
 use Rattle.calls.specs.declared.Outcome.{Outcome}
 use Rattle.calls.specs.declared.Answer.{Answer}
-use Rattle.calls.specs.declared.Answer.the-variants.{Accepted}
+use Rattle.calls.specs.declared.Answer.the-variants.{Accepted, Refused}
 use Rattle.calls.specs.Answers.{answerTo, exits}
-use Rattle.calls.proofs.Checks.{answer-passed, refusal, acceptance}
+use Rattle.calls.proofs.Checks.{answer-passed, refused-first, passed-first, refusal}
 use Rattle.onward.specs.Sent.{unicastToSeveral}
 use Rattle.receive.specs.declared.faults.Faults.{Faults}
-use Rattle.receive.specs.declared.path.Judged.{Judged}
-use Rattle.receive.specs.Checks.{faultsOf, pathChecks, judgedBy}
-use Rattle.receive.proofs.Subjects.{answered, answers}
+use Rattle.receive.specs.Checks.{faultsOf, pathStateChecks, learntIf}
+use Rattle.receive.proofs.Learnt.{nothing-learnt}
 
 -- ---- the parts are the checks of an element
 
--- with a path: nothing of it is skipped, and 26 is
-pub path-checked : (t : List ℕ) (a : Arrival) (r : Judged) (e : Element) (p : PathInfo) → pathOf e ≡ some p → matchesNothing t a e ≡ false
-    → (x : Faults) → x ≡ faultsOf e → r ≡ judgedBy t p (pathChecks x t a p) → r ≡ judgedBy t p (judging (lend t) a e .checks)
-unfolding judging pathChecks faultsOf
-path-checked t a r e p pe unmatched x xe re =
-    re ∙ ap (λ (y : Faults). judgedBy t p (pathChecks y t a p)) xe ∙ rw (pe, unmatched)
+-- with a path: those of its fields, then those of the state
+module _ (x : Faults) (a : Arrival) (p : PathInfo) (b : Answer)
+    (be : b ≡ answerTo (fieldChecks (x .address) (x .list) (x .ttl) a (some p))) where
+  abbrev ofFields : List Check
+  ofFields = fieldChecks (x .address) (x .list) (x .ttl) a (some p)
+
+  -- nothing of a path is skipped, and 26 is
+  module _ (t : List ℕ) (e : Element) (pe : pathOf e ≡ some p) (unmatched : matchesNothing t a e ≡ false) (xe : x ≡ faultsOf e) where
+    together : answerTo (ofFields ++ pathStateChecks t a p) ≡ answerTo (judging (lend t) a e .checks)
+    unfolding judging faultsOf
+    together =
+        ap (λ (y : Faults). answerTo (fieldChecks (y .address) (y .list) (y .ttl) a (some p) ++ pathStateChecks t a p)) xe
+        ∙ rw (pe, unmatched)
+
+    pub fields-refused : (n : ℕ) → b ≡ Refused n → Refused n ≡ answerTo (judging (lend t) a e .checks)
+    fields-refused n q = refused-first ofFields b be (pathStateChecks t a p) n q ∙ together
+
+    pub passed-on : b ≡ Accepted → (r : Answer) → r ≡ answerTo (pathStateChecks t a p) → r ≡ answerTo (judging (lend t) a e .checks)
+    passed-on ok r re = passed-first ofFields b be (pathStateChecks t a p) ok r re ∙ together
+
+    pub fields-passed : b ≡ Accepted → (r : Answer) → r ≡ answerTo (pathStateChecks t a p) → (s : Answer) → r ≡ s
+        → s ≡ answerTo (judging (lend t) a e .checks)
+    fields-passed ok r re s is = sym is ∙ passed-on ok r re
+
+  -- what a path may be counted on for, once its fields are checked
+  module _ (ok : b ≡ Accepted) where
+    good-fields : Passed ofFields
+    good-fields = answer-passed ofFields (sym ok ∙ be)
+
+    pub fields-extend : p .hops .0 < 256 → Extends a p
+    unfolding listed
+    fields-extend l =
+        let other = eqb-false (p .hops .0) mostHops (passed-check 12 ofFields good-fields) in
+        record { metric = ltb-false maxMetric (metricHere a p .0) (passed-check 13 ofFields good-fields); hops = omega (arith, l, other) }
 
 -- a RREP's dependents play no part
 pub dependents-aside : (f : RrepFields) (x : Faults) → x ≡ faultsOf (rrep f []) → (dependents : List NumberedAddress) → x ≡ faultsOf (rrep f dependents)
@@ -69,51 +96,47 @@ none-applied : (t : List ℕ) (a : Arrival) (e : Element) (r : Answer) → r ≡
 none-applied t a e r re ok = answer-passed (judging (lend t) a e .checks) (sym ok ∙ re)
 
 -- an element with the path p
-module _ (t : List ℕ) (a : Arrival) (e : Element) (p : PathInfo) (r : Judged) (re : r ≡ judgedBy t p (judging (lend t) a e .checks)) where
-  answer : answered r ≡ answerTo (judging (lend t) a e .checks)
-  answer = answers t p (judging (lend t) a e .checks) r re
+module _ (t : List ℕ) (a : Arrival) (e : Element) (p : PathInfo) (r : Answer) (re : r ≡ answerTo (judging (lend t) a e .checks)) where
+  -- a refusal learns nothing
+  pub path-refused : (u : List ℕ) → u ≡ learntIf r a p t → (output : List ℕ) (n : ℕ) → r ≡ Refused n
+      → exits (Outcome.Refused n) (lend u) output ≡ atExit (lend t) output (decide (judging (lend t) a e))
+  path-refused u ue output n q =
+      ap (λ (v : List ℕ). exits (Outcome.Refused n) (lend v) output) (nothing-learnt a p t u r ue n q)
+      ∙ refusal (lend t) output (judging (lend t) a e) r re n q
 
-  pub path-refused : (output : List ℕ) (n : ℕ) → r ≡ Judged.Refused n → exits (Outcome.Refused n) (lend t) output ≡ atExit (lend t) output (decide (judging (lend t) a e))
-  path-refused output n q = refusal (lend t) output (judging (lend t) a e) (answered r) answer n (ap answered q)
-
-  module _ (f : Found) (ok : r ≡ Judged.Accepted f) where
-    pub path-accepted : (output : List ℕ) (x : Exit) → x ≡ atExit (lend t) output (accepted (received (lend t) a e)) → x ≡ atExit (lend t) output (decide (judging (lend t) a e))
-    unfolding judging
-    path-accepted output = acceptance (lend t) output (judging (lend t) a e) (answered r) answer (ap answered ok)
-
+  module _ (ok : r ≡ Accepted) where
     path-passed : Passed (judging (lend t) a e .checks)
-    path-passed = none-applied t a e (answered r) answer (ap answered ok)
+    path-passed = none-applied t a e r re ok
 
     module _ (pe : pathOf e ≡ some p) where
       -- a test of the path that did not apply
       of-path : (test : PathInfo → Bool) → has test (pathOf e) ≡ false → test p ≡ false
       of-path test passes = ap (has test) (sym pe) ∙ passes
 
-      pub metric-small : p .metric .0 + a .link .0 ≤ 4294967294
+      pub path-extends : p .hops .0 < 256 → Extends a p
       unfolding listed
-      metric-small =
-          ltb-false 4294967294 (p .metric .0 + a .link .0)
-          (of-path (λ q. ltb 4294967294 (q .metric .0 + a .link .0)) (passed-check 13 (judging (lend t) a e .checks) path-passed))
-
-      pub hops-small : p .hops .0 < 256 → p .hops .0 < 255
-      unfolding listed
-      hops-small l =
-          let other = eqb-false (p .hops .0) 255 (of-path (λ q. eqb (q .hops .0) 255) (passed-check 12 (judging (lend t) a e .checks) path-passed)) in
-          omega (arith, l, other)
+      path-extends l =
+          let other = eqb-false (p .hops .0) mostHops (of-path (λ q. eqb (q .hops .0) mostHops) (passed-check 12 (judging (lend t) a e .checks) path-passed)) in
+          record {
+            metric = ltb-false maxMetric (metricHere a p .0)
+                (of-path (λ q. ltb maxMetric (metricHere a q .0)) (passed-check 13 (judging (lend t) a e .checks) path-passed));
+            hops = omega (arith, l, other);
+          }
 
 -- a RREP has TTL left, a unicast RREQ has one destination
-module _ (t : List ℕ) (a : Arrival) (r : Judged) (found : Found) (ok : r ≡ Judged.Accepted found) where
-  pub ttl-left : (f : RrepFields) (part : List ℕ) → r ≡ judgedBy t (f .path) (judging (lend t) a (rrep f (numberedIn part)) .checks) → 2 ≤ f .path .ttl
+module _ (t : List ℕ) (a : Arrival) (r : Answer) (ok : r ≡ Accepted) where
+  pub ttl-left : (f : RrepFields) (part : List ℕ) → r ≡ answerTo (judging (lend t) a (rrep f (numberedIn part)) .checks) → 1 ≤ f .path .ttl
   unfolding listed isLowTtlReply
   ttl-left f part re =
       let e : Element = rrep f (numberedIn part) in
-      ltb-false (f .path .ttl) 2 (passed-check 14 (judging (lend t) a e .checks) (path-passed t a e (f .path) r re found ok))
+      let left = ltb-false (f .path .ttl) 2 (passed-check 14 (judging (lend t) a e .checks) (path-passed t a e (f .path) r re ok)) in
+      omega (arith, left)
 
-  pub one-destination : (f : RreqFields) (part : List ℕ) → r ≡ judgedBy t (f .path) (judging (lend t) a (rreq f (targetsIn part)) .checks) → unicastToSeveral (f .path) part ≡ false
+  pub one-destination : (f : RreqFields) (part : List ℕ) → r ≡ answerTo (judging (lend t) a (rreq f (targetsIn part)) .checks) → unicastToSeveral (f .path) part ≡ false
   unfolding listed hasBadList severalOrAll unicastToSeveral
   one-destination f part re =
       let addresses : List Address = targetAddresses (targetsIn part) in
-      let good = passed-check 10 (judging (lend t) a (rreq f (targetsIn part)) .checks) (path-passed t a (rreq f (targetsIn part)) (f .path) r re found ok) in
+      let good = passed-check 10 (judging (lend t) a (rreq f (targetsIn part)) .checks) (path-passed t a (rreq f (targetsIn part)) (f .path) r re ok) in
       let many : length addresses ≡ length part / 11 =
       ap length (target-addresses part) ∙ addresses-many Targets part in
       ap (λ (n : ℕ). unicast (f .path) && ltb 1 n) (sym many)

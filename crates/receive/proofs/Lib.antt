@@ -1,5 +1,5 @@
 mod Faulty
-mod Subjects
+mod Learnt
 mod Judging
 mod Calling
 mod Taken

@@ -22,20 +22,22 @@ use Rattle.element.specs.Layout.{lengthWith}
 use Rattle.element.proofs.Scans.{each-length}
 use Rattle.element.proofs.Sizes.{frame-length}
 use Rattle.rules.specs.declared.Arrival.{Arrival}
-use Rattle.rules.specs.Decision.{accepted}
+use Rattle.rules.specs.Decision.{accepted, decide}
 use Rattle.rules.specs.Destinations.{Answered, allAnswered}
 use Rattle.rules.specs.Errors.{matches, isMatch, erred}
 use Rattle.rules.specs.Learn.{learnt}
 use Rattle.rules.specs.Lists.{those}
 use Rattle.rules.specs.Onward.{toAll, rannOnward, rreqOnward, rrepOnward}
-use Rattle.rules.specs.Outcome.{lend, Frame, frameOctets, underHead, atExit}
-use Rattle.rules.specs.Receive.{rannReceived, rrepReceived, rreqReceived, rerrReceived, received}
+use Rattle.rules.specs.Outcome.{lend, Frame, frameOctets, underHead, Exit, atExit}
+use Rattle.rules.specs.Receive.{rannReceived, rrepReceived, rreqReceived, rerrReceived, received, judging}
 use Rattle.rules.proofs.Emitting.{Emits, rreq-emitted}
 use Rattle.rules.proofs.FrameOctets.{no-frame, one-frame, frames-append}
 use Rattle.calls.specs.declared.Outcome.{Outcome}
+use Rattle.calls.specs.declared.Answer.{Answer}
+use Rattle.calls.specs.declared.Answer.the-variants.{Accepted}
 use Rattle.calls.specs.declared.Emitted.{Emitted}
-use Rattle.calls.specs.Answers.{emitted, exits}
-use Rattle.calls.proofs.Checks.{accepted-exit}
+use Rattle.calls.specs.Answers.{answerTo, emitted, exits}
+use Rattle.calls.proofs.Checks.{accepted-exit, acceptance}
 use Rattle.calls.proofs.Neighbours.{head-under, same-number}
 use Rattle.destinations.specs.declared.replies.Replied.{Replied}
 use Rattle.onward.specs.Kept.{keptAmong}
@@ -43,18 +45,20 @@ use Rattle.destinations.specs.Replies.{repliedFrom}
 use Rattle.onward.proofs.KeptOnes.{answered-among, kept-few}
 use Rattle.destinations.proofs.Replying.{replies-long}
 use Rattle.receive.specs.declared.request.Sent.{Sent}
+use Rattle.receive.specs.Checks.{learntIf}
 use Rattle.receive.specs.Sent.{together, framesAfter, sentFor}
+use Rattle.receive.proofs.Learnt.{learnt-head, both-steps}
 
 module _ (t output : List ℕ) (a : Arrival) (h : Head) (he : h ≡ headAt t) where
   -- ---- a RANN and a RREP
 
-  pub rann-exit : (p : PathInfo) (u : List ℕ) → u ≡ learnt a p t → (e : Emitted) → e ≡ emitted (rannOnward a p)
+  rann-exit : (p : PathInfo) (u : List ℕ) → u ≡ learnt a p t → (e : Emitted) → e ≡ emitted (rannOnward a p)
       → (v : List ℕ) → v ≡ over output 0 (frameOctets (rannOnward a p))
       → (w : List ℕ) → w ≡ putHead u (headWith (h .number) (h .request) (a .clock) h) → exits (Outcome.Accepted e) (lend w) v ≡ atExit (lend t) output (accepted (received (lend t) a (rann p)))
   unfolding received rannReceived
   rann-exit p u ue e ee v ve w we = accepted-exit (lend t) output (received (lend t) a (rann p)) (lend w) v e (ap lend (same-number t (a .clock) h he u (learnt a p t) w ue we)) ve ee
 
-  pub rrep-exit : (f : RrepFields) (part u : List ℕ) → u ≡ learnt a (f .path) t → (e : Emitted) → e ≡ emitted (rrepOnward u a f (numberedIn part))
+  rrep-exit : (f : RrepFields) (part u : List ℕ) → u ≡ learnt a (f .path) t → (e : Emitted) → e ≡ emitted (rrepOnward u a f (numberedIn part))
       → (v : List ℕ) → v ≡ over output 0 (frameOctets (rrepOnward u a f (numberedIn part)))
       → (w : List ℕ) → w ≡ putHead u (headWith (h .number) (h .request) (a .clock) h)
       → exits (Outcome.Accepted e) (lend w) v ≡ atExit (lend t) output (accepted (received (lend t) a (rrep f (numberedIn part))))
@@ -79,7 +83,7 @@ module _ (t output : List ℕ) (a : Arrival) (h : Head) (he : h ≡ headAt t) wh
 
   -- ---- a RREQ
 
-  pub rreq-exit : (f : RreqFields) (part u : List ℕ) → u ≡ learnt a (f .path) t
+  rreq-exit : (f : RreqFields) (part u : List ℕ) → u ≡ learnt a (f .path) t
       → (s : Sent) → s ≡ sentFor u a f (allAnswered u a (f .path) (h .number) (targetsIn part))
       → (v : List ℕ) → v ≡ over output 0 (frameOctets (framesAfter u a f (allAnswered u a (f .path) (h .number) (targetsIn part))))
       → (w : List ℕ) → w ≡ putHead u (headWith (s .number) (h .request) (a .clock) h)
@@ -94,6 +98,52 @@ module _ (t output : List ℕ) (a : Arrival) (h : Head) (he : h ≡ headAt t) wh
       (ap lend (head-under t u (s .number) (a .clock) h he w we ∙ ap₂ (λ (x : List ℕ) (k : Sent). underHead t (k .number) (a .clock) x) ue so))
       (ve ∙ ap₂ (λ (x : List ℕ) (n : SequenceNumber). over output 0 (frameOctets (framesAfter x a f (done x n)))) ue own-number)
       (ap (λ (k : Sent). k .emitted) so)
+
+-- ---- as a RANN, a RREP and a RREQ are received: by their checks, which learn where they accept
+
+module _ (t output : List ℕ) (a : Arrival) (e : Element) (p : PathInfo) (r : Answer)
+    (re : r ≡ answerTo (judging (lend t) a e .checks)) (ok : r ≡ Accepted) (u : List ℕ) (ue : u ≡ learntIf r a p t) where
+  is-learnt : u ≡ learnt a p t
+  is-learnt = both-steps a p t u r ue ok
+
+  same-head : (h : Head) → h ≡ headAt u → h ≡ headAt t
+  same-head h he = he ∙ ap headAt is-learnt ∙ learnt-head a p t
+
+  judged-so : (x : Exit) → x ≡ atExit (lend t) output (accepted (received (lend t) a e)) → x ≡ atExit (lend t) output (decide (judging (lend t) a e))
+  unfolding judging
+  judged-so = acceptance (lend t) output (judging (lend t) a e) r re ok
+
+pub rann-received : (t output : List ℕ) (a : Arrival) (p : PathInfo) (r : Answer) → r ≡ answerTo (judging (lend t) a (rann p) .checks) → r ≡ Accepted
+    → (u : List ℕ) → u ≡ learntIf r a p t → (h : Head) → h ≡ headAt u
+    → (e : Emitted) → e ≡ emitted (rannOnward a p) → (v : List ℕ) → v ≡ over output 0 (frameOctets (rannOnward a p))
+    → (w : List ℕ) → w ≡ putHead u (headWith (h .number) (h .request) (a .clock) h)
+    → exits (Outcome.Accepted e) (lend w) v ≡ atExit (lend t) output (decide (judging (lend t) a (rann p)))
+rann-received t output a p r re ok u ue h he e ee v ve w we =
+    let got = is-learnt t output a (rann p) p r re ok u ue in
+    judged-so t output a (rann p) p r re ok u ue _
+    (rann-exit t output a h (same-head t output a (rann p) p r re ok u ue h he) p u got e ee v ve w we)
+
+pub rrep-received : (t output : List ℕ) (a : Arrival) (f : RrepFields) (part : List ℕ) (r : Answer) → r ≡ answerTo (judging (lend t) a (rrep f (numberedIn part)) .checks) → r ≡ Accepted
+    → (u : List ℕ) → u ≡ learntIf r a (f .path) t → (h : Head) → h ≡ headAt u
+    → (e : Emitted) → e ≡ emitted (rrepOnward u a f (numberedIn part))
+    → (v : List ℕ) → v ≡ over output 0 (frameOctets (rrepOnward u a f (numberedIn part)))
+    → (w : List ℕ) → w ≡ putHead u (headWith (h .number) (h .request) (a .clock) h)
+    → exits (Outcome.Accepted e) (lend w) v ≡ atExit (lend t) output (decide (judging (lend t) a (rrep f (numberedIn part))))
+rrep-received t output a f part r re ok u ue h he e ee v ve w we =
+    let got = is-learnt t output a (rrep f (numberedIn part)) (f .path) r re ok u ue in
+    judged-so t output a (rrep f (numberedIn part)) (f .path) r re ok u ue _
+    (rrep-exit t output a h (same-head t output a (rrep f (numberedIn part)) (f .path) r re ok u ue h he) f part u got e ee v ve w we)
+
+pub rreq-received : (t output : List ℕ) (a : Arrival) (f : RreqFields) (part : List ℕ) (r : Answer) → r ≡ answerTo (judging (lend t) a (rreq f (targetsIn part)) .checks) → r ≡ Accepted
+    → (u : List ℕ) → u ≡ learntIf r a (f .path) t → (h : Head) → h ≡ headAt u
+    → (s : Sent) → s ≡ sentFor u a f (allAnswered u a (f .path) (h .number) (targetsIn part))
+    → (v : List ℕ) → v ≡ over output 0 (frameOctets (framesAfter u a f (allAnswered u a (f .path) (h .number) (targetsIn part))))
+    → (w : List ℕ) → w ≡ putHead u (headWith (s .number) (h .request) (a .clock) h)
+    → exits (Outcome.Accepted (s .emitted)) (lend w) v ≡ atExit (lend t) output (decide (judging (lend t) a (rreq f (targetsIn part))))
+rreq-received t output a f part r re ok u ue h he s se v ve w we =
+    let got = is-learnt t output a (rreq f (targetsIn part)) (f .path) r re ok u ue in
+    judged-so t output a (rreq f (targetsIn part)) (f .path) r re ok u ue _
+    (rreq-exit t output a h (same-head t output a (rreq f (targetsIn part)) (f .path) r re ok u ue h he) f part u got s se v ve w we)
 
 -- the replies, and after them what goes on
 module _ (u : List ℕ) (a : Arrival) (f : RreqFields) (n : SequenceNumber) (part : List ℕ) (at : ℕ) (replied : Replied)

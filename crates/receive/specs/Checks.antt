@@ -12,14 +12,11 @@ use Rattle.rules.specs.Decision.{Check}
 use Rattle.rules.specs.Checks.{stateChecks}
 use Rattle.rules.specs.Errors.{matches}
 use Rattle.rules.specs.Lists.{any}
-use Rattle.rules.specs.Receive.{hasBadAddress, hasBadList, isLowTtlReply, fieldChecks, rowChecks}
+use Rattle.rules.specs.Learn.{learnt}
+use Rattle.rules.specs.Receive.{hasBadAddress, hasBadList, isLowTtlReply, rowChecks}
 use Rattle.calls.specs.declared.Answer.{Answer}
 use Rattle.calls.specs.declared.Answer.the-variants.{Accepted, Refused}
-use Rattle.calls.specs.Answers.{answerTo}
 use Rattle.receive.specs.declared.faults.Faults.{Faults}
-use Rattle.receive.specs.declared.path.Judged.{Judged}
-use Rattle.table.specs.declared.search.Found.{Found}
-use Rattle.table.specs.Table.{findRow}
 
 -- the refusals whose test depends on the type of an element with a path: 9, 10 and 14
 unfoldable pub faultsOf : Element → Faults
@@ -29,18 +26,10 @@ faultsOf e = record { address = hasBadAddress e; list = hasBadList e; ttl = isLo
 abbrev pub pathStateChecks : List ℕ → Arrival → PathInfo → List Check
 pathStateChecks t a p = stateChecks t (a .clock) (a .transmitter) ++ rowChecks t a false (some p)
 
--- of an element with the faults x and the path p: 9 to 14, 21 to 25 and 27
-unfoldable pub pathChecks : Faults → List ℕ → Arrival → PathInfo → List Check
-pathChecks x t a p = fieldChecks (x .address) (x .list) (x .ttl) a (some p) ++ pathStateChecks t a p
-
--- an acceptance carries the place where the subject was found
-abbrev pub withFound : Found → Answer → Judged
-withFound found Accepted = Judged.Accepted found
-withFound found (Refused n) = Judged.Refused n
-
--- what the checks of an element with the path p answer, with the place of its subject in the table t
-unfoldable pub judgedBy : List ℕ → PathInfo → List Check → Judged
-judgedBy t p checks = withFound (findRow t (p .subject)) (answerTo checks)
+-- Returns the table t after the checks of an element with the path p: with what is learnt from it where they accept.
+abbrev pub learntIf : Answer → Arrival → PathInfo → List ℕ → List ℕ
+learntIf Accepted a p t = learnt a p t
+learntIf (Refused n) a p t = t
 
 -- of a RERR with the list part, by the state: 21 to 23 and 26
 abbrev pub errorStateChecks : List ℕ → Arrival → List ℕ → List Check

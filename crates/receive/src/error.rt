@@ -19,7 +19,7 @@ ghost use Rattle.element.specs.Entries.{lostIn};
 ghost use Rattle.element.specs.Layout.{PartOf};
 ghost use Rattle.element.specs.declared.Kind.{Kind};
 ghost use Rattle.rules.specs.Decision.{accepted, decide};
-ghost use Rattle.rules.specs.Outcome.{atExit, lend};
+ghost use Rattle.rules.specs.Outcome.{atExit, lend, leastOutput};
 ghost use Rattle.rules.specs.Receive.{judging, received};
 ghost use Rattle.calls.specs.Answers.{answerTo, exits};
 ghost use Rattle.receive.specs.Checks.{errorStateChecks};
@@ -56,7 +56,7 @@ fn check(table: &[u8], a: Arrival, f: RerrFields, part: &[u8]) -> Answer
 // It goes on with its matches, and these are lost.
 fn take(table: &mut [u8], output: &mut [u8], a: Arrival, f: RerrFields, part: &[u8]) -> Outcome
     requires { ⌜ Sized (now table) ⌝ }
-    requires { ⌜ 1560 ≤ length (now output) ⌝ }
+    requires { ⌜ leastOutput ≤ length (now output) ⌝ }
     requires { ⌜ PartOf Kind.Rerr (now part) ⌝ }
     ensures { λ r. ⌜ exits r (lend (now (table .exit))) (now (output .exit)) ≡ atExit (lend (now (table .entry))) (now (output .entry)) (accepted (received (lend (now (table .entry))) a (rerr f (lostIn (now (part .entry)))))) ⌝ }
 {
@@ -75,7 +75,7 @@ pub fn receive(
     part: &[u8],
 ) -> Outcome
     requires { ⌜ Sized (now table) ⌝ }
-    requires { ⌜ 1560 ≤ length (now output) ⌝ }
+    requires { ⌜ leastOutput ≤ length (now output) ⌝ }
     requires { ⌜ PartOf Kind.Rerr (now part) ⌝ }
     ensures { λ r. ⌜ exits r (lend (now (table .exit))) (now (output .exit)) ≡ atExit (lend (now (table .entry))) (now (output .entry)) (decide (judging (lend (now (table .entry))) a (rerr f (lostIn (now (part .entry)))))) ⌝ }
 {

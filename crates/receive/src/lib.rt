@@ -15,8 +15,9 @@ use rules::Arrival;
 ghost use mathlib.Core.Path.{_≡_};
 ghost use Prim.Native.Nat.{_≤_};
 ghost use lib.ListN.{length};
+ghost use Rattle.table.specs.Row.{maxClock};
 ghost use Rattle.rules.specs.Decision.{decide};
-ghost use Rattle.rules.specs.Outcome.{atExit, lend};
+ghost use Rattle.rules.specs.Outcome.{atExit, lend, leastOutput};
 ghost use Rattle.rules.specs.Receive.{arrivalChecks, readingOctets, receive};
 ghost use Rattle.calls.specs.Answers.{answerTo, exits};
 ghost use Rattle.table.specs.Layout.{Sized};
@@ -37,8 +38,8 @@ fn check_arrival(table: &[u8], output: &[u8], a: Arrival) -> Answer
 // By type, after the refusals 1 to 5.
 fn receive_element(table: &mut [u8], output: &mut [u8], a: Arrival, element: &[u8]) -> Outcome
     requires { ⌜ Sized (now table) ⌝ }
-    requires { ⌜ 1560 ≤ length (now output) ⌝ }
-    requires { ⌜ a .clock ≤ 281474976710655 ⌝ }
+    requires { ⌜ leastOutput ≤ length (now output) ⌝ }
+    requires { ⌜ a .clock ≤ maxClock ⌝ }
     ensures { λ r. ⌜ exits r (lend (now (table .exit))) (now (output .exit)) ≡ atExit (lend (now (table .entry))) (now (output .entry)) (decide (readingOctets (lend (now (table .entry))) a (now (element .entry)))) ⌝ }
 {
     match read::read(element) {

@@ -5,35 +5,31 @@ use calls::clocked;
 use element::PathInfo;
 use learn::room;
 use learn::stale;
+use learn::steps;
 use rules::Arrival;
 use table::row;
 use table::search;
-use table::search::Found;
 ghost use mathlib.Core.Path.{_≡_};
 ghost use mathlib.Core.Bool.{false};
 ghost use mathlib.Core.Option.{some};
+ghost use Prim.Native.Nat.{_+_, _<_, _≤_};
 ghost use lib.Dec.{ltb};
-ghost use Rattle.rules.specs.Learn.{metricHere};
+ghost use Rattle.table.specs.Row.{maxClock};
+ghost use Rattle.rules.specs.Learn.{metricHere, Extends, maxMetric};
 ghost use Rattle.rules.specs.Receive.{fieldChecks, rowChecks};
 ghost use Rattle.calls.specs.Answers.{answerTo};
-ghost use Rattle.receive.specs.Checks.{judgedBy, pathChecks, pathStateChecks};
+ghost use Rattle.receive.specs.Checks.{learntIf, pathStateChecks};
 ghost use Rattle.table.specs.Layout.{Sized};
-
-// The answer of the checks of a path. An acceptance carries the place where the subject was found.
-pub enum Judged {
-    Accepted(Found),
-    Refused(u32),
-}
 
 // Received metric + link metric above 4,294,967,294.
 fn is_too_far(a: Arrival, p: PathInfo) -> bool
-    ensures { λ r. ⌜ r ≡ ltb 4294967294 (metricHere a p .0) ⌝ }
+    ensures { λ r. ⌜ r ≡ ltb maxMetric (metricHere a p .0) ⌝ }
 {
     4294967294 < p.metric.0 as u64 + a.link.0 as u64
 }
 
 // By the element alone: 9 to 14.
-fn check_fields(a: Arrival, p: PathInfo, faults: Faults) -> Answer
+pub fn check_fields(a: Arrival, p: PathInfo, faults: Faults) -> Answer
     ensures { λ r. ⌜ r ≡ answerTo (fieldChecks (faults .address) (faults .list) (faults .ttl) a (some p)) ⌝ }
 {
     if faults.address {
@@ -57,41 +53,38 @@ fn check_fields(a: Arrival, p: PathInfo, faults: Faults) -> Answer
     Answer::Accepted
 }
 
-// By the rows: 24, 25 and 27.
-fn check_rows(table: &[u8], a: Arrival, p: PathInfo) -> Judged
+// Refuses by the rows, 24, 25 and 27, or does steps 1 and 2 where the subject was found.
+fn learn_by_rows(table: &mut [u8], a: Arrival, p: PathInfo) -> Answer
     requires { ⌜ Sized (now table) ⌝ }
-    ensures { λ r. ⌜ r ≡ judgedBy (now (table .entry)) p (rowChecks (now (table .entry)) a false (some p)) ⌝ }
+    requires { ⌜ a .clock ≤ maxClock ⌝ }
+    requires { ⌜ Extends a p ⌝ }
+    ensures { λ r. ⌜ r ≡ answerTo (rowChecks (now (table .entry)) a false (some p)) ⌝ }
+    ensures { λ r. ⌜ now (table .exit) ≡ learntIf r a p (now (table .entry)) ⌝ }
 {
     if p.subject.0 == row::read_head(table).own.0 {
-        return Judged::Refused(refusals::ABOUT_ITSELF);
+        return Answer::Refused(refusals::ABOUT_ITSELF);
     }
     let found = search::find_row(table, p.subject);
     if stale::is_stale(table, found, a, p) {
-        return Judged::Refused(refusals::STALE);
+        return Answer::Refused(refusals::STALE);
     }
     if room::lacks_rows(table, found, a, p) {
-        return Judged::Refused(refusals::NO_ROOM);
+        return Answer::Refused(refusals::NO_ROOM);
     }
-    Judged::Accepted(found)
+    steps::learn(table, found, a, p);
+    Answer::Accepted
 }
 
-// By the state: 21 to 25 and 27.
-fn check_state(table: &[u8], a: Arrival, p: PathInfo) -> Judged
+// Refuses by the state, 21 to 25 and 27, or does steps 1 and 2. Learns in here, and so hands no place of the subject back.
+pub fn learn(table: &mut [u8], a: Arrival, p: PathInfo) -> Answer
     requires { ⌜ Sized (now table) ⌝ }
-    ensures { λ r. ⌜ r ≡ judgedBy (now (table .entry)) p (pathStateChecks (now (table .entry)) a p) ⌝ }
+    requires { ⌜ a .clock ≤ maxClock ⌝ }
+    requires { ⌜ Extends a p ⌝ }
+    ensures { λ r. ⌜ r ≡ answerTo (pathStateChecks (now (table .entry)) a p) ⌝ }
+    ensures { λ r. ⌜ now (table .exit) ≡ learntIf r a p (now (table .entry)) ⌝ }
 {
     if let Answer::Refused(n) = clocked::check_state(table, a.clock, a.transmitter) {
-        return Judged::Refused(n);
+        return Answer::Refused(n);
     }
-    check_rows(table, a, p)
-}
-
-pub fn check(table: &[u8], a: Arrival, p: PathInfo, faults: Faults) -> Judged
-    requires { ⌜ Sized (now table) ⌝ }
-    ensures { λ r. ⌜ r ≡ judgedBy (now (table .entry)) p (pathChecks faults (now (table .entry)) a p) ⌝ }
-{
-    if let Answer::Refused(n) = check_fields(a, p, faults) {
-        return Judged::Refused(n);
-    }
-    check_state(table, a, p)
+    learn_by_rows(table, a, p)
 }

@@ -1,7 +1,7 @@
 // A received RREQ.
 use crate::faults;
 use crate::path;
-use crate::path::Judged;
+use calls::Answer;
 use calls::Emitted;
 use calls::Outcome;
 use calls::clocked;
@@ -9,30 +9,29 @@ use counters::SequenceNumber;
 use destinations::replies;
 use destinations::replies::Replied;
 use element::RreqFields;
-use learn::steps;
 use onward::request;
 use rules::Arrival;
 use table::row;
-use table::search::Found;
 ghost use mathlib.Core.Bool.{false};
 ghost use mathlib.Core.Path.{_≡_};
 ghost use Prim.Native.Nat.{_+_, _<_, _≤_};
 ghost use lib.ListN.{length};
+ghost use Rattle.table.specs.Row.{maxClock};
+ghost use Rattle.rules.specs.Learn.{Extends};
 ghost use Rattle.octets.specs.LittleEndian.{over};
 ghost use Rattle.element.specs.Layout.{PartOf};
 ghost use Rattle.element.specs.declared.Kind.{Kind};
 ghost use Rattle.element.specs.Element.{rreq};
 ghost use Rattle.element.specs.Entries.{targetsIn};
-ghost use Rattle.rules.specs.Decision.{accepted, decide};
+ghost use Rattle.rules.specs.Decision.{decide};
 ghost use Rattle.rules.specs.Destinations.{allAnswered};
-ghost use Rattle.rules.specs.Outcome.{atExit, frameOctets, lend};
-ghost use Rattle.rules.specs.Receive.{judging, received};
-ghost use Rattle.calls.specs.Answers.{exits};
-ghost use Rattle.receive.specs.Checks.{judgedBy};
+ghost use Rattle.rules.specs.Outcome.{atExit, frameOctets, lend, leastOutput};
+ghost use Rattle.rules.specs.Receive.{judging};
+ghost use Rattle.calls.specs.Answers.{answerTo, exits};
+ghost use Rattle.receive.specs.Checks.{learntIf};
 ghost use Rattle.onward.specs.Sent.{unicastToSeveral};
 ghost use Rattle.receive.specs.Sent.{framesAfter, sentFor, together};
 ghost use Rattle.table.specs.Layout.{Sized};
-ghost use Rattle.table.specs.Table.{findRow};
 
 // What a RREQ was answered with: the own number after it, and what was written.
 pub struct Sent {
@@ -40,11 +39,17 @@ pub struct Sent {
     pub emitted: Emitted,
 }
 
-fn check(table: &[u8], a: Arrival, f: RreqFields, part: &[u8]) -> Judged
+// Refuses it, or does steps 1 and 2.
+fn check_and_learn(table: &mut [u8], a: Arrival, f: RreqFields, part: &[u8]) -> Answer
     requires { ⌜ Sized (now table) ⌝ }
-    ensures { λ r. ⌜ r ≡ judgedBy (now (table .entry)) (f .path) (judging (lend (now (table .entry))) a (rreq f (targetsIn (now (part .entry)))) .checks) ⌝ }
+    requires { ⌜ a .clock ≤ maxClock ⌝ }
+    ensures { λ r. ⌜ r ≡ answerTo (judging (lend (now (table .entry))) a (rreq f (targetsIn (now (part .entry)))) .checks) ⌝ }
+    ensures { λ r. ⌜ now (table .exit) ≡ learntIf r a (f .path) (now (table .entry)) ⌝ }
 {
-    path::check(table, a, f.path, faults::of_rreq(f, part))
+    if let Answer::Refused(n) = path::check_fields(a, f.path, faults::of_rreq(f, part)) {
+        return Answer::Refused(n);
+    }
+    path::learn(table, a, f.path)
 }
 
 // Counts the replies, which stand from place at on, together with what goes on after them.
@@ -78,8 +83,7 @@ fn answer(
     requires { ⌜ at + 1054 ≤ length (now output) ⌝ }
     requires { ⌜ PartOf Kind.Rreq (now part) ⌝ }
     requires { ⌜ unicastToSeveral (f .path) (now part) ≡ false ⌝ }
-    requires { ⌜ f .path .metric .0 + a .link .0 ≤ 4294967294 ⌝ }
-    requires { ⌜ f .path .hops .0 < 255 ⌝ }
+    requires { ⌜ Extends a (f .path) ⌝ }
     ensures { λ r. ⌜ r ≡ sentFor (now (table .entry)) a f (allAnswered (now (table .entry)) a (f .path) number (targetsIn (now (part .entry)))) ⌝ }
     ensures { λ _. ⌜ now (output .exit) ≡ over (now (output .entry)) at (frameOctets (framesAfter (now (table .entry)) a f (allAnswered (now (table .entry)) a (f .path) number (targetsIn (now (part .entry)))))) ⌝ }
 {
@@ -88,34 +92,7 @@ fn answer(
     in_all(at, replied, onward)
 }
 
-// Steps 1 and 2, the replies, and it goes on.
-fn take(
-    table: &mut [u8],
-    output: &mut [u8],
-    found: Found,
-    a: Arrival,
-    f: RreqFields,
-    part: &[u8],
-) -> Outcome
-    requires { ⌜ Sized (now table) ⌝ }
-    requires { ⌜ 1560 ≤ length (now output) ⌝ }
-    requires { ⌜ PartOf Kind.Rreq (now part) ⌝ }
-    requires { ⌜ unicastToSeveral (f .path) (now part) ≡ false ⌝ }
-    requires { ⌜ a .clock ≤ 281474976710655 ⌝ }
-    requires { ⌜ f .path .metric .0 + a .link .0 ≤ 4294967294 ⌝ }
-    requires { ⌜ f .path .hops .0 < 255 ⌝ }
-    requires { ⌜ found ≡ findRow (now table) (f .path .subject) ⌝ }
-    ensures { λ r. ⌜ exits r (lend (now (table .exit))) (now (output .exit)) ≡ atExit (lend (now (table .entry))) (now (output .entry)) (accepted (received (lend (now (table .entry))) a (rreq f (targetsIn (now (part .entry)))))) ⌝ }
-{
-    let head = row::read_head(table);
-    steps::learn(table, found, a, f.path);
-    let sent = answer(output, 0, table, a, f, head.number, part);
-    let number = sent.number;
-    clocked::store_head(table, head, number, a.clock);
-    let emitted = sent.emitted;
-    Outcome::Accepted(emitted)
-}
-
+// Refuses it, or does steps 1 and 2, writes the replies, sends it on and stores the clock.
 pub fn receive(
     table: &mut [u8],
     output: &mut [u8],
@@ -124,13 +101,18 @@ pub fn receive(
     part: &[u8],
 ) -> Outcome
     requires { ⌜ Sized (now table) ⌝ }
-    requires { ⌜ 1560 ≤ length (now output) ⌝ }
-    requires { ⌜ a .clock ≤ 281474976710655 ⌝ }
+    requires { ⌜ leastOutput ≤ length (now output) ⌝ }
+    requires { ⌜ a .clock ≤ maxClock ⌝ }
     requires { ⌜ PartOf Kind.Rreq (now part) ⌝ }
     ensures { λ r. ⌜ exits r (lend (now (table .exit))) (now (output .exit)) ≡ atExit (lend (now (table .entry))) (now (output .entry)) (decide (judging (lend (now (table .entry))) a (rreq f (targetsIn (now (part .entry)))))) ⌝ }
 {
-    match check(table, a, f, part) {
-        Judged::Accepted(found) => take(table, output, found, a, f, part),
-        Judged::Refused(n) => Outcome::Refused(n),
+    if let Answer::Refused(n) = check_and_learn(table, a, f, part) {
+        return Outcome::Refused(n);
     }
+    let head = row::read_head(table);
+    let sent = answer(output, 0, table, a, f, head.number, part);
+    let number = sent.number;
+    clocked::store_head(table, head, number, a.clock);
+    let emitted = sent.emitted;
+    Outcome::Accepted(emitted)
 }

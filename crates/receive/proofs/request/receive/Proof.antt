@@ -1,7 +1,7 @@
--- `receive::request::receive` meets its contract: by its check, and by what an accepted one does. Assumes nothing.
+-- `receive::request::receive` meets its contract: by its checks, and by what an accepted one does. Assumes nothing.
 use borrow.Author.Needs.{needs}
-use Rattle.receive.proofs.Subjects.{subject-found}
-use Rattle.receive.proofs.Judging.{path-refused, path-accepted, metric-small, hops-small, one-destination}
+use Rattle.receive.proofs.Judging.{path-refused, path-extends, one-destination}
+use Rattle.receive.proofs.Taken.{rreq-received}
 use Rattle.receive.proofs.request.receive.Statement.{statement}
 use Rattle.receive.proofs.request.receive.Tie as tie
 
@@ -11,10 +11,12 @@ receive-spec =
     (tie.spec
     (λ c κs. search needs)
     (λ c. search needs)
-    (λ c κs. (search needs, (search needs, (search needs, (search one-destination, (search needs, (search metric-small, (search (hops-small, needs), search subject-found))))))))
+    (λ c. search needs)
+    (λ c. search path-refused)
+    (λ c. search needs)
+    (λ c κs. search needs)
+    (λ c κs. (search needs, (search needs, (search needs, (search one-destination, search (path-extends, c .before .before .before .before .before .before .before .before .before .before .before .before .before .good .1 .1 .1 .0))))))
+    (λ c κs. search (needs, c .before .before .before .before .before .before .before .before .before .before .before .before .before .before .before .before .before .before .pre))
     (λ c. search needs)
     (λ c. search needs)
-    (λ c. search needs)
-    (λ c. search path-accepted)
-    (λ c. search needs)
-    (λ c. search path-refused))
+    (λ c. search rreq-received))

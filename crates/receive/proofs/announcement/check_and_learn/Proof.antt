@@ -1,0 +1,25 @@
+-- `receive::announcement::check_and_learn` meets its contract: by its faults and its path. Assumes nothing.
+use borrow.Author.Needs.{needs}
+use Rattle.rules.specs.Receive.{matchesNothing}
+use Rattle.receive.proofs.Judging.{fields-refused, fields-passed, fields-extend}
+use Rattle.receive.proofs.Learnt.{nothing-learnt, both-steps}
+use Rattle.receive.proofs.announcement.check_and_learn.Statement.{statement}
+use Rattle.receive.proofs.announcement.check_and_learn.Tie as tie
+
+pub check-and-learn-spec : {M : Type 1} → statement M
+unfolding matchesNothing
+check-and-learn-spec =
+    tie.close
+    (tie.spec
+    (λ c κs. search needs)
+    (λ c κs. search needs)
+    (λ c. search needs)
+    (λ c. (search (fields-refused), search needs))
+    (λ c. search needs)
+    (λ c κs. (search needs, (search needs, search (fields-extend, needs))))
+    (λ c. search needs)
+    (λ c. search needs)
+    (λ c. (search (fields-passed), search nothing-learnt))
+    (λ c. search needs)
+    (λ c. search needs)
+    (λ c. (search (fields-passed), search both-steps)))
