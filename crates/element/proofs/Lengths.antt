@@ -1,7 +1,7 @@
 -- Lengths and counts: which there are, and that each fits its octet. Assumes nothing.
 use Prim.Native.Nat.{ℕ, _<_, _≤_}
 use mathlib.Core.Path.{_≡_}
-use mathlib.Core.Bool.{true}
+use mathlib.Core.Bool.{Bool, true, _&&_}
 use lib.Dec.{leb}
 use native.Mathlib.Omega.{arith}
 use borrow.Author.Tests.{leb-true}
@@ -16,6 +16,11 @@ pub count-range : (k : Kind) (n : ℕ) → countOk k n ≡ true → (fewest k �
 count-range k n e =
     let b = both (leb (fewest k) n) (leb n (most k)) e in
     (leb-true (fewest k) n (b .0), leb-true n (most k) (b .1))
+
+-- as the code asks it, by the type that a branch has found
+module _ (k j : Kind) (ke : k ≡ j) (n : ℕ) (b : Bool) where
+  pub count-is : b ≡ (leb (fewest j) n && leb n (most j)) → b ≡ countOk k n
+  count-is e = rw ke e
 
 abbrev pub shortest : Kind → ℕ
 shortest Rann = 21

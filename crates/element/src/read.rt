@@ -15,7 +15,7 @@ ghost use mathlib.Core.List.{[], _++_, _∷_};
 ghost use Prim.Native.Nat.{_+_, _≤_};
 ghost use lib.ListN.{getD, length};
 ghost use Rattle.octets.specs.LittleEndian.{fieldsAt};
-ghost use Rattle.element.specs.Layout.{countOk, fewest, fits, idOf, kindWith, lengthWith, most};
+ghost use Rattle.element.specs.Layout.{countOk, fits, idOf, kindWith, lengthWith};
 ghost use Rattle.element.specs.Octets.{countAs, fieldsAs, fixedFields, kindIn, listPart, pathFrom, readAs, reading, rerrFrom, rrepFrom, rreqFrom, wrongLength};
 ghost use Rattle.element.specs.declared.Kind.{Kind};
 
@@ -66,32 +66,16 @@ fn length_with(kind: Kind, n: u8) -> u32
     }
 }
 
-fn fewest(kind: Kind) -> u8
-    ensures { λ r. ⌜ r ≡ fewest kind ⌝ }
-{
-    match kind {
-        Kind::Rann => 0,
-        Kind::Rreq => 1,
-        Kind::Rrep => 0,
-        Kind::Rerr => 1,
-    }
-}
-
-fn most(kind: Kind) -> u8
-    ensures { λ r. ⌜ r ≡ most kind ⌝ }
-{
-    match kind {
-        Kind::Rann => 0,
-        Kind::Rreq => 20,
-        Kind::Rrep => 22,
-        Kind::Rerr => 25,
-    }
-}
-
+// Type by type, and not by two look-ups of the bounds: the compiler then compares with numbers.
 fn is_count(kind: Kind, n: u8) -> bool
     ensures { λ r. ⌜ r ≡ countOk kind n ⌝ }
 {
-    (fewest(kind) <= n) & (n <= most(kind))
+    match kind {
+        Kind::Rann => (0 <= n) & (n <= 0),
+        Kind::Rreq => (1 <= n) & (n <= 20),
+        Kind::Rrep => (0 <= n) & (n <= 22),
+        Kind::Rerr => (1 <= n) & (n <= 25),
+    }
 }
 
 // The octet at a place, or 0 where there is none.

@@ -20,8 +20,8 @@ ghost use Rattle.calls.specs.Answers.{answerTo, exits};
 ghost use Rattle.receive.specs.Checks.{learntIf};
 ghost use Rattle.table.specs.Layout.{Sized};
 
-// Refuses it, or does steps 1 and 2. Takes the second answer apart too: a RANN that is refused by its rows, as most are that
-// come by several ways, then leaves with fewer instructions.
+// Refuses it, or does steps 1 and 2. Takes the second answer apart too: a refusal then takes fewer instructions than if that
+// answer were handed on.
 fn check_and_learn(table: &mut [u8], a: Arrival, p: PathInfo) -> Answer
     requires { ⌜ Sized (now table) ⌝ }
     requires { ⌜ a .clock ≤ maxClock ⌝ }
