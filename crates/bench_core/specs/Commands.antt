@@ -19,7 +19,19 @@ use Rattle.rules.specs.Break.{breakNeighbour}
 use Rattle.rules.specs.Walk.{Walked, tableAt, walkedAtExit, walk}
 use Rattle.bench_core.specs.Links.{metricOf, linked}
 use Rattle.bench_core.specs.Frames.{senderOf, elementOf}
-use Rattle.bench_core.specs.Bench.{Bench, Done, fault, line, WithLinks, tableOf, addressIn, isPoint, withTableAt, calledBy, settled}
+use Rattle.bench_core.specs.Bench.{
+  Bench,
+  Done,
+  fault,
+  line,
+  WithLinks,
+  tableOf,
+  addressIn,
+  isPoint,
+  withTableAt,
+  calledBy,
+  settled,
+}
 
 -- 1 point. If refused, it is not added.
 abbrev pub added : Bench → Decision (List ℕ) → Done
@@ -53,15 +65,18 @@ advance b by =
 -- 3 link: a metric for both ways; 0 is no link
 unfoldable pub link : Bench → List (List ℕ) → ℕ → ℕ → ℕ → WithLinks
 link b links p q metric =
-    cond (isPoint b p && isPoint b q) (record { done = line 0 0 b; links = linked links p q metric }) (record { done = fault; links = links })
+    cond (isPoint b p && isPoint b q) (record { done = line 0 0 b; links = linked links p q metric })
+    (record { done = fault; links = links })
 
 -- 4 ask for one destination: its item is flags and address
 unfoldable pub askFor : Bench → ℕ → (item : List ℕ) → (lifetime : ℕ) → Done
-askFor b p item lifetime = cond (isPoint b p) (settled b p (calledBy b p (ask (lend (tableOf b p)) leastOutput lifetime item))) fault
+askFor b p item lifetime =
+    cond (isPoint b p) (settled b p (calledBy b p (ask (lend (tableOf b p)) leastOutput lifetime item))) fault
 
 -- 5 announce, flags 0
 unfoldable pub announceSelf : Bench → ℕ → (lifetime : ℕ) → Done
-announceSelf b p lifetime = cond (isPoint b p) (settled b p (calledBy b p (announce (lend (tableOf b p)) leastOutput 0 lifetime))) fault
+announceSelf b p lifetime =
+    cond (isPoint b p) (settled b p (calledBy b p (announce (lend (tableOf b p)) leastOutput 0 lifetime))) fault
 
 -- 6 deliver frame k: from its sender, over the link between the two, whoever its receiver is
 unfoldable pub handedOver : Bench → (k p : ℕ) → Arrival → Done
@@ -75,12 +90,14 @@ arrivalFrom tables links clock sender p =
 unfoldable pub deliver : Bench → List (List ℕ) → (k p : ℕ) → Done
 deliver b links k p =
     let sender = senderOf (b .slots) k in
-    cond (ltb k (b .frames) && isPoint b p && isPoint b sender) (handedOver b k p (arrivalFrom (b .tables) links (b .clock) sender p)) fault
+    cond (ltb k (b .frames) && isPoint b p && isPoint b sender)
+    (handedOver b k p (arrivalFrom (b .tables) links (b .clock) sender p)) fault
 
 -- 7 break: the neighbour is a point
 unfoldable pub breakOff : Bench → (p q : ℕ) → Done
 breakOff b p q =
-    cond (isPoint b p && isPoint b q) (settled b p (calledBy b p (breakNeighbour (lend (tableOf b p)) leastOutput (b .clock) (addressIn b q)))) fault
+    cond (isPoint b p && isPoint b q)
+    (settled b p (calledBy b p (breakNeighbour (lend (tableOf b p)) leastOutput (b .clock) (addressIn b q)))) fault
 
 -- 8 walk over the points, from one to another
 abbrev pub walkedLine : Bench → Walked → Done
@@ -89,5 +106,6 @@ walkedLine b w = line (w .answer) (w .hops) b
 unfoldable pub walkTo : Bench → (p q : ℕ) → Done
 walkTo b p q =
     cond (isPoint b p && isPoint b q)
-    (walkedLine b (walkedAtExit (walk (take (544 * b .points) (b .tables)) (b .points) (b .clock) (addressIn b p) (addressIn b q))))
+    (walkedLine b
+    (walkedAtExit (walk (take (544 * b .points) (b .tables)) (b .points) (b .clock) (addressIn b p) (addressIn b q))))
     fault

@@ -24,15 +24,19 @@ benchOf s tables slots = record { tables = tables; points = s .points; slots = s
 abbrev pub doneIn : Done → List ℕ → List ℕ → Came
 doneIn Fault tables slots = fault
 doneIn (Line x) tables slots =
-    line (x .answer) (x .third) (record { tables = tables; points = x .points; slots = slots; frames = x .frames; clock = x .clock })
+    line (x .answer) (x .third)
+    (record { tables = tables; points = x .points; slots = slots; frames = x .frames; clock = x .clock })
 
 -- a line after which the bench holds what it did
 abbrev pub printed : State → ℕ → ℕ → Done
-printed s answer third = Line (record { answer = answer; third = third; points = s .points; frames = s .frames; clock = s .clock })
+printed s answer third =
+    Line (record { answer = answer; third = third; points = s .points; frames = s .frames; clock = s .clock })
 
 -- what is printed after n frames were emitted, and what stands in the slots
 abbrev pub keptAs : State → ℕ → Done
-keptAs s n = cond ((s .frames + n) above 128) Fault (printed (record { points = s .points; frames = s .frames + n; clock = s .clock }) 0 n)
+keptAs s n =
+    cond ((s .frames + n) above 128) Fault
+    (printed (record { points = s .points; frames = s .frames + n; clock = s .clock }) 0 n)
 
 abbrev pub keptSlots : State → ℕ → (sender : ℕ) → (output slots : List ℕ) → List ℕ
 keptSlots s n sender output slots = cond ((s .frames + n) above 128) slots (keep slots output sender (s .frames) n 0)
@@ -66,7 +70,8 @@ Advances r s by = (tables slots : List ℕ) → doneIn r tables slots ≡ advanc
 
 unfoldable pub Links : Done → State → (p q metric : ℕ) → (links links′ : List (List ℕ)) → Type 0
 Links r s p q metric links links′ =
-    (tables slots : List ℕ) → record { done = doneIn r tables slots; links = links′ } ≡ link (benchOf s tables slots) links p q metric
+    (tables slots : List ℕ)
+    → record { done = doneIn r tables slots; links = links′ } ≡ link (benchOf s tables slots) links p q metric
 
 unfoldable pub Walks : Done → State → (p q : ℕ) → (tables : List ℕ) → Type 0
 Walks r s p q tables = (slots : List ℕ) → doneIn r tables slots ≡ walkTo (benchOf s tables slots) p q

@@ -38,7 +38,8 @@ fn obey(
 ) -> Done
     requires { ⌜ lengthOf command ≤ length (now input) ⌝ }
     requires { ⌜ Memory s (now tables) (now slots) ⌝ }
-    ensures { λ r. ⌜ record { done = doneIn r (now (tables .exit)) (now (slots .exit)); links = now (links .exit) } ≡ obeyed (benchOf s (now (tables .entry)) (now (slots .entry))) (now (links .entry)) (now (input .entry)) command ⌝ }
+    ensures { λ r. ⌜ record { done = doneIn r (now (tables .exit)) (now (slots .exit)); links = now (links .exit) }
+        ≡ obeyed (benchOf s (now (tables .entry)) (now (slots .entry))) (now (links .entry)) (now (input .entry)) command ⌝ }
 {
     if command == 1 {
         return operands::point(input, s, tables);
@@ -77,7 +78,8 @@ pub fn obey_first(
 ) -> Done
     requires { ⌜ 0 < length (now input) ⌝ }
     requires { ⌜ Memory s (now tables) (now slots) ⌝ }
-    ensures { λ r. ⌜ record { done = doneIn r (now (tables .exit)) (now (slots .exit)); links = now (links .exit) } ≡ command (benchOf s (now (tables .entry)) (now (slots .entry))) (now (links .entry)) (now (input .entry)) ⌝ }
+    ensures { λ r. ⌜ record { done = doneIn r (now (tables .exit)) (now (slots .exit)); links = now (links .exit) }
+        ≡ command (benchOf s (now (tables .entry)) (now (slots .entry))) (now (links .entry)) (now (input .entry)) ⌝ }
 {
     let command = octets::read_u8(input, 0);
     let length = length_of(command);

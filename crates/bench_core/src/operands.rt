@@ -17,7 +17,8 @@ ghost use Rattle.bench_core.specs.InCode.{Adds, Advances, Links, Memory,
 pub fn point(input: &[u8], s: State, tables: &mut [u8]) -> Done
     requires { ⌜ 11 ≤ length (now input) ⌝ }
     requires { ⌜ length (now tables) ≡ 8704 ⌝ }
-    ensures { λ r. ⌜ Adds r s (record { 0 = numberAt 6 (now (input .entry)) 1 }) (record { 0 = numberAt 4 (now (input .entry)) 7 }) (now (tables .entry)) (now (tables .exit)) ⌝ }
+    ensures { λ r. ⌜ Adds r s (record { 0 = numberAt 6 (now (input .entry)) 1 })
+        (record { 0 = numberAt 4 (now (input .entry)) 7 }) (now (tables .entry)) (now (tables .exit)) ⌝ }
 {
     let own = Address(octets::read_u48(input, 1));
     let number = SequenceNumber(octets::read_u32(input, 7));
@@ -35,7 +36,8 @@ pub fn advance(input: &[u8], s: State) -> Done
 pub fn link(input: &[u8], s: State, links: &mut [[u32; 16]; 16]) -> Done
     requires { ⌜ 7 ≤ length (now input) ⌝ }
     requires { ⌜ s .points ≤ 16 ⌝ }
-    ensures { λ r. ⌜ Links r s (numberAt 1 (now (input .entry)) 1) (numberAt 1 (now (input .entry)) 2) (numberAt 4 (now (input .entry)) 3) (now (links .entry)) (now (links .exit)) ⌝ }
+    ensures { λ r. ⌜ Links r s (numberAt 1 (now (input .entry)) 1) (numberAt 1 (now (input .entry)) 2)
+        (numberAt 4 (now (input .entry)) 3) (now (links .entry)) (now (links .exit)) ⌝ }
 {
     let p = octets::read_u8(input, 1);
     let q = octets::read_u8(input, 2);
@@ -45,7 +47,9 @@ pub fn link(input: &[u8], s: State, links: &mut [[u32; 16]; 16]) -> Done
 pub fn ask(input: &[u8], s: State, tables: &mut [u8], slots: &mut [u8]) -> Done
     requires { ⌜ 13 ≤ length (now input) ⌝ }
     requires { ⌜ Memory s (now tables) (now slots) ⌝ }
-    ensures { λ r. ⌜ doneIn r (now (tables .exit)) (now (slots .exit)) ≡ askFor (benchOf s (now (tables .entry)) (now (slots .entry))) (numberAt 1 (now (input .entry)) 1) (take 7 (drop 2 (now (input .entry)))) (numberAt 4 (now (input .entry)) 9) ⌝ }
+    ensures { λ r. ⌜ doneIn r (now (tables .exit)) (now (slots .exit))
+        ≡ askFor (benchOf s (now (tables .entry)) (now (slots .entry))) (numberAt 1 (now (input .entry)) 1)
+        (take 7 (drop 2 (now (input .entry)))) (numberAt 4 (now (input .entry)) 9) ⌝ }
 {
     let p = octets::read_u8(input, 1);
     let lifetime = octets::read_u32(input, 9);
@@ -55,7 +59,9 @@ pub fn ask(input: &[u8], s: State, tables: &mut [u8], slots: &mut [u8]) -> Done
 pub fn announce(input: &[u8], s: State, tables: &mut [u8], slots: &mut [u8]) -> Done
     requires { ⌜ 6 ≤ length (now input) ⌝ }
     requires { ⌜ Memory s (now tables) (now slots) ⌝ }
-    ensures { λ r. ⌜ doneIn r (now (tables .exit)) (now (slots .exit)) ≡ announceSelf (benchOf s (now (tables .entry)) (now (slots .entry))) (numberAt 1 (now (input .entry)) 1) (numberAt 4 (now (input .entry)) 2) ⌝ }
+    ensures { λ r. ⌜ doneIn r (now (tables .exit)) (now (slots .exit))
+        ≡ announceSelf (benchOf s (now (tables .entry)) (now (slots .entry))) (numberAt 1 (now (input .entry)) 1)
+        (numberAt 4 (now (input .entry)) 2) ⌝ }
 {
     let p = octets::read_u8(input, 1);
     traffic::announce_self(s, p, octets::read_u32(input, 2), tables, slots)
@@ -70,7 +76,9 @@ pub fn deliver(
 ) -> Done
     requires { ⌜ 4 ≤ length (now input) ⌝ }
     requires { ⌜ Memory s (now tables) (now slots) ⌝ }
-    ensures { λ r. ⌜ doneIn r (now (tables .exit)) (now (slots .exit)) ≡ deliver (benchOf s (now (tables .entry)) (now (slots .entry))) (now (links .entry)) (numberAt 2 (now (input .entry)) 1) (numberAt 1 (now (input .entry)) 3) ⌝ }
+    ensures { λ r. ⌜ doneIn r (now (tables .exit)) (now (slots .exit))
+        ≡ deliver (benchOf s (now (tables .entry)) (now (slots .entry))) (now (links .entry))
+        (numberAt 2 (now (input .entry)) 1) (numberAt 1 (now (input .entry)) 3) ⌝ }
 {
     let k = octets::read_u16(input, 1);
     traffic::deliver_frame(s, k, octets::read_u8(input, 3), tables, slots, links)
@@ -79,7 +87,9 @@ pub fn deliver(
 pub fn break_off(input: &[u8], s: State, tables: &mut [u8], slots: &mut [u8]) -> Done
     requires { ⌜ 3 ≤ length (now input) ⌝ }
     requires { ⌜ Memory s (now tables) (now slots) ⌝ }
-    ensures { λ r. ⌜ doneIn r (now (tables .exit)) (now (slots .exit)) ≡ breakOff (benchOf s (now (tables .entry)) (now (slots .entry))) (numberAt 1 (now (input .entry)) 1) (numberAt 1 (now (input .entry)) 2) ⌝ }
+    ensures { λ r. ⌜ doneIn r (now (tables .exit)) (now (slots .exit))
+        ≡ breakOff (benchOf s (now (tables .entry)) (now (slots .entry))) (numberAt 1 (now (input .entry)) 1)
+        (numberAt 1 (now (input .entry)) 2) ⌝ }
 {
     let p = octets::read_u8(input, 1);
     traffic::break_off(s, p, octets::read_u8(input, 2), tables, slots)

@@ -28,7 +28,8 @@ pub fn ask_for(
     slots: &mut [u8],
 ) -> Done
     requires { ⌜ Memory s (now tables) (now slots) ⌝ }
-    ensures { λ r. ⌜ doneIn r (now (tables .exit)) (now (slots .exit)) ≡ askFor (benchOf s (now (tables .entry)) (now (slots .entry))) p (now (item .entry)) lifetime ⌝ }
+    ensures { λ r. ⌜ doneIn r (now (tables .exit)) (now (slots .exit))
+        ≡ askFor (benchOf s (now (tables .entry)) (now (slots .entry))) p (now (item .entry)) lifetime ⌝ }
 {
     if s.points <= p as usize {
         return Done::Fault;
@@ -41,7 +42,8 @@ pub fn ask_for(
 
 pub fn announce_self(s: State, p: u8, lifetime: u32, tables: &mut [u8], slots: &mut [u8]) -> Done
     requires { ⌜ Memory s (now tables) (now slots) ⌝ }
-    ensures { λ r. ⌜ doneIn r (now (tables .exit)) (now (slots .exit)) ≡ announceSelf (benchOf s (now (tables .entry)) (now (slots .entry))) p lifetime ⌝ }
+    ensures { λ r. ⌜ doneIn r (now (tables .exit)) (now (slots .exit))
+        ≡ announceSelf (benchOf s (now (tables .entry)) (now (slots .entry))) p lifetime ⌝ }
 {
     if s.points <= p as usize {
         return Done::Fault;
@@ -76,7 +78,8 @@ fn hand_over(
 ) -> Done
     requires { ⌜ Memory s (now tables) (now slots) ⌝ }
     requires { ⌜ (k < s .frames) × (p < s .points) ⌝ }
-    ensures { λ r. ⌜ doneIn r (now (tables .exit)) (now (slots .exit)) ≡ handedOver (benchOf s (now (tables .entry)) (now (slots .entry))) k p arrival ⌝ }
+    ensures { λ r. ⌜ doneIn r (now (tables .exit)) (now (slots .exit))
+        ≡ handedOver (benchOf s (now (tables .entry)) (now (slots .entry))) k p arrival ⌝ }
 {
     let at = TABLE * p as usize;
     let mut output = [0u8; LEAST_OUTPUT];
@@ -95,7 +98,8 @@ pub fn deliver_frame(
     links: &[[u32; 16]; 16],
 ) -> Done
     requires { ⌜ Memory s (now tables) (now slots) ⌝ }
-    ensures { λ r. ⌜ doneIn r (now (tables .exit)) (now (slots .exit)) ≡ deliver (benchOf s (now (tables .entry)) (now (slots .entry))) (now (links .entry)) k p ⌝ }
+    ensures { λ r. ⌜ doneIn r (now (tables .exit)) (now (slots .exit))
+        ≡ deliver (benchOf s (now (tables .entry)) (now (slots .entry))) (now (links .entry)) k p ⌝ }
 {
     if s.frames <= k as usize {
         return Done::Fault;
@@ -114,7 +118,8 @@ pub fn deliver_frame(
 // The neighbour is another point, or the point itself, which is refused.
 pub fn break_off(s: State, p: u8, q: u8, tables: &mut [u8], slots: &mut [u8]) -> Done
     requires { ⌜ Memory s (now tables) (now slots) ⌝ }
-    ensures { λ r. ⌜ doneIn r (now (tables .exit)) (now (slots .exit)) ≡ breakOff (benchOf s (now (tables .entry)) (now (slots .entry))) p q ⌝ }
+    ensures { λ r. ⌜ doneIn r (now (tables .exit)) (now (slots .exit))
+        ≡ breakOff (benchOf s (now (tables .entry)) (now (slots .entry))) p q ⌝ }
 {
     if s.points <= p as usize {
         return Done::Fault;

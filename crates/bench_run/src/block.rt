@@ -28,7 +28,8 @@ fn print_line(p: Progress, rest: &[u8], x: Printed, text: &mut [u8]) -> Progress
     requires { ⌜ (0 < lengthOf (numberAt 1 (now rest) 0)) × (lengthOf (numberAt 1 (now rest) 0) ≤ length (now rest)) ⌝ }
     requires { ⌜ (p .used + length (now rest) < 18446744073709551616) × (p .written + 64 ≤ length (now text)) ⌝ }
     requires { ⌜ Bounded (x .points) (x .frames) (x .clock) ⌝ }
-    ensures { λ r. ⌜ (p .used < r .used) × (r .used ≤ p .used + length (now (rest .entry))) × (r .written ≤ p .written + 64) × Bounded (r .points) (r .frames) (r .clock) ⌝ }
+    ensures { λ r. ⌜ (p .used < r .used) × (r .used ≤ p .used + length (now (rest .entry)))
+        × (r .written ≤ p .written + 64) × Bounded (r .points) (r .frames) (r .clock) ⌝ }
 {
     let used = p.used;
     let written = p.written;
@@ -73,7 +74,8 @@ fn step(
     requires { ⌜ (p .used < length (now block)) × (p .written + 64 ≤ length (now text)) ⌝ }
     requires { ⌜ (length (now tables) ≡ 8704) × (length (now slots) ≡ 33792) ⌝ }
     requires { ⌜ Bounded (p .points) (p .frames) (p .clock) ⌝ }
-    ensures { λ r. ⌜ (p .used < r .used) × (r .used ≤ length (now (block .entry))) × (r .written ≤ p .written + 64) × Bounded (r .points) (r .frames) (r .clock) ⌝ }
+    ensures { λ r. ⌜ (p .used < r .used) × (r .used ≤ length (now (block .entry))) × (r .written ≤ p .written + 64)
+        × Bounded (r .points) (r .frames) (r .clock) ⌝ }
 {
     let used = p.used;
     let s = State {

@@ -18,7 +18,8 @@ ghost use Rattle.rules.specs.Outcome.{atExit, lend, leastOutput};
 ghost use Rattle.calls.specs.Answers.{answerTo, exits};
 
 fn check(table: &[u8], output: &[u8], clock: u64, neighbour: Address) -> Answer
-    ensures { λ r. ⌜ r ≡ answerTo (breaking (lend (now (table .entry))) (length (now (output .entry))) clock neighbour .checks) ⌝ }
+    ensures { λ r. ⌜ r ≡ answerTo
+        (breaking (lend (now (table .entry))) (length (now (output .entry))) clock neighbour .checks) ⌝ }
 {
     if let Answer::Refused(n) = clocked::check_operands(table, output, clock, neighbour) {
         return Answer::Refused(n);
@@ -30,7 +31,9 @@ fn check(table: &[u8], output: &[u8], clock: u64, neighbour: Address) -> Answer
 fn break_off(table: &mut [u8], output: &mut [u8], clock: u64, neighbour: Address) -> Outcome
     requires { ⌜ Sized (now table) ⌝ }
     requires { ⌜ leastOutput ≤ length (now output) ⌝ }
-    ensures { λ r. ⌜ exits r (lend (now (table .exit))) (now (output .exit)) ≡ atExit (lend (now (table .entry))) (now (output .entry)) (accepted (brokenOff (lend (now (table .entry))) clock (isThrough clock neighbour))) ⌝ }
+    ensures { λ r. ⌜ exits r (lend (now (table .exit))) (now (output .exit))
+        ≡ atExit (lend (now (table .entry))) (now (output .entry))
+        (accepted (brokenOff (lend (now (table .entry))) clock (isThrough clock neighbour))) ⌝ }
 {
     let head = row::read_head(table);
     let reported = report::report(output, 0, table, clock, neighbour);
@@ -45,7 +48,9 @@ pub fn break_neighbour(
     clock: u64,
     neighbour: Address,
 ) -> Outcome
-    ensures { λ r. ⌜ exits r (lend (now (table .exit))) (now (output .exit)) ≡ atExit (lend (now (table .entry))) (now (output .entry)) (breakNeighbour (lend (now (table .entry))) (length (now (output .entry))) clock neighbour) ⌝ }
+    ensures { λ r. ⌜ exits r (lend (now (table .exit))) (now (output .exit))
+        ≡ atExit (lend (now (table .entry))) (now (output .entry))
+        (breakNeighbour (lend (now (table .entry))) (length (now (output .entry))) clock neighbour) ⌝ }
 {
     match check(table, output, clock, neighbour) {
         Answer::Accepted => break_off(table, output, clock, neighbour),

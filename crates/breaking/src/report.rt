@@ -90,7 +90,8 @@ pub fn report(
     ensures { λ r. ⌜ r ≡ reportedFrom at (brokenEntries (isThrough clock neighbour) (now (table .entry))) ⌝ }
     ensures { λ r. ⌜ r .lost ≤ mostRows ⌝ }
     ensures { λ _. ⌜ now (output .exit)
-        ≡ over (now (output .entry)) at (frameOctets (errorsFor (brokenEntries (isThrough clock neighbour) (now (table .entry))))) ⌝ }
+        ≡ over (now (output .entry)) at
+        (frameOctets (errorsFor (brokenEntries (isThrough clock neighbour) (now (table .entry))))) ⌝ }
 {
     let n = search::rows_of(table);
     let reported = report_rows(output, at, table, n, clock, neighbour);

@@ -83,7 +83,8 @@ fn row_fields(p: PathInfo, r: Row) -> RrepFields
 fn write_reply(output: &mut [u8], at: usize, a: Arrival, f: RrepFields) -> usize
     requires { ⌜ at + 40 ≤ length (now output) ⌝ }
     ensures { λ r. ⌜ r ≡ at + 40 ⌝ }
-    ensures { λ _. ⌜ now (output .exit) ≡ over (now (output .entry)) at (frameOctets (record { receiver = a .transmitter; element = rrep f [] } ∷ [])) ⌝ }
+    ensures { λ _. ⌜ now (output .exit)
+        ≡ over (now (output .entry)) at (frameOctets (record { receiver = a .transmitter; element = rrep f [] } ∷ [])) ⌝ }
 {
     write::start_rrep(output, at, a.transmitter, f, 0)
 }
@@ -111,7 +112,8 @@ fn reply_as_oneself(
     requires { ⌜ before .frames < 20 ⌝ }
     requires { ⌜ Sized (now table) ⌝ }
     ensures { λ r. ⌜ r ≡ record { number = number; frames = before .frames + 1; place = before .place + 40 } ⌝ }
-    ensures { λ _. ⌜ now (output .exit) ≡ over (now (output .entry)) (before .place) (frameOctets (ownReply a p (own (now (table .entry))) number ∷ [])) ⌝ }
+    ensures { λ _. ⌜ now (output .exit)
+        ≡ over (now (output .entry)) (before .place) (frameOctets (ownReply a p (own (now (table .entry))) number ∷ [])) ⌝ }
 {
     let f = own_fields(p, row::read_head(table).own, number);
     let place = write_reply(output, before.place, a, f);
@@ -135,8 +137,12 @@ fn reply_for_another(
     requires { ⌜ before .place + 40 ≤ length (now output) ⌝ }
     requires { ⌜ before .frames < 20 ⌝ }
     requires { ⌜ Sized (now table) ⌝ }
-    ensures { λ r. ⌜ r ≡ repliedAfter before (forAnother (now (table .entry)) a p (before .number) q (rowFor (now (table .entry)) (q .address))) ⌝ }
-    ensures { λ _. ⌜ now (output .exit) ≡ over (now (output .entry)) (before .place) (frameOctets (forAnother (now (table .entry)) a p (before .number) q (rowFor (now (table .entry)) (q .address)) .replies)) ⌝ }
+    ensures { λ r. ⌜ r ≡ repliedAfter before
+        (forAnother (now (table .entry)) a p (before .number) q (rowFor (now (table .entry)) (q .address))) ⌝ }
+    ensures { λ _. ⌜ now (output .exit)
+        ≡ over (now (output .entry)) (before .place)
+        (frameOctets (forAnother (now (table .entry)) a p (before .number) q
+        (rowFor (now (table .entry)) (q .address)) .replies)) ⌝ }
 {
     let Answering::By(r) = answering::answering_row(table, a.clock, q) else {
         return before;
@@ -164,7 +170,9 @@ fn reply_to(
     requires { ⌜ before .frames < 20 ⌝ }
     requires { ⌜ Sized (now table) ⌝ }
     ensures { λ r. ⌜ r ≡ repliedAfter before (answered (now (table .entry)) a p (before .number) q) ⌝ }
-    ensures { λ _. ⌜ now (output .exit) ≡ over (now (output .entry)) (before .place) (frameOctets (answered (now (table .entry)) a p (before .number) q .replies)) ⌝ }
+    ensures { λ _. ⌜ now (output .exit)
+        ≡ over (now (output .entry)) (before .place)
+        (frameOctets (answered (now (table .entry)) a p (before .number) q .replies)) ⌝ }
 {
     let number = before.number;
     if q.address.0 == row::read_head(table).own.0 {
@@ -200,7 +208,9 @@ pub fn write_replies(
     requires { ⌜ PartOf Kind.Rreq (now part) ⌝ }
     requires { ⌜ at + 800 ≤ length (now output) ⌝ }
     ensures { λ r. ⌜ r ≡ repliedFrom at (allAnswered (now (table .entry)) a p number (targetsIn (now (part .entry)))) ⌝ }
-    ensures { λ _. ⌜ now (output .exit) ≡ over (now (output .entry)) at (frameOctets (allAnswered (now (table .entry)) a p number (targetsIn (now (part .entry))) .replies)) ⌝ }
+    ensures { λ _. ⌜ now (output .exit)
+        ≡ over (now (output .entry)) at
+        (frameOctets (allAnswered (now (table .entry)) a p number (targetsIn (now (part .entry))) .replies)) ⌝ }
 {
     let n = part.len() / list::TARGET;
     let mut replied = Replied {

@@ -12,7 +12,16 @@ ghost use lib.ListN.{length};
 ghost use Rattle.element.specs.Layout.{sizeOf};
 ghost use Rattle.element.specs.declared.list.ListKind.{ListKind};
 ghost use Rattle.element.specs.Entries.{entriesIn, itemAt, lostAt, numberedAt, targetAt};
-ghost use Rattle.element.specs.Lists.{addressIn, addressesFrom, addressesIn, allowed, among, anyForbidden, onesBesideOthers, twice};
+ghost use Rattle.element.specs.Lists.{
+  addressIn,
+  addressesFrom,
+  addressesIn,
+  allowed,
+  among,
+  anyForbidden,
+  onesBesideOthers,
+  twice,
+};
 
 // Every point: as a receiver, and as the destination of a root request.
 pub const ALL_ONES: u64 = 281474976710655;

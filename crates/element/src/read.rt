@@ -16,7 +16,20 @@ ghost use Prim.Native.Nat.{_+_, _≤_};
 ghost use lib.ListN.{getD, length};
 ghost use Rattle.octets.specs.LittleEndian.{fieldsAt};
 ghost use Rattle.element.specs.Layout.{countOk, fits, idOf, kindWith, lengthWith};
-ghost use Rattle.element.specs.Octets.{countAs, fieldsAs, fixedFields, kindIn, listPart, pathFrom, readAs, reading, rerrFrom, rrepFrom, rreqFrom, wrongLength};
+ghost use Rattle.element.specs.Octets.{
+  countAs,
+  fieldsAs,
+  fixedFields,
+  kindIn,
+  listPart,
+  pathFrom,
+  readAs,
+  reading,
+  rerrFrom,
+  rrepFrom,
+  rreqFrom,
+  wrongLength,
+};
 ghost use Rattle.element.specs.declared.Kind.{Kind};
 
 // The fixed fields of an element, or a refusal. What follows them is `list_part`.
@@ -120,7 +133,8 @@ fn fits_kind(element: &[u8], kind: Kind) -> bool
 // Flags, hop count and TTL, and the path with its subject at place at.
 fn read_path(element: &[u8], at: usize) -> PathInfo
     requires { ⌜ at + 18 ≤ length (now element) ⌝ }
-    ensures { λ r. ⌜ r ≡ pathFrom (fieldsAt (1 ∷ 1 ∷ 1 ∷ []) (now (element .entry)) 2 0 ++ fieldsAt (6 ∷ 4 ∷ 4 ∷ 4 ∷ []) (now (element .entry)) at 0) 3 ⌝ }
+    ensures { λ r. ⌜ r ≡ pathFrom
+        (fieldsAt (1 ∷ 1 ∷ 1 ∷ []) (now (element .entry)) 2 0 ++ fieldsAt (6 ∷ 4 ∷ 4 ∷ 4 ∷ []) (now (element .entry)) at 0) 3 ⌝ }
 {
     PathInfo {
         flags: octets::read_u8(element, 2),

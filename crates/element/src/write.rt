@@ -34,7 +34,8 @@ pub const RERR_START: usize = 10;
 fn start_frame(out: &mut [u8], at: usize, to: Address, widths: &[u8], numbers: &[u64])
     requires { ⌜ at + 6 + total (now widths) ≤ length (now out) ⌝ }
     requires { ⌜ length (now widths) ≡ length (now numbers) ⌝ }
-    ensures { λ _. ⌜ now (out .exit) ≡ over (now (out .entry)) at (numberOctets 6 (to .0) ++ fieldOctets (now (widths .entry)) (now (numbers .entry))) ⌝ }
+    ensures { λ _. ⌜ now (out .exit)
+        ≡ over (now (out .entry)) at (numberOctets 6 (to .0) ++ fieldOctets (now (widths .entry)) (now (numbers .entry))) ⌝ }
 {
     octets::write_number(out, at, 6, to.0);
     octets::write_fields(out, at + 6, widths, numbers);

@@ -79,14 +79,16 @@ fn outcome_for(outcome: Outcome) -> HwmpOutcome
 
 #[no_mangle]
 pub extern "C" fn hwmp_fresh(table: &mut [u8], own: &[u8; 6], number: u32) -> u32
-    ensures { λ r. ⌜ record { answer = r; table = now (table .exit) } ≡ left (now (table .entry)) (makeFresh (now (table .entry)) (addressOf (now (own .entry))) (record { 0 = number })) ⌝ }
+    ensures { λ r. ⌜ record { answer = r; table = now (table .exit) }
+        ≡ left (now (table .entry)) (makeFresh (now (table .entry)) (addressOf (now (own .entry))) (record { 0 = number })) ⌝ }
 {
     calls::number_of(fresh::make_fresh(table, address::read(own), SequenceNumber(number)))
 }
 
 #[no_mangle]
 pub extern "C" fn hwmp_forget(table: &mut [u8], destination: &[u8; 6]) -> u32
-    ensures { λ r. ⌜ record { answer = r; table = now (table .exit) } ≡ left (now (table .entry)) (forget (now (table .entry)) (addressOf (now (destination .entry)))) ⌝ }
+    ensures { λ r. ⌜ record { answer = r; table = now (table .exit) }
+        ≡ left (now (table .entry)) (forget (now (table .entry)) (addressOf (now (destination .entry)))) ⌝ }
 {
     calls::number_of(forget::forget(table, address::read(destination)))
 }
@@ -107,7 +109,11 @@ pub extern "C" fn hwmp_receive(
     link: u32,
     element: &[u8],
 ) -> HwmpOutcome
-    ensures { λ r. ⌜ leaving r (lend (now (table .exit))) (now (output .exit)) ≡ atExit (lend (now (table .entry))) (now (output .entry)) (receive (lend (now (table .entry))) (length (now (output .entry))) (record { clock = clock; transmitter = addressOf (now (transmitter .entry)); link = record { 0 = link } }) (now (element .entry))) ⌝ }
+    ensures { λ r. ⌜ leaving r (lend (now (table .exit))) (now (output .exit))
+        ≡ atExit (lend (now (table .entry))) (now (output .entry))
+        (receive (lend (now (table .entry))) (length (now (output .entry)))
+        (record { clock = clock; transmitter = addressOf (now (transmitter .entry)); link = record { 0 = link } })
+        (now (element .entry))) ⌝ }
 {
     let arrival = Arrival {
         clock,
@@ -124,7 +130,9 @@ pub extern "C" fn hwmp_ask(
     lifetime: u32,
     items: &[u8],
 ) -> HwmpOutcome
-    ensures { λ r. ⌜ leaving r (lend (now (table .exit))) (now (output .exit)) ≡ atExit (lend (now (table .entry))) (now (output .entry)) (ask (lend (now (table .entry))) (length (now (output .entry))) lifetime (now (items .entry))) ⌝ }
+    ensures { λ r. ⌜ leaving r (lend (now (table .exit))) (now (output .exit))
+        ≡ atExit (lend (now (table .entry))) (now (output .entry))
+        (ask (lend (now (table .entry))) (length (now (output .entry))) lifetime (now (items .entry))) ⌝ }
 {
     outcome_for(ask::ask(table, output, lifetime, items))
 }
@@ -136,7 +144,9 @@ pub extern "C" fn hwmp_announce(
     flags: u8,
     lifetime: u32,
 ) -> HwmpOutcome
-    ensures { λ r. ⌜ leaving r (lend (now (table .exit))) (now (output .exit)) ≡ atExit (lend (now (table .entry))) (now (output .entry)) (announce (lend (now (table .entry))) (length (now (output .entry))) flags lifetime) ⌝ }
+    ensures { λ r. ⌜ leaving r (lend (now (table .exit))) (now (output .exit))
+        ≡ atExit (lend (now (table .entry))) (now (output .entry))
+        (announce (lend (now (table .entry))) (length (now (output .entry))) flags lifetime) ⌝ }
 {
     outcome_for(announce::announce(table, output, flags, lifetime))
 }
@@ -148,7 +158,9 @@ pub extern "C" fn hwmp_root_request(
     flags: u8,
     lifetime: u32,
 ) -> HwmpOutcome
-    ensures { λ r. ⌜ leaving r (lend (now (table .exit))) (now (output .exit)) ≡ atExit (lend (now (table .entry))) (now (output .entry)) (rootRequest (lend (now (table .entry))) (length (now (output .entry))) flags lifetime) ⌝ }
+    ensures { λ r. ⌜ leaving r (lend (now (table .exit))) (now (output .exit))
+        ≡ atExit (lend (now (table .entry))) (now (output .entry))
+        (rootRequest (lend (now (table .entry))) (length (now (output .entry))) flags lifetime) ⌝ }
 {
     outcome_for(root_request::root_request(table, output, flags, lifetime))
 }
@@ -160,7 +172,10 @@ pub extern "C" fn hwmp_break(
     clock: u64,
     neighbour: &[u8; 6],
 ) -> HwmpOutcome
-    ensures { λ r. ⌜ leaving r (lend (now (table .exit))) (now (output .exit)) ≡ atExit (lend (now (table .entry))) (now (output .entry)) (breakNeighbour (lend (now (table .entry))) (length (now (output .entry))) clock (addressOf (now (neighbour .entry)))) ⌝ }
+    ensures { λ r. ⌜ leaving r (lend (now (table .exit))) (now (output .exit))
+        ≡ atExit (lend (now (table .entry))) (now (output .entry))
+        (breakNeighbour (lend (now (table .entry))) (length (now (output .entry))) clock
+        (addressOf (now (neighbour .entry)))) ⌝ }
 {
     outcome_for(break_neighbour::break_neighbour(table, output, clock, address::read(neighbour)))
 }
@@ -173,7 +188,9 @@ pub extern "C" fn hwmp_walk(
     start: &[u8; 6],
     destination: &[u8; 6],
 ) -> Walked
-    ensures { λ r. ⌜ numbersOf r ≡ walkedAtExit (walk (now (tables .entry)) count clock (addressOf (now (start .entry))) (addressOf (now (destination .entry)))) ⌝ }
+    ensures { λ r. ⌜ numbersOf r
+        ≡ walkedAtExit (walk (now (tables .entry)) count clock (addressOf (now (start .entry)))
+        (addressOf (now (destination .entry)))) ⌝ }
     ensures { λ r. ⌜ r .hops ≤ count ⌝ }
 {
     let from = address::read(start);

@@ -46,8 +46,13 @@ fn write_if_match(
 fn write_matches(output: &mut [u8], at: usize, table: &[u8], a: Arrival, part: &[u8]) -> usize
     requires { ⌜ Sized (now table) ⌝ }
     requires { ⌜ at + length (now part) ≤ length (now output) ⌝ }
-    ensures { λ r. ⌜ r ≡ at + length (flatMap lostOctets (those (matches (now (table .entry)) (a .clock) (a .transmitter)) (lostIn (now (part .entry))))) ⌝ }
-    ensures { λ _. ⌜ now (output .exit) ≡ over (now (output .entry)) at (flatMap lostOctets (those (matches (now (table .entry)) (a .clock) (a .transmitter)) (lostIn (now (part .entry))))) ⌝ }
+    ensures { λ r. ⌜ r
+        ≡ at + length (flatMap lostOctets
+        (those (matches (now (table .entry)) (a .clock) (a .transmitter)) (lostIn (now (part .entry))))) ⌝ }
+    ensures { λ _. ⌜ now (output .exit)
+        ≡ over (now (output .entry)) at
+        (flatMap lostOctets (those (matches (now (table .entry)) (a .clock) (a .transmitter))
+        (lostIn (now (part .entry))))) ⌝ }
 {
     let n = part.len() / list::LOST;
     let mut place = at;
@@ -73,8 +78,13 @@ pub fn write_error(
     requires { ⌜ PartOf Kind.Rerr (now part) ⌝ }
     requires { ⌜ at + 260 ≤ length (now output) ⌝ }
     ensures { λ r. ⌜ r ≤ 260 ⌝ }
-    ensures { λ r. ⌜ r ≡ length (frameOctets (toAll (rerr f (those (matches (now (table .entry)) (a .clock) (a .transmitter)) (lostIn (now (part .entry))))))) ⌝ }
-    ensures { λ _. ⌜ now (output .exit) ≡ over (now (output .entry)) at (frameOctets (toAll (rerr f (those (matches (now (table .entry)) (a .clock) (a .transmitter)) (lostIn (now (part .entry))))))) ⌝ }
+    ensures { λ r. ⌜ r
+        ≡ length (frameOctets (toAll (rerr f
+        (those (matches (now (table .entry)) (a .clock) (a .transmitter)) (lostIn (now (part .entry))))))) ⌝ }
+    ensures { λ _. ⌜ now (output .exit)
+        ≡ over (now (output .entry)) at
+        (frameOctets (toAll (rerr f
+        (those (matches (now (table .entry)) (a .clock) (a .transmitter)) (lostIn (now (part .entry))))))) ⌝ }
 {
     let start = at + write::RERR_START;
     let end = write_matches(output, start, table, a, part);

@@ -54,7 +54,9 @@ fn erred_with(number: SequenceNumber, r: Row) -> Row
 // Row i, if it is that of a match.
 fn lose_row(table: &mut [u8], i: usize, a: Arrival, part: &[u8])
     requires { ⌜ place i + rowOctets ≤ length (now table) ⌝ }
-    ensures { λ _. ⌜ now (table .exit) ≡ changeAt (isMatch (a .clock) (a .transmitter) (lostIn (now (part .entry)))) (erred (lostIn (now (part .entry)))) i (now (table .entry)) ⌝ }
+    ensures { λ _. ⌜ now (table .exit)
+        ≡ changeAt (isMatch (a .clock) (a .transmitter) (lostIn (now (part .entry)))) (erred (lostIn (now (part .entry)))) i
+        (now (table .entry)) ⌝ }
 {
     let r = row::read_row(table, i);
     if !matching::is_lost_by(a, r) {
@@ -69,7 +71,9 @@ fn lose_row(table: &mut [u8], i: usize, a: Arrival, part: &[u8])
 // Those of the n first rows.
 fn lose_rows(table: &mut [u8], n: usize, a: Arrival, part: &[u8])
     requires { ⌜ place n ≤ length (now table) ⌝ }
-    ensures { λ _. ⌜ now (table .exit) ≡ changeBelow (isMatch (a .clock) (a .transmitter) (lostIn (now (part .entry)))) (erred (lostIn (now (part .entry)))) n (now (table .entry)) ⌝ }
+    ensures { λ _. ⌜ now (table .exit)
+        ≡ changeBelow (isMatch (a .clock) (a .transmitter) (lostIn (now (part .entry)))) (erred (lostIn (now (part .entry)))) n
+        (now (table .entry)) ⌝ }
 {
     let mut i = 0;
     while i < n {
@@ -81,7 +85,9 @@ fn lose_rows(table: &mut [u8], n: usize, a: Arrival, part: &[u8])
 // Invalidates the row of each match.
 pub fn lose_matches(table: &mut [u8], a: Arrival, part: &[u8])
     requires { ⌜ Sized (now table) ⌝ }
-    ensures { λ _. ⌜ now (table .exit) ≡ changeWhere (isMatch (a .clock) (a .transmitter) (lostIn (now (part .entry)))) (erred (lostIn (now (part .entry)))) (now (table .entry)) ⌝ }
+    ensures { λ _. ⌜ now (table .exit)
+        ≡ changeWhere (isMatch (a .clock) (a .transmitter) (lostIn (now (part .entry)))) (erred (lostIn (now (part .entry))))
+        (now (table .entry)) ⌝ }
 {
     let n = search::rows_of(table);
     lose_rows(table, n, a, part);

@@ -61,7 +61,8 @@ pub fn write_kept(output: &mut [u8], at: usize, table: &[u8], clock: u64, part: 
     requires { ⌜ Sized (now table) ⌝ }
     requires { ⌜ at + length (now part) ≤ length (now output) ⌝ }
     ensures { λ r. ⌜ r ≡ at + 11 * length (keptAmong (now (table .entry)) clock (now (part .entry))) ⌝ }
-    ensures { λ _. ⌜ now (output .exit) ≡ over (now (output .entry)) at (flatMap targetOctets (keptAmong (now (table .entry)) clock (now (part .entry)))) ⌝ }
+    ensures { λ _. ⌜ now (output .exit)
+        ≡ over (now (output .entry)) at (flatMap targetOctets (keptAmong (now (table .entry)) clock (now (part .entry)))) ⌝ }
 {
     let n = part.len() / list::TARGET;
     let mut place = at;

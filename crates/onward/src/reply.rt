@@ -49,7 +49,8 @@ fn send_to(output: &mut [u8], at: usize, receiver: NextHop, f: RrepFields, part:
     requires { ⌜ PartOf Kind.Rrep (now part) ⌝ }
     requires { ⌜ at + 260 ≤ length (now output) ⌝ }
     ensures { λ r. ⌜ r ≡ emitted (sentTo (rrep f (numberedIn (now (part .entry)))) (hopIn receiver)) ⌝ }
-    ensures { λ _. ⌜ now (output .exit) ≡ over (now (output .entry)) at (frameOctets (sentTo (rrep f (numberedIn (now (part .entry)))) (hopIn receiver))) ⌝ }
+    ensures { λ _. ⌜ now (output .exit)
+        ≡ over (now (output .entry)) at (frameOctets (sentTo (rrep f (numberedIn (now (part .entry)))) (hopIn receiver))) ⌝ }
 {
     let NextHop::To(next) = receiver else {
         return Emitted::nothing();
@@ -73,7 +74,8 @@ pub fn send_on(
     requires { ⌜ PartOf Kind.Rrep (now part) ⌝ }
     requires { ⌜ at + 260 ≤ length (now output) ⌝ }
     ensures { λ r. ⌜ r ≡ emitted (rrepOnward (now (table .entry)) a f (numberedIn (now (part .entry)))) ⌝ }
-    ensures { λ _. ⌜ now (output .exit) ≡ over (now (output .entry)) at (frameOctets (rrepOnward (now (table .entry)) a f (numberedIn (now (part .entry))))) ⌝ }
+    ensures { λ _. ⌜ now (output .exit)
+        ≡ over (now (output .entry)) at (frameOctets (rrepOnward (now (table .entry)) a f (numberedIn (now (part .entry))))) ⌝ }
 {
     let receiver = receiver_of(table, a.clock, f.source.address);
     send_to(output, at, receiver, fields_onward(a, f), part)

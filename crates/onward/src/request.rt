@@ -63,7 +63,9 @@ fn send_kept(
     requires { ⌜ PartOf Kind.Rreq (now part) ⌝ }
     requires { ⌜ at + 254 ≤ length (now output) ⌝ }
     ensures { λ r. ⌜ r ≡ emitted (sentWith to f (keptAmong (now (table .entry)) clock (now (part .entry)))) ⌝ }
-    ensures { λ _. ⌜ now (output .exit) ≡ over (now (output .entry)) at (frameOctets (sentWith to f (keptAmong (now (table .entry)) clock (now (part .entry))))) ⌝ }
+    ensures { λ _. ⌜ now (output .exit)
+        ≡ over (now (output .entry)) at
+        (frameOctets (sentWith to f (keptAmong (now (table .entry)) clock (now (part .entry))))) ⌝ }
 {
     let start = at + write::RREQ_START;
     let end = kept::write_kept(output, start, table, clock, part);
@@ -87,7 +89,8 @@ fn send(
     requires { ⌜ at + 254 ≤ length (now output) ⌝ }
     requires { ⌜ PartOf Kind.Rreq (now part) ⌝ }
     ensures { λ r. ⌜ r ≡ emitted (requestSent (now (table .entry)) clock f (now (part .entry))) ⌝ }
-    ensures { λ _. ⌜ now (output .exit) ≡ over (now (output .entry)) at (frameOctets (requestSent (now (table .entry)) clock f (now (part .entry)))) ⌝ }
+    ensures { λ _. ⌜ now (output .exit)
+        ≡ over (now (output .entry)) at (frameOctets (requestSent (now (table .entry)) clock f (now (part .entry)))) ⌝ }
 {
     match receiver_of(table, clock, f.path, part) {
         NextHop::To(to) => send_kept(output, at, to, f, table, clock, part),
@@ -109,8 +112,12 @@ pub fn send_on(
     requires { ⌜ PartOf Kind.Rreq (now part) ⌝ }
     requires { ⌜ unicastToSeveral (f .path) (now part) ≡ false ⌝ }
     requires { ⌜ Extends a (f .path) ⌝ }
-    ensures { λ r. ⌜ r ≡ emitted (rreqOnward (now (table .entry)) a f (keptAmong (now (table .entry)) (a .clock) (now (part .entry)))) ⌝ }
-    ensures { λ _. ⌜ now (output .exit) ≡ over (now (output .entry)) at (frameOctets (rreqOnward (now (table .entry)) a f (keptAmong (now (table .entry)) (a .clock) (now (part .entry))))) ⌝ }
+    ensures { λ r. ⌜ r ≡ emitted
+        (rreqOnward (now (table .entry)) a f (keptAmong (now (table .entry)) (a .clock) (now (part .entry)))) ⌝ }
+    ensures { λ _. ⌜ now (output .exit)
+        ≡ over (now (output .entry)) at
+        (frameOctets (rreqOnward (now (table .entry)) a f
+        (keptAmong (now (table .entry)) (a .clock) (now (part .entry))))) ⌝ }
 {
     if f.path.ttl < 2 {
         return Emitted::nothing();

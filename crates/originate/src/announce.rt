@@ -20,7 +20,9 @@ ghost use Rattle.table.specs.Layout.{Sized};
 fn send(table: &mut [u8], output: &mut [u8], flags: u8, lifetime: u32) -> Outcome
     requires { ⌜ Sized (now table) ⌝ }
     requires { ⌜ leastOutput ≤ length (now output) ⌝ }
-    ensures { λ r. ⌜ exits r (lend (now (table .exit))) (now (output .exit)) ≡ atExit (lend (now (table .entry))) (now (output .entry)) (accepted (announced (lend (now (table .entry))) flags lifetime)) ⌝ }
+    ensures { λ r. ⌜ exits r (lend (now (table .exit))) (now (output .exit))
+        ≡ atExit (lend (now (table .entry))) (now (output .entry))
+        (accepted (announced (lend (now (table .entry))) flags lifetime)) ⌝ }
 {
     let head = common::number_head(row::read_head(table), false);
     row::write_head(table, head);
@@ -30,7 +32,9 @@ fn send(table: &mut [u8], output: &mut [u8], flags: u8, lifetime: u32) -> Outcom
 }
 
 pub fn announce(table: &mut [u8], output: &mut [u8], flags: u8, lifetime: u32) -> Outcome
-    ensures { λ r. ⌜ exits r (lend (now (table .exit))) (now (output .exit)) ≡ atExit (lend (now (table .entry))) (now (output .entry)) (announce (lend (now (table .entry))) (length (now (output .entry))) flags lifetime) ⌝ }
+    ensures { λ r. ⌜ exits r (lend (now (table .exit))) (now (output .exit))
+        ≡ atExit (lend (now (table .entry))) (now (output .entry))
+        (announce (lend (now (table .entry))) (length (now (output .entry))) flags lifetime) ⌝ }
 {
     match common::check(table, output, 1 < flags, lifetime) {
         Answer::Accepted => send(table, output, flags, lifetime),

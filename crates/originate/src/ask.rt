@@ -29,7 +29,17 @@ ghost use Rattle.element.specs.Octets.{writeFrame};
 ghost use Rattle.rules.specs.Decision.{accepted};
 ghost use Rattle.rules.specs.Lists.{any};
 ghost use Rattle.rules.specs.Outcome.{atExit, lend, leastOutput};
-ghost use Rattle.rules.specs.Originate.{ask, askedFor, asking, hasHighFlags, itemChecks, itemsFit, knownNumber, ownRequest, requested};
+ghost use Rattle.rules.specs.Originate.{
+  ask,
+  askedFor,
+  asking,
+  hasHighFlags,
+  itemChecks,
+  itemsFit,
+  knownNumber,
+  ownRequest,
+  requested,
+};
 ghost use Rattle.calls.specs.Answers.{answerTo, exits};
 
 // 7 octets an item, 1 to 20 items.
@@ -70,7 +80,8 @@ fn check_items(items: &[u8]) -> Answer
 }
 
 fn check(table: &[u8], output: &[u8], lifetime: u32, items: &[u8]) -> Answer
-    ensures { λ r. ⌜ r ≡ answerTo (asking (lend (now (table .entry))) (length (now (output .entry))) lifetime (now (items .entry)) .checks) ⌝ }
+    ensures { λ r. ⌜ r ≡ answerTo
+        (asking (lend (now (table .entry))) (length (now (output .entry))) lifetime (now (items .entry)) .checks) ⌝ }
 {
     if !legal::is_sized(table) {
         return Answer::Refused(refusals::TABLE_LENGTH);
@@ -126,7 +137,9 @@ fn write_targets(output: &mut [u8], at: usize, table: &[u8], items: &[u8]) -> us
     requires { ⌜ Sized (now table) ⌝ }
     requires { ⌜ at + 11 * (length (now items) / 7) ≤ length (now output) ⌝ }
     ensures { λ r. ⌜ r ≡ at + 11 * (length (now (items .entry)) / 7) ⌝ }
-    ensures { λ _. ⌜ now (output .exit) ≡ over (now (output .entry)) at (flatMap targetOctets (map (askedFor (now (table .entry))) (itemsIn (now (items .entry))))) ⌝ }
+    ensures { λ _. ⌜ now (output .exit)
+        ≡ over (now (output .entry)) at
+        (flatMap targetOctets (map (askedFor (now (table .entry))) (itemsIn (now (items .entry))))) ⌝ }
 {
     let n = items.len() / list::ITEM;
     let mut place = at;
@@ -145,7 +158,10 @@ fn write_request(output: &mut [u8], head: Head, lifetime: u32, table: &[u8], ite
     requires { ⌜ 7 ≤ length (now items) ⌝ }
     requires { ⌜ length (now items) ≤ 140 ⌝ }
     ensures { λ r. ⌜ r ≡ 34 + 11 * (length (now (items .entry)) / 7) ⌝ }
-    ensures { λ _. ⌜ now (output .exit) ≡ over (now (output .entry)) 0 (writeFrame allOnes (rreq (ownRequest head 0 lifetime) (map (askedFor (now (table .entry))) (itemsIn (now (items .entry)))))) ⌝ }
+    ensures { λ _. ⌜ now (output .exit)
+        ≡ over (now (output .entry)) 0
+        (writeFrame allOnes (rreq (ownRequest head 0 lifetime)
+        (map (askedFor (now (table .entry))) (itemsIn (now (items .entry)))))) ⌝ }
 {
     let list = common::start_request(output, head, 0, lifetime, items.len() / list::ITEM);
     write_targets(output, list, table, items)
@@ -157,7 +173,10 @@ fn send(table: &mut [u8], output: &mut [u8], lifetime: u32, items: &[u8]) -> Out
     requires { ⌜ leastOutput ≤ length (now output) ⌝ }
     requires { ⌜ 7 ≤ length (now items) ⌝ }
     requires { ⌜ length (now items) ≤ 140 ⌝ }
-    ensures { λ r. ⌜ exits r (lend (now (table .exit))) (now (output .exit)) ≡ atExit (lend (now (table .entry))) (now (output .entry)) (accepted (requested (lend (now (table .entry))) 0 lifetime (map (askedFor (now (table .entry))) (itemsIn (now (items .entry)))))) ⌝ }
+    ensures { λ r. ⌜ exits r (lend (now (table .exit))) (now (output .exit))
+        ≡ atExit (lend (now (table .entry))) (now (output .entry))
+        (accepted (requested (lend (now (table .entry))) 0 lifetime
+        (map (askedFor (now (table .entry))) (itemsIn (now (items .entry)))))) ⌝ }
 {
     let head = common::number_head(row::read_head(table), true);
     let octets = write_request(output, head, lifetime, table, items);
@@ -166,7 +185,9 @@ fn send(table: &mut [u8], output: &mut [u8], lifetime: u32, items: &[u8]) -> Out
 }
 
 pub fn ask(table: &mut [u8], output: &mut [u8], lifetime: u32, items: &[u8]) -> Outcome
-    ensures { λ r. ⌜ exits r (lend (now (table .exit))) (now (output .exit)) ≡ atExit (lend (now (table .entry))) (now (output .entry)) (ask (lend (now (table .entry))) (length (now (output .entry))) lifetime (now (items .entry))) ⌝ }
+    ensures { λ r. ⌜ exits r (lend (now (table .exit))) (now (output .exit))
+        ≡ atExit (lend (now (table .entry))) (now (output .entry))
+        (ask (lend (now (table .entry))) (length (now (output .entry))) lifetime (now (items .entry))) ⌝ }
 {
     match check(table, output, lifetime, items) {
         Answer::Accepted => send(table, output, lifetime, items),

@@ -25,7 +25,8 @@ ghost use Rattle.calls.specs.Answers.{answerTo};
 
 // The refusals of announce and root request. They differ in the flags that are barred.
 pub fn check(table: &[u8], output: &[u8], barred: bool, lifetime: u32) -> Answer
-    ensures { λ r. ⌜ r ≡ answerTo (originating {A = Unit {0}} (now (table .entry)) (length (now (output .entry))) barred lifetime tt .checks) ⌝ }
+    ensures { λ r. ⌜ r ≡ answerTo
+        (originating {A = Unit {0}} (now (table .entry)) (length (now (output .entry))) barred lifetime tt .checks) ⌝ }
 {
     if !legal::is_sized(table) {
         return Answer::Refused(refusals::TABLE_LENGTH);
@@ -78,7 +79,8 @@ pub fn start_request(output: &mut [u8], head: Head, flags: u8, lifetime: u32, n:
     requires { ⌜ n ≤ 20 ⌝ }
     requires { ⌜ 34 ≤ length (now output) ⌝ }
     ensures { λ r. ⌜ r ≡ 34 ⌝ }
-    ensures { λ _. ⌜ now (output .exit) ≡ over (now (output .entry)) 0 (frameStart allOnes Kind.Rreq n (rreqNumbers (ownRequest head flags lifetime))) ⌝ }
+    ensures { λ _. ⌜ now (output .exit)
+        ≡ over (now (output .entry)) 0 (frameStart allOnes Kind.Rreq n (rreqNumbers (ownRequest head flags lifetime))) ⌝ }
 {
     let request = head.request;
     let path = own_path(head, flags, lifetime);

@@ -30,7 +30,9 @@ fn is_root_flags(flags: u8) -> bool
 fn send(table: &mut [u8], output: &mut [u8], flags: u8, lifetime: u32) -> Outcome
     requires { ⌜ Sized (now table) ⌝ }
     requires { ⌜ leastOutput ≤ length (now output) ⌝ }
-    ensures { λ r. ⌜ exits r (lend (now (table .exit))) (now (output .exit)) ≡ atExit (lend (now (table .entry))) (now (output .entry)) (accepted (requested (lend (now (table .entry))) flags lifetime (allWithDOAndRF ∷ []))) ⌝ }
+    ensures { λ r. ⌜ exits r (lend (now (table .exit))) (now (output .exit))
+        ≡ atExit (lend (now (table .entry))) (now (output .entry))
+        (accepted (requested (lend (now (table .entry))) flags lifetime (allWithDOAndRF ∷ []))) ⌝ }
 {
     let head = common::number_head(row::read_head(table), true);
     row::write_head(table, head);
@@ -45,7 +47,9 @@ fn send(table: &mut [u8], output: &mut [u8], flags: u8, lifetime: u32) -> Outcom
 }
 
 pub fn root_request(table: &mut [u8], output: &mut [u8], flags: u8, lifetime: u32) -> Outcome
-    ensures { λ r. ⌜ exits r (lend (now (table .exit))) (now (output .exit)) ≡ atExit (lend (now (table .entry))) (now (output .entry)) (rootRequest (lend (now (table .entry))) (length (now (output .entry))) flags lifetime) ⌝ }
+    ensures { λ r. ⌜ exits r (lend (now (table .exit))) (now (output .exit))
+        ≡ atExit (lend (now (table .entry))) (now (output .entry))
+        (rootRequest (lend (now (table .entry))) (length (now (output .entry))) flags lifetime) ⌝ }
 {
     match common::check(table, output, !is_root_flags(flags), lifetime) {
         Answer::Accepted => send(table, output, flags, lifetime),

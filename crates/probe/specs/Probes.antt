@@ -10,7 +10,19 @@ use Rattle.element.specs.declared.list.ListKind.{ListKind}
 use Rattle.element.specs.declared.list.ListKind.the-variants.{Targets, Dependents, LostDestinations}
 use Rattle.element.specs.declared.read.Reading.{Reading}
 use Rattle.element.specs.declared.read.Reading.the-variants.{Announcement, Request, Reply, Error, Refused}
-use Rattle.element.specs.Element.{Element, rann, rreq, rrep, rerr, kindOf, countOf, fieldNumbers, lostNumbers, numberedNumbers, targetNumbers}
+use Rattle.element.specs.Element.{
+  Element,
+  rann,
+  rreq,
+  rrep,
+  rerr,
+  kindOf,
+  countOf,
+  fieldNumbers,
+  lostNumbers,
+  numberedNumbers,
+  targetNumbers,
+}
 use Rattle.element.specs.Octets.{fixedNumbers, readElement, reading, listPart, writeFrame}
 use Rattle.element.specs.Lists.{addressesIn, among, anyForbidden, onesBesideOthers, twice}
 
@@ -39,13 +51,15 @@ unfoldable pub elementNumbers : Element → List ℕ
 elementNumbers e = fixedNumbers (kindOf e) (countOf e) (fieldNumbers e) ++ entryNumbers e
 
 unfoldable pub readNumbers : List ℕ → List ℕ → Probed
-readNumbers s numbers = unlessRefused (reading s) numbers (record { answer = 0; memory = over numbers 0 (elementNumbers (readElement s)) })
+readNumbers s numbers =
+    unlessRefused (reading s) numbers (record { answer = 0; memory = over numbers 0 (elementNumbers (readElement s)) })
 
 -- ---- an element written again
 
 -- octets written from place at on, or 2 if they do not fit in there (a call asks of its output at once what it may need)
 unfoldable pub written : List ℕ → ℕ → List ℕ → Probed
-written out at p = cond (leb (at + length p) (length out)) (record { answer = 0; memory = over out at p }) (record { answer = 2; memory = out })
+written out at p =
+    cond (leb (at + length p) (length out)) (record { answer = 0; memory = over out at p }) (record { answer = 2; memory = out })
 
 unfoldable pub writtenAgain : List ℕ → Address → List ℕ → ℕ → Probed
 writtenAgain s to out at = unlessRefused (reading s) out (written out at (writeFrame to (readElement s)))

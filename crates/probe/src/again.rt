@@ -57,7 +57,8 @@ fn write_losses(out: &mut [u8], at: usize, part: &[u8])
 }
 
 pub fn write_rann(out: &mut [u8], at: usize, to: Address, path: PathInfo) -> u32
-    ensures { λ r. ⌜ record { answer = r; memory = now (out .exit) } ≡ written (now (out .entry)) at (writeFrame to (rann path)) ⌝ }
+    ensures { λ r. ⌜ record { answer = r; memory = now (out .exit) }
+        ≡ written (now (out .entry)) at (writeFrame to (rann path)) ⌝ }
 {
     if !has_room(out, at, write::RANN_START) {
         return 2;
@@ -76,7 +77,8 @@ pub fn write_rreq(
     singly: u32,
 ) -> u32
     requires { ⌜ PartOf Kind.Rreq (now part) ⌝ }
-    ensures { λ r. ⌜ record { answer = r; memory = now (out .exit) } ≡ written (now (out .entry)) at (writeFrame to (rreq f (targetsIn (now (part .entry))))) ⌝ }
+    ensures { λ r. ⌜ record { answer = r; memory = now (out .exit) }
+        ≡ written (now (out .entry)) at (writeFrame to (rreq f (targetsIn (now (part .entry))))) ⌝ }
 {
     if !has_room(out, at, write::RREQ_START + part.len()) {
         return 2;
@@ -93,7 +95,8 @@ pub fn write_rreq(
 
 pub fn write_rrep(out: &mut [u8], at: usize, to: Address, f: RrepFields, part: &[u8]) -> u32
     requires { ⌜ PartOf Kind.Rrep (now part) ⌝ }
-    ensures { λ r. ⌜ record { answer = r; memory = now (out .exit) } ≡ written (now (out .entry)) at (writeFrame to (rrep f (numberedIn (now (part .entry))))) ⌝ }
+    ensures { λ r. ⌜ record { answer = r; memory = now (out .exit) }
+        ≡ written (now (out .entry)) at (writeFrame to (rrep f (numberedIn (now (part .entry))))) ⌝ }
 {
     if !has_room(out, at, write::RREP_START + part.len()) {
         return 2;
@@ -104,7 +107,8 @@ pub fn write_rrep(out: &mut [u8], at: usize, to: Address, f: RrepFields, part: &
 
 pub fn write_rerr(out: &mut [u8], at: usize, to: Address, f: RerrFields, part: &[u8]) -> u32
     requires { ⌜ PartOf Kind.Rerr (now part) ⌝ }
-    ensures { λ r. ⌜ record { answer = r; memory = now (out .exit) } ≡ written (now (out .entry)) at (writeFrame to (rerr f (lostIn (now (part .entry))))) ⌝ }
+    ensures { λ r. ⌜ record { answer = r; memory = now (out .exit) }
+        ≡ written (now (out .entry)) at (writeFrame to (rerr f (lostIn (now (part .entry))))) ⌝ }
 {
     if !has_room(out, at, write::RERR_START + part.len()) {
         return 2;

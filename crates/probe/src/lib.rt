@@ -19,7 +19,8 @@ ghost use Rattle.probe.specs.Probes.{faults, faultsIn, readNumbers, writ
 // Answers 6, 7 or 8, or 0 and writes the element's numbers in the order of its octets, entries too.
 #[no_mangle]
 pub extern "C" fn probe_read(element: &[u8], numbers: &mut [u64; 71]) -> u32
-    ensures { λ r. ⌜ record { answer = r; memory = now (numbers .exit) } ≡ readNumbers (now (element .entry)) (now (numbers .entry)) ⌝ }
+    ensures { λ r. ⌜ record { answer = r; memory = now (numbers .exit) }
+        ≡ readNumbers (now (element .entry)) (now (numbers .entry)) ⌝ }
 {
     match read::read(element) {
         Reading::Announcement(path) => numbers::put_rann(numbers, path),
@@ -40,7 +41,8 @@ pub extern "C" fn probe_write(
     at: usize,
     singly: u32,
 ) -> u32
-    ensures { λ r. ⌜ record { answer = r; memory = now (out .exit) } ≡ writtenAgain (now (element .entry)) (addressOf (now (to .entry))) (now (out .entry)) at ⌝ }
+    ensures { λ r. ⌜ record { answer = r; memory = now (out .exit) }
+        ≡ writtenAgain (now (element .entry)) (addressOf (now (to .entry))) (now (out .entry)) at ⌝ }
 {
     let receiver = address::read(to);
     match read::read(element) {

@@ -30,7 +30,8 @@ fn put(numbers: &mut [u64], at: usize, values: &[u64])
 
 fn put_targets(numbers: &mut [u64], at: usize, part: &[u8])
     requires { ⌜ at + 3 * (length (now part) / 11) ≤ length (now numbers) ⌝ }
-    ensures { λ _. ⌜ now (numbers .exit) ≡ over (now (numbers .entry)) at (flatMap targetNumbers (targetsIn (now (part .entry)))) ⌝ }
+    ensures { λ _. ⌜ now (numbers .exit)
+        ≡ over (now (numbers .entry)) at (flatMap targetNumbers (targetsIn (now (part .entry)))) ⌝ }
 {
     let n = part.len() / list::TARGET;
     let mut place = at;
@@ -46,7 +47,8 @@ fn put_targets(numbers: &mut [u64], at: usize, part: &[u8])
 
 fn put_dependents(numbers: &mut [u64], at: usize, part: &[u8])
     requires { ⌜ at + 2 * (length (now part) / 10) ≤ length (now numbers) ⌝ }
-    ensures { λ _. ⌜ now (numbers .exit) ≡ over (now (numbers .entry)) at (flatMap numberedNumbers (numberedIn (now (part .entry)))) ⌝ }
+    ensures { λ _. ⌜ now (numbers .exit)
+        ≡ over (now (numbers .entry)) at (flatMap numberedNumbers (numberedIn (now (part .entry)))) ⌝ }
 {
     let n = part.len() / list::DEPENDENT;
     let mut place = at;
@@ -90,7 +92,8 @@ pub fn put_rreq(numbers: &mut [u64], f: RreqFields, part: &[u8]) -> u32
     requires { ⌜ PartOf Kind.Rreq (now part) ⌝ }
     requires { ⌜ 71 ≤ length (now numbers) ⌝ }
     ensures { λ r. ⌜ r ≡ 0 ⌝ }
-    ensures { λ _. ⌜ now (numbers .exit) ≡ over (now (numbers .entry)) 0 (elementNumbers (rreq f (targetsIn (now (part .entry))))) ⌝ }
+    ensures { λ _. ⌜ now (numbers .exit)
+        ≡ over (now (numbers .entry)) 0 (elementNumbers (rreq f (targetsIn (now (part .entry))))) ⌝ }
 {
     let values = write::rreq_numbers(f, list::entries_in(part, ListKind::Targets));
     put(numbers, 0, &values);
@@ -102,7 +105,8 @@ pub fn put_rrep(numbers: &mut [u64], f: RrepFields, part: &[u8]) -> u32
     requires { ⌜ PartOf Kind.Rrep (now part) ⌝ }
     requires { ⌜ 71 ≤ length (now numbers) ⌝ }
     ensures { λ r. ⌜ r ≡ 0 ⌝ }
-    ensures { λ _. ⌜ now (numbers .exit) ≡ over (now (numbers .entry)) 0 (elementNumbers (rrep f (numberedIn (now (part .entry))))) ⌝ }
+    ensures { λ _. ⌜ now (numbers .exit)
+        ≡ over (now (numbers .entry)) 0 (elementNumbers (rrep f (numberedIn (now (part .entry))))) ⌝ }
 {
     let values = write::rrep_numbers(f, list::entries_in(part, ListKind::Dependents));
     put(numbers, 0, &values);
@@ -114,7 +118,8 @@ pub fn put_rerr(numbers: &mut [u64], f: RerrFields, part: &[u8]) -> u32
     requires { ⌜ PartOf Kind.Rerr (now part) ⌝ }
     requires { ⌜ 71 ≤ length (now numbers) ⌝ }
     ensures { λ r. ⌜ r ≡ 0 ⌝ }
-    ensures { λ _. ⌜ now (numbers .exit) ≡ over (now (numbers .entry)) 0 (elementNumbers (rerr f (lostIn (now (part .entry))))) ⌝ }
+    ensures { λ _. ⌜ now (numbers .exit)
+        ≡ over (now (numbers .entry)) 0 (elementNumbers (rerr f (lostIn (now (part .entry))))) ⌝ }
 {
     let values = write::rerr_numbers(f, list::entries_in(part, ListKind::LostDestinations));
     put(numbers, 0, &values);

@@ -42,7 +42,8 @@ pub fn receive(table: &mut [u8], output: &mut [u8], a: Arrival, p: PathInfo) -> 
     requires { ⌜ Sized (now table) ⌝ }
     requires { ⌜ leastOutput ≤ length (now output) ⌝ }
     requires { ⌜ a .clock ≤ maxClock ⌝ }
-    ensures { λ r. ⌜ exits r (lend (now (table .exit))) (now (output .exit)) ≡ atExit (lend (now (table .entry))) (now (output .entry)) (decide (judging (lend (now (table .entry))) a (rann p))) ⌝ }
+    ensures { λ r. ⌜ exits r (lend (now (table .exit))) (now (output .exit))
+        ≡ atExit (lend (now (table .entry))) (now (output .entry)) (decide (judging (lend (now (table .entry))) a (rann p))) ⌝ }
 {
     if let Answer::Refused(n) = check_and_learn(table, a, p) {
         return Outcome::Refused(n);

@@ -58,7 +58,9 @@ fn take(table: &mut [u8], output: &mut [u8], a: Arrival, f: RerrFields, part: &[
     requires { ⌜ Sized (now table) ⌝ }
     requires { ⌜ leastOutput ≤ length (now output) ⌝ }
     requires { ⌜ PartOf Kind.Rerr (now part) ⌝ }
-    ensures { λ r. ⌜ exits r (lend (now (table .exit))) (now (output .exit)) ≡ atExit (lend (now (table .entry))) (now (output .entry)) (accepted (received (lend (now (table .entry))) a (rerr f (lostIn (now (part .entry)))))) ⌝ }
+    ensures { λ r. ⌜ exits r (lend (now (table .exit))) (now (output .exit))
+        ≡ atExit (lend (now (table .entry))) (now (output .entry))
+        (accepted (received (lend (now (table .entry))) a (rerr f (lostIn (now (part .entry)))))) ⌝ }
 {
     let head = row::read_head(table);
     let octets = report::write_error(output, 0, table, a, f, part);
@@ -77,7 +79,9 @@ pub fn receive(
     requires { ⌜ Sized (now table) ⌝ }
     requires { ⌜ leastOutput ≤ length (now output) ⌝ }
     requires { ⌜ PartOf Kind.Rerr (now part) ⌝ }
-    ensures { λ r. ⌜ exits r (lend (now (table .exit))) (now (output .exit)) ≡ atExit (lend (now (table .entry))) (now (output .entry)) (decide (judging (lend (now (table .entry))) a (rerr f (lostIn (now (part .entry)))))) ⌝ }
+    ensures { λ r. ⌜ exits r (lend (now (table .exit))) (now (output .exit))
+        ≡ atExit (lend (now (table .entry))) (now (output .entry))
+        (decide (judging (lend (now (table .entry))) a (rerr f (lostIn (now (part .entry)))))) ⌝ }
 {
     match check(table, a, f, part) {
         Answer::Accepted => take(table, output, a, f, part),

@@ -40,7 +40,9 @@ fn receive_element(table: &mut [u8], output: &mut [u8], a: Arrival, element: &[u
     requires { ⌜ Sized (now table) ⌝ }
     requires { ⌜ leastOutput ≤ length (now output) ⌝ }
     requires { ⌜ a .clock ≤ maxClock ⌝ }
-    ensures { λ r. ⌜ exits r (lend (now (table .exit))) (now (output .exit)) ≡ atExit (lend (now (table .entry))) (now (output .entry)) (decide (readingOctets (lend (now (table .entry))) a (now (element .entry)))) ⌝ }
+    ensures { λ r. ⌜ exits r (lend (now (table .exit))) (now (output .exit))
+        ≡ atExit (lend (now (table .entry))) (now (output .entry))
+        (decide (readingOctets (lend (now (table .entry))) a (now (element .entry)))) ⌝ }
 {
     match read::read(element) {
         Reading::Announcement(p) => announcement::receive(table, output, a, p),
@@ -52,7 +54,9 @@ fn receive_element(table: &mut [u8], output: &mut [u8], a: Arrival, element: &[u
 }
 
 pub fn receive(table: &mut [u8], output: &mut [u8], a: Arrival, element: &[u8]) -> Outcome
-    ensures { λ r. ⌜ exits r (lend (now (table .exit))) (now (output .exit)) ≡ atExit (lend (now (table .entry))) (now (output .entry)) (receive (lend (now (table .entry))) (length (now (output .entry))) a (now (element .entry))) ⌝ }
+    ensures { λ r. ⌜ exits r (lend (now (table .exit))) (now (output .exit))
+        ≡ atExit (lend (now (table .entry))) (now (output .entry))
+        (receive (lend (now (table .entry))) (length (now (output .entry))) a (now (element .entry))) ⌝ }
 {
     match check_arrival(table, output, a) {
         Answer::Accepted => receive_element(table, output, a, element),

@@ -48,7 +48,9 @@ pub fn receive(
     requires { ⌜ leastOutput ≤ length (now output) ⌝ }
     requires { ⌜ a .clock ≤ maxClock ⌝ }
     requires { ⌜ PartOf Kind.Rrep (now part) ⌝ }
-    ensures { λ r. ⌜ exits r (lend (now (table .exit))) (now (output .exit)) ≡ atExit (lend (now (table .entry))) (now (output .entry)) (decide (judging (lend (now (table .entry))) a (rrep f (numberedIn (now (part .entry)))))) ⌝ }
+    ensures { λ r. ⌜ exits r (lend (now (table .exit))) (now (output .exit))
+        ≡ atExit (lend (now (table .entry))) (now (output .entry))
+        (decide (judging (lend (now (table .entry))) a (rrep f (numberedIn (now (part .entry)))))) ⌝ }
 {
     if let Answer::Refused(n) = check_and_learn(table, a, f, part) {
         return Outcome::Refused(n);

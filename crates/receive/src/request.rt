@@ -84,8 +84,12 @@ fn answer(
     requires { ⌜ PartOf Kind.Rreq (now part) ⌝ }
     requires { ⌜ unicastToSeveral (f .path) (now part) ≡ false ⌝ }
     requires { ⌜ Extends a (f .path) ⌝ }
-    ensures { λ r. ⌜ r ≡ sentFor (now (table .entry)) a f (allAnswered (now (table .entry)) a (f .path) number (targetsIn (now (part .entry)))) ⌝ }
-    ensures { λ _. ⌜ now (output .exit) ≡ over (now (output .entry)) at (frameOctets (framesAfter (now (table .entry)) a f (allAnswered (now (table .entry)) a (f .path) number (targetsIn (now (part .entry)))))) ⌝ }
+    ensures { λ r. ⌜ r ≡ sentFor (now (table .entry)) a f
+        (allAnswered (now (table .entry)) a (f .path) number (targetsIn (now (part .entry)))) ⌝ }
+    ensures { λ _. ⌜ now (output .exit)
+        ≡ over (now (output .entry)) at
+        (frameOctets (framesAfter (now (table .entry)) a f
+        (allAnswered (now (table .entry)) a (f .path) number (targetsIn (now (part .entry)))))) ⌝ }
 {
     let replied = replies::write_replies(output, at, table, a, f.path, number, part);
     let onward = request::send_on(output, replied.place, table, a, f, part);
@@ -104,7 +108,9 @@ pub fn receive(
     requires { ⌜ leastOutput ≤ length (now output) ⌝ }
     requires { ⌜ a .clock ≤ maxClock ⌝ }
     requires { ⌜ PartOf Kind.Rreq (now part) ⌝ }
-    ensures { λ r. ⌜ exits r (lend (now (table .exit))) (now (output .exit)) ≡ atExit (lend (now (table .entry))) (now (output .entry)) (decide (judging (lend (now (table .entry))) a (rreq f (targetsIn (now (part .entry)))))) ⌝ }
+    ensures { λ r. ⌜ exits r (lend (now (table .exit))) (now (output .exit))
+        ≡ atExit (lend (now (table .entry))) (now (output .entry))
+        (decide (judging (lend (now (table .entry))) a (rreq f (targetsIn (now (part .entry)))))) ⌝ }
 {
     if let Answer::Refused(n) = check_and_learn(table, a, f, part) {
         return Outcome::Refused(n);

@@ -67,4 +67,5 @@ module _ (t : List ℕ) (a : Arrival) where
   unfoldable pub rrepOnward : RrepFields → List NumberedAddress → List Frame
   rrepOnward f dependents =
       cond (same (f .source .address) (own t)) []
-      (towards (a .clock) (rrep (record { path = onward a (f .path); source = f .source }) dependents) (rowFor t (f .source .address)))
+      (towards (a .clock) (rrep (record { path = onward a (f .path); source = f .source }) dependents)
+      (rowFor t (f .source .address)))

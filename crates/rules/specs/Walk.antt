@@ -14,7 +14,20 @@ use Rattle.table.specs.Layout.{sized}
 use Rattle.table.specs.Table.{clock, isTable, rowFor, activeNext}
 use Rattle.element.specs.Entries.{each}
 use Rattle.element.specs.Lists.{among, twice}
-use Rattle.rules.specs.Decision.{Decision, refused, accepted, Check, Ruling, decide, refuse_when_, _then_, _above_, _below_, accept, _>>_}
+use Rattle.rules.specs.Decision.{
+  Decision,
+  refused,
+  accepted,
+  Check,
+  Ruling,
+  decide,
+  refuse_when_,
+  _then_,
+  _above_,
+  _below_,
+  accept,
+  _>>_,
+}
 use Rattle.rules.specs.Lists.{any}
 
 -- ---- 1 to 16 tables of one length, side by side

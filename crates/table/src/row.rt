@@ -211,7 +211,9 @@ pub fn read_row(table: &[u8], i: usize) -> Row
 // The first four octets of a row: status, number known, hop count, zero.
 fn write_status(table: &mut [u8], at: usize, row: Row)
     requires { ⌜ at + 4 ≤ length (now table) ⌝ }
-    ensures { λ _. ⌜ now (table .exit) ≡ withFields (1 ∷ 1 ∷ 1 ∷ 1 ∷ []) (now (table .entry)) at 0 (row .status ∷ row .known ∷ row .hops .0 ∷ row .zero ∷ []) ⌝ }
+    ensures { λ _. ⌜ now (table .exit)
+        ≡ withFields (1 ∷ 1 ∷ 1 ∷ 1 ∷ []) (now (table .entry)) at 0
+        (row .status ∷ row .known ∷ row .hops .0 ∷ row .zero ∷ []) ⌝ }
 {
     octets::write_u8(table, at, row.status);
     octets::write_u8(table, at + 1, row.known);

@@ -120,8 +120,8 @@ module _ (rules : Rules) where
   throughout test m [] = test m
   throughout test m (e ∷ events) = test m && throughout test (happen m e) events
 
--- ---- the walk of demand 3, along valid rows, expired or not (that of document 01, `walk` in crate `rules`, goes along rows that are
--- active at a clock, and counts hops)
+-- ---- the walk of demand 3, along valid rows, expired or not (that of document 01, `walk` in crate `rules`, goes along rows
+-- that are active at a clock, and counts hops)
 
 -- the next hop of a row that is valid
 abbrev pub validNext : Option Row → Option Address

@@ -16,7 +16,22 @@ use Rattle.rules.specs.Decision.{Decision, refused}
 use Rattle.rules.specs.Outcome.{Lent, lend, Effect, Exit, atExit, leastOutput}
 use Rattle.rules.specs.Calls.{Call, asks, announces, requestsAsRoot, breaks, outcome}
 use Rattle.rules.specs.Walk.{Walked, walkedAtExit, walk}
-use Rattle.theorems.specs.Mesh.{Rules, Point, Mesh, start, boxOf, Action, delivers, makes, Event, callOf, happen, run, throughout, met}
+use Rattle.theorems.specs.Mesh.{
+  Rules,
+  Point,
+  Mesh,
+  start,
+  boxOf,
+  Action,
+  delivers,
+  makes,
+  Event,
+  callOf,
+  happen,
+  run,
+  throughout,
+  met,
+}
 use Rattle.theorems.specs.Premise.{heldByAll, allWithin}
 use Rattle.theorems.specs.WrongRules.{comparesPlainly, takesEqualReplies, takesEqualIfInactive, dropsBroken, keepsNumber}
 

@@ -1,10 +1,10 @@
 -- What is proved of the rules of document 01: each statement is a type here, and `proofs/Theorems.antt` has its proof under
 -- the name that is given beside it. Assumes nothing.
 --
--- How to read: `(x : T) → P` is 'for every x: P', `P → Q` 'if P then Q', `×` 'and', `≡` 'equals'; `x ∷ l` is a list that begins with
--- x, `l ++ k` one list after another; `cond b x y` is x if b holds, else y; `r .f` is the field f of r, and `a .0` the number that an
--- address, a sequence number or a metric is. A `List ℕ` is a list of octets; a `Lent` is what a point lends to a call,
--- and its field `table` the point's table.
+-- How to read: `(x : T) → P` is 'for every x: P', `P → Q` 'if P then Q', `×` 'and', `≡` 'equals'; `x ∷ l` is a list that
+-- begins with x, `l ++ k` one list after another; `cond b x y` is x if b holds, else y; `r .f` is the field f of r, and `a .0`
+-- the number that an address, a sequence number or a metric is. A `List ℕ` is a list of octets; a `Lent` is what a point lends
+-- to a call, and its field `table` the point's table.
 use Prim.Native.Nat.{ℕ, _^_, _<_, _≤_}
 use mathlib.Core.Path.{_≡_}
 use mathlib.Core.Bool.{true, false}

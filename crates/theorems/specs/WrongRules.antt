@@ -1,5 +1,5 @@
--- These are NOT the rules. Each changes one sentence of document 01 (the first and the third as its trainees do), put together from
--- the rules' own pieces, only to show by lists of calls (`Runs.antt`) that demand 3 excludes it. Assumes nothing.
+-- These are NOT the rules. Each changes one sentence of document 01 (the first and the third as its trainees do), put together
+-- from the rules' own pieces, only to show by lists of calls (`Runs.antt`) that demand 3 excludes it. Assumes nothing.
 use Prim.Native.Nat.{ℕ}
 use mathlib.Core.Bool.{Bool, true, false, not, _&&_, cond}
 use mathlib.Core.List.{List, map}
@@ -25,7 +25,10 @@ use Rattle.theorems.specs.Mesh.{Rules}
 -- the check of this number gets another test; the others stay
 abbrev pub withCheck : {A : Type 0} → ℕ → Bool → Ruling A → Ruling A
 withCheck n test r =
-    record { checks = map (λ (k : Check). cond (eqb (k .number) n) (record { number = n; applies = test }) k) (r .checks); otherwise = r .otherwise }
+    record {
+      checks = map (λ (k : Check). cond (eqb (k .number) n) (record { number = n; applies = test }) k) (r .checks);
+      otherwise = r .otherwise;
+    }
 
 -- another outcome where no check applies
 abbrev pub withOutcome : {A : Type 0} → A → Ruling A → Ruling A

@@ -61,7 +61,8 @@ fn ended(
     destination: Address,
 ) -> Ending
     requires { ⌜ Pieces (now tables) long count ⌝ }
-    ensures { λ r. ⌜ decisionOf r ≡ accepted (resumed (pieces (now (tables .entry)) long count) 0 destination 0 at hops before) ⌝ }
+    ensures { λ r. ⌜ decisionOf r
+        ≡ accepted (resumed (pieces (now (tables .entry)) long count) 0 destination 0 at hops before) ⌝ }
 {
     if at.0 == destination.0 {
         return Ending::Arrived(HopCount(hops));
@@ -83,7 +84,8 @@ pub fn follow(
 ) -> Ending
     requires { ⌜ Pieces (now tables) long count ⌝ }
     requires { ⌜ among start (points (pieces (now tables) long count)) ≡ Bool.true ⌝ }
-    ensures { λ r. ⌜ decisionOf r ≡ accepted (follow (pieces (now (tables .entry)) long count) clock destination count start 0) ⌝ }
+    ensures { λ r. ⌜ decisionOf r
+        ≡ accepted (follow (pieces (now (tables .entry)) long count) clock destination count start 0) ⌝ }
 {
     let mut at = start;
     let mut before = 0u8;
