@@ -9,3 +9,4 @@ pub mod Listing
 pub mod Readings
 pub mod ReadBack
 mod Bits
+mod Marking

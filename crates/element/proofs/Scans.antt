@@ -1,11 +1,13 @@
 -- Lists of entries: by index, and the scans over their addresses. Assumes nothing.
-use Prim.Native.Nat.{ℕ, zero, suc, _+_, _-_, _*_, _/_, _<_, _≤_}
+use Prim.Native.Nat.{ℕ, zero, suc, _+_, _-_, _*_, _/_, _^_, _<_, _≤_}
 use mathlib.Core.Path.{_≡_, refl, sym, ap, _∙_}
 use mathlib.Core.Bool.{Bool, true, false, _&&_, _||_, not}
 use mathlib.Core.List.{List, [], _∷_, map}
 use lib.Dec.{ltb}
 use lib.ListN.{length}
 use native.Mathlib.Omega.{arith}
+use mir.Val.{Fits}
+use mir.Syntax.{w64}
 use native.Mathlib.Nat.{add-zero, sub-zero}
 use borrow.Author.Tests.{eq-eqb, ne-eqb}
 use Rattle.octets.specs.LittleEndian.{numberAt, fieldsAt}
@@ -18,7 +20,7 @@ use Rattle.element.specs.declared.LostDestination.{LostDestination}
 use Rattle.element.specs.declared.NumberedAddress.{NumberedAddress}
 use Rattle.element.specs.declared.Target.{Target}
 use Rattle.element.specs.Entries.{each, entriesIn, itemFrom, itemAt, lostFrom, lostAt, lostIn, numberedFrom, numberedAt, targetFrom, targetAt, targetsIn}
-use Rattle.element.specs.Layout.{sizeOf}
+use Rattle.element.specs.Layout.{beforeAddress, sizeOf}
 use Rattle.element.specs.Lists.{addressIn, addressesFrom, addressesIn, allOnes, allowed, anyForbidden, among, twice, onesBesideOthers}
 
 -- ---- entries one after another
@@ -89,30 +91,50 @@ module _ (part : List ℕ) (i : ℕ) where
   unfolding itemAt fieldsAt
   item-read p₁ p₂ = cc (add-zero (7 * i))
 
-  module _ (k : ListKind) (l : i < entriesIn k part) where
-    pub target-within : k ≡ Targets → 11 * (i + 1) ≤ length part
-    target-within e = let h = rw e at l in omega arith
+  -- the address, by the kind of the entry: z octets an entry, b of them before the address
+  module _ (k : ListKind) (l : i < entriesIn k part) (z b : ℕ) (ze : z ≡ sizeOf k) where
+    in-list : (j : ListKind) → i < entriesIn j part → sizeOf j * i + beforeAddress j + 6 ≤ length part
+    in-list Targets h = omega (arith, h)
+    in-list Dependents h = omega (arith, h)
+    in-list LostDestinations h = omega (arith, h)
+    in-list Items h = omega (arith, h)
 
-    pub numbered-within : k ≡ Dependents → 10 * (i + 1) ≤ length part
-    numbered-within e = let h = rw e at l in omega arith
+    entry-fits : length part < 2 ^ 63 → Fits w64 (z * i)
+    entry-fits f = record { fits = let h = in-list k l in rw ze (omega (arith, h, f)) }
 
-    pub lost-within : k ≡ LostDestinations → 10 * (i + 1) ≤ length part
-    lost-within e = let h = rw e at l in omega arith
+    pub entry-place-fits : length part * 1 < 2 ^ 63 → Fits w64 (z * i)
+    entry-place-fits f = entry-fits (omega (arith, f))
 
-    pub item-within : k ≡ Items → 7 * (i + 1) ≤ length part
-    item-within e = let h = rw e at l in omega arith
+    module _ (be : b ≡ beforeAddress k) where
+      pub address-within : z * i + b + 6 ≤ length part
+      address-within = rw (ze, be) (in-list k l)
 
-    pub target-address : k ≡ Targets → (t : Target) → t ≡ targetAt part i → t .address ≡ addressIn k part i
-    target-address ke t e = rw (ke, e)
+      pub address-place-fits : length part * 1 < 2 ^ 63 → Fits w64 (z * i + b)
+      address-place-fits f = record { fits = omega (arith, address-within, f) }
 
-    pub numbered-address : k ≡ Dependents → (a : NumberedAddress) → a ≡ numberedAt part i → a .address ≡ addressIn k part i
-    numbered-address ke a e = rw (ke, e)
+      pub address-read : (x : ℕ) → x ≡ numberAt 6 part (z * i + b) → record { 0 = x } ≡ addressIn k part i
+      unfolding targetAt numberedAt lostAt itemAt fieldsAt
+      address-read x e = by k (rw (← ze, ← be) e)
+        where
+          by : (j : ListKind) → x ≡ numberAt 6 part (sizeOf j * i + beforeAddress j) → record { 0 = x } ≡ addressIn j part i
+          by Targets h = rw h
+          by Dependents h = rw h
+          by LostDestinations h = rw h
+          by Items h = rw h
 
-    pub lost-address : k ≡ LostDestinations → (m : LostDestination) → m ≡ lostAt part i → m .address ≡ addressIn k part i
-    lost-address ke m e = rw (ke, e)
+-- how many entries
+module _ (k : ListKind) (part : List ℕ) (z : ℕ) (ze : z ≡ sizeOf k) where
+  pub some-size : 0 < z
+  some-size = rw ze (by k)
+    where
+      by : (j : ListKind) → 0 < sizeOf j
+      by Targets = omega arith
+      by Dependents = omega arith
+      by LostDestinations = omega arith
+      by Items = omega arith
 
-    pub item-address : k ≡ Items → (a : Item) → a ≡ itemAt part i → a .address ≡ addressIn k part i
-    item-address ke a e = rw (ke, e)
+  pub entries-many : length part / z ≡ entriesIn k part
+  entries-many = rw ze
 
 -- ---- scans: F asks p of each entry and those after it, and ends at the first that passes; g is what the whole scan gives
 
@@ -235,8 +257,3 @@ module _ (k : ListKind) (part : List ℕ) where
   ones-beside b n be ne =
       let long : length (each (addressIn k part) 0 (entriesIn k part - 0)) ≡ n = each-length (addressIn k part) 0 (entriesIn k part - 0) ∙ sub-zero (entriesIn k part) ∙ sym ne in
       cc
-
--- how many entries, by the kind that a branch has found
-module _ (k j : ListKind) (ke : k ≡ j) (part : List ℕ) (n : ℕ) where
-  pub entries-many : n ≡ length part / sizeOf j → n ≡ entriesIn k part
-  entries-many e = rw ke e

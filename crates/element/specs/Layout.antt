@@ -61,6 +61,13 @@ sizeOf Dependents = 10
 sizeOf LostDestinations = 10
 sizeOf Items = 7
 
+-- octets of an entry before its address
+abbrev pub beforeAddress : ListKind → ℕ
+beforeAddress Targets = 1
+beforeAddress Dependents = 0
+beforeAddress LostDestinations = 0
+beforeAddress Items = 1
+
 -- of an entry of this type's list (1 for a RANN, whose empty list part then has 0 / 1 entries)
 abbrev pub entrySize : Kind → ℕ
 entrySize Rann = 1

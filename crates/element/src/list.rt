@@ -1,5 +1,5 @@
 // The list part of an element and the items of an ask: entries by index, and what can be wrong with the addresses of
-// destinations. A list has at most 25 entries, so all of this is by plain scans.
+// destinations.
 use crate::Item;
 use crate::LostDestination;
 use crate::NumberedAddress;
@@ -7,9 +7,11 @@ use crate::Target;
 use counters::SequenceNumber;
 use table::address::Address;
 ghost use mathlib.Core.Path.{_≡_};
+ghost use mathlib.Core.Bool.{_&&_, not};
 ghost use Prim.Native.Nat.{_+_, _*_, _<_, _≤_};
+ghost use lib.Dec.{eqb};
 ghost use lib.ListN.{length};
-ghost use Rattle.element.specs.Layout.{sizeOf};
+ghost use Rattle.element.specs.Layout.{beforeAddress, sizeOf};
 ghost use Rattle.element.specs.declared.list.ListKind.{ListKind};
 ghost use Rattle.element.specs.Entries.{entriesIn, itemAt, lostAt, numberedAt, targetAt};
 ghost use Rattle.element.specs.Lists.{
@@ -87,28 +89,43 @@ pub fn item_at(part: &[u8], i: usize) -> Item
     Item { flags, address }
 }
 
+// Octets of an entry.
+fn size_of(kind: ListKind) -> usize
+    ensures { λ r. ⌜ r ≡ sizeOf kind ⌝ }
+{
+    match kind {
+        ListKind::Targets => TARGET,
+        ListKind::Dependents => DEPENDENT,
+        ListKind::LostDestinations => LOST,
+        ListKind::Items => ITEM,
+    }
+}
+
+// Octets of an entry before its address: flags, where it has them.
+fn before_address(kind: ListKind) -> usize
+    ensures { λ r. ⌜ r ≡ beforeAddress kind ⌝ }
+{
+    match kind {
+        ListKind::Targets => 1,
+        ListKind::Dependents => 0,
+        ListKind::LostDestinations => 0,
+        ListKind::Items => 1,
+    }
+}
+
 // How many entries a list part has.
 pub fn entries_in(part: &[u8], kind: ListKind) -> usize
     ensures { λ r. ⌜ r ≡ entriesIn kind (now (part .entry)) ⌝ }
 {
-    match kind {
-        ListKind::Targets => part.len() / TARGET,
-        ListKind::Dependents => part.len() / DEPENDENT,
-        ListKind::LostDestinations => part.len() / LOST,
-        ListKind::Items => part.len() / ITEM,
-    }
+    part.len() / size_of(kind)
 }
 
+// Reads the address alone, at a place that is computed: a loop over a list whose kind the compiler does not know has no branch.
 fn address_at(part: &[u8], kind: ListKind, i: usize) -> Address
     requires { ⌜ i < entriesIn kind (now part) ⌝ }
     ensures { λ r. ⌜ r ≡ addressIn kind (now (part .entry)) i ⌝ }
 {
-    match kind {
-        ListKind::Targets => target_at(part, i).address,
-        ListKind::Dependents => numbered_at(part, i).address,
-        ListKind::LostDestinations => lost_at(part, i).address,
-        ListKind::Items => item_at(part, i).address,
-    }
+    Address(octets::read_u48(part, size_of(kind) * i + before_address(kind)))
 }
 
 fn is_allowed(kind: ListKind, address: Address) -> bool
@@ -158,18 +175,44 @@ pub fn is_among(part: &[u8], kind: ListKind, address: Address) -> bool
     is_among_from(part, kind, 0, address)
 }
 
+// Whether the address stands at entry from or after it, where mark 0 says that it does not.
+fn is_again(part: &[u8], kind: ListKind, from: usize, address: Address, mark: u8) -> bool
+    ensures { λ r. ⌜ r ≡ (not (eqb mark 0) && among address (addressesFrom kind (now (part .entry)) from)) ⌝ }
+{
+    if mark == 0 {
+        return false;
+    }
+    is_among_from(part, kind, from, address)
+}
+
+// Marks the address of each entry in seen, from the last entry down. Two addresses may share a mark: then the entries after are
+// searched.
+fn has_twice_by_marks(part: &[u8], kind: ListKind, seen: &mut [u8], last: usize) -> bool
+    requires { ⌜ length (now seen) ≡ last + 1 ⌝ }
+    ensures { λ r. ⌜ r ≡ twice (addressesIn kind (now (part .entry))) ⌝ }
+{
+    let mut from = entries_in(part, kind);
+    while 0 < from {
+        let i = from - 1;
+        let address = address_at(part, kind, i);
+        let h = address.mark(last);
+        if is_again(part, kind, from, address, seen[h]) {
+            return true;
+        }
+        seen[h] = 1;
+        from = i;
+    }
+    false
+}
+
 pub fn has_twice(part: &[u8], kind: ListKind) -> bool
     ensures { λ r. ⌜ r ≡ twice (addressesIn kind (now (part .entry))) ⌝ }
 {
-    let n = entries_in(part, kind);
-    let mut i = 0;
-    while i < n {
-        if is_among_from(part, kind, i + 1, address_at(part, kind, i)) {
-            return true;
-        }
-        i += 1;
+    if entries_in(part, kind) <= 1 {
+        return false;
     }
-    false
+    let mut seen = [0u8; 256];
+    has_twice_by_marks(part, kind, &mut seen, 255)
 }
 
 pub fn has_ones_beside_others(part: &[u8], kind: ListKind) -> bool

@@ -7,5 +7,5 @@ pub mod Heads
 pub mod Lookup
 pub mod WellFormed
 pub mod HeldRows
-mod Marks
+pub mod Marks
 pub mod Places

@@ -1,5 +1,6 @@
 pub mod Address
 pub mod Layout
+pub mod Marks
 pub mod Row
 pub mod Places
 pub mod Table

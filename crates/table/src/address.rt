@@ -1,6 +1,7 @@
 // Addresses of six octets.
 ghost use mathlib.Core.Path.{_≡_};
 ghost use Rattle.table.specs.Address.{addressOf, individual, octetsOf};
+ghost use Rattle.table.specs.Marks.{mark};
 
 // Six octets as a little-endian number: the first octet is the lowest.
 pub struct Address(pub u64);
@@ -24,5 +25,14 @@ impl Address {
         ensures { λ r. ⌜ r ≡ individual self ⌝ }
     {
         (self.0 % 2 == 0) & (self.0 != 0)
+    }
+
+    // Returns one of the marks up to the last, which is a power of two less one. The last octets count most, since boxes of one
+    // maker share the first ones.
+    pub fn mark(self, last: usize) -> usize
+        ensures { λ r. ⌜ r ≡ mark last self ⌝ }
+    {
+        let d = self.0 % 281474976710656;
+        (d * 40503 / 1099511627776) as usize & last
     }
 }

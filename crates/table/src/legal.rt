@@ -10,7 +10,6 @@ use crate::search;
 ghost use mathlib.Core.Path.{_≡_};
 ghost use mathlib.Core.Bool.{_&&_, _||_};
 ghost use Prim.Native.Nat.{_+_, _*_, _/_, _%_, _^_, _≤_};
-ghost use lib.Bits.{bitAnd};
 ghost use lib.ListN.{length};
 ghost use lib.Dec.{eqb};
 ghost use Rattle.table.specs.Row.{headOk, boundsOk, isFree, isHeld, statusOk, isOther, isUnnumbered, rowOk};
@@ -147,16 +146,6 @@ fn passes_by(table: &[u8], own: Address, i: usize, mark: u8) -> bool
     is_alone(table, i)
 }
 
-// The mark of row i's destination, of last + 1 marks, a power of two. Its last octets count most, since boxes of one maker
-// share the first ones.
-fn mark_of(table: &[u8], i: usize, last: usize) -> usize
-    requires { ⌜ place i + rowOctets ≤ length (now table) ⌝ }
-    ensures { λ r. ⌜ r ≡ bitAnd (rowAt (now (table .entry)) i .destination .0 % 2 ^ 48 * 40503 / 2 ^ 40) last ⌝ }
-{
-    let d = row::destination_at(table, i).0 % 281474976710656;
-    (d * 40503 / 1099511627776) as usize & last
-}
-
 // Marks the destination of each row passed in seen. Two destinations may share a mark: then the rows before are searched.
 fn rows_pass_by(table: &[u8], own: Address, n: usize, seen: &mut [u8], last: usize) -> bool
     requires { ⌜ place n ≤ length (now table) ⌝ }
@@ -165,7 +154,7 @@ fn rows_pass_by(table: &[u8], own: Address, n: usize, seen: &mut [u8], last: usi
 {
     let mut i = 0;
     while i < n {
-        let h = mark_of(table, i, last);
+        let h = row::destination_at(table, i).mark(last);
         if !passes_by(table, own, i, seen[h]) {
             return false;
         }

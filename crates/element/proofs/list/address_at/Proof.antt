@@ -1,6 +1,6 @@
--- `element::list::address_at` meets its contract: kind by kind. Assumes nothing.
+-- `element::list::address_at` meets its contract: the address stands at its place in the entry.
 use borrow.Author.Needs.{needs}
-use Rattle.element.proofs.Scans.{target-within, numbered-within, lost-within, item-within, target-address, numbered-address, lost-address, item-address}
+use Rattle.element.proofs.Scans.{entry-place-fits, address-place-fits, address-within, address-read}
 use Rattle.element.proofs.list.address_at.Statement.{statement}
 use Rattle.element.proofs.list.address_at.Tie as tie
 
@@ -8,15 +8,9 @@ pub address-at-spec : {M : Type 1} → statement M
 address-at-spec =
     tie.close
     (tie.spec
-    (λ c. search needs)
-    (λ c κs. search target-within)
-    (λ c. search needs)
-    (λ c κs. search numbered-within)
-    (λ c. search needs)
-    (λ c κs. search lost-within)
-    (λ c. search needs)
-    (λ c κs. search item-within)
-    (λ c. search target-address)
-    (λ c. search numbered-address)
-    (λ c. search lost-address)
-    (λ c. search item-address))
+    (λ c κs. search needs)
+    (λ c. search (needs, entry-place-fits))
+    (λ c κs. search needs)
+    (λ c. search (needs, address-place-fits))
+    (λ c κs. search address-within)
+    (λ c. search address-read))

@@ -7,14 +7,14 @@ use lib.ListN.{length}
 use borrow.Author.Tests.{not-true, not-false}
 use Rattle.table.specs.Places.{every}
 use Rattle.table.specs.Table.{passes}
-use Rattle.table.proofs.Marks.{Marked, mark-in, marked-none, marked-more, passes-by}
+use Rattle.table.proofs.Marks.{Marked, mark-in, marked-none, destinationIn, destination-marked, passes-by}
 use Rattle.table.proofs.Places.{every-none, every-more, every-stops, every-ended}
 use Rattle.table.proofs.legal.rows_pass_by.Statement.{statement}
 use Rattle.table.proofs.legal.rows_pass_by.Tie as tie
 
 abbrev Inv-loop : tie.InvT-loop
 Inv-loop table own n seen₀ last i₀ seen i =
-    (i ≤ n) × (length seen ≡ last + 1) × Marked table seen last i × (every (passes table own) i ≡ true)
+    (i ≤ n) × (length seen ≡ last + 1) × Marked (destinationIn table) seen last 0 i × (every (passes table own) i ≡ true)
 
 abbrev μ-loop : tie.MeasureT-loop
 μ-loop table own n seen₀ last i₀ seen i = n - i
@@ -27,6 +27,7 @@ rows-pass-by-spec =
     μ-loop
     (λ c. search (needs, marked-none, every-none))
     (λ c κs. search needs)
+    (λ c κs. search needs)
     (λ c. search mark-in)
     (λ c κs. search needs)
     (λ c. search needs)
@@ -34,6 +35,6 @@ rows-pass-by-spec =
     (λ c. search mark-in)
     (λ c. search needs)
     (λ c. search needs)
-    (λ c. search (needs, marked-more, every-more, passes-by, not-false))
+    (λ c. search (needs, destination-marked, every-more, passes-by, not-false))
     (λ c. search needs)
     (λ c. search every-ended))

@@ -1,0 +1,113 @@
+-- The search for an address that stands twice in a list, by marks: from the last entry down.
+use Prim.Native.Nat.{ℕ, zero, suc, _+_, _-_, _<_, _≤_}
+use mathlib.Core.Path.{_≡_, refl, sym, ap, _∙_}
+use mathlib.Core.Bool.{Bool, true, false, _&&_, _||_, not, or-true, true≢false}
+use mathlib.Core.List.{List, [], _∷_}
+use lib.Dec.{eqb}
+use lib.ListN.{length, getD, set}
+use native.Mathlib.Omega.{arith}
+use borrow.Author.Tests.{eq-eqb, ne-eqb, eqb-true}
+use Rattle.table.specs.declared.address.Address.{Address}
+use Rattle.table.specs.Address.{same}
+use Rattle.table.specs.Marks.{mark}
+use Rattle.table.proofs.Marks.{Marked, marked-down, marked-none, unmarked}
+use Rattle.element.specs.declared.list.ListKind.{ListKind}
+use Rattle.element.specs.Entries.{each, entriesIn}
+use Rattle.element.specs.Lists.{addressIn, addressesFrom, addressesIn, among, twice}
+use Rattle.element.proofs.Scans.{each-next, each-end}
+
+-- whether it stands again, by its mark
+module _ (m : ℕ) (g : Bool) where
+  pub unmarked-not : m ≡ 0 → false ≡ (not (eqb m 0) && g)
+  unmarked-not e = cc (eq-eqb m 0 e)
+
+  pub marked-as : (m ≡ 0 → ⊥) → (b : Bool) → b ≡ g → b ≡ (not (eqb m 0) && g)
+  marked-as n b be = cc (ne-eqb m 0 n)
+
+-- ---- any addresses, by index, up to n
+
+module _ (f : ℕ → Address) (n : ℕ) where
+  -- a list whose end has an address twice has it twice
+  twice-within : (i : ℕ) → i ≤ n → twice (each f i (n - i)) ≡ true → twice (each f 0 (n - 0)) ≡ true
+  unfolding twice
+  twice-within zero l e = e
+  twice-within (suc i) l e =
+      twice-within i (omega arith)
+      (ap twice (each-next f i n l) ∙ ap (λ b. among (f i) (each f (i + 1) (n - (i + 1))) || b) later ∙ or-true (among (f i) (each f (i + 1) (n - (i + 1)))))
+    where
+      later : twice (each f (i + 1) (n - (i + 1))) ≡ true
+      later = let at : i + 1 ≡ suc i = omega arith in rw at e
+
+  -- an address that is not among those up to n is apart from each
+  among-none : (d : Address) (k i : ℕ) → n - i ≡ k → ((j : ℕ) → i ≤ j → j < n → f j .0 ≡ d .0 → ⊥) → among d (each f i (n - i)) ≡ false
+  unfolding among
+  among-none d zero i e apart = ap (among d) (each-end f i n (omega (arith, e)))
+  among-none d (suc k) i e apart =
+      let l : i < n = omega (arith, e) in
+      ap (among d) (each-next f i n l)
+      ∙ ap (λ b. b || among d (each f (i + 1) (n - (i + 1)))) (ne-eqb (f i .0) (d .0) (apart i (omega arith) l))
+      ∙ among-none d k (i + 1) (omega (arith, e)) (λ j g h. apart j (omega (arith, g)) h)
+
+-- ---- as the loop asks it: i is the entry before those from `from` on
+
+module _ (k : ListKind) (part : List ℕ) where
+  pub none-twice : (n : ℕ) → n ≡ entriesIn k part → twice (addressesFrom k part n) ≡ false
+  unfolding addressesFrom twice
+  none-twice n ne = ap twice (each-end (addressIn k part) n (entriesIn k part) (omega (arith, ne)))
+
+  -- an address alone stands once
+  pub alone-once : (n : ℕ) → n ≡ entriesIn k part → n ≤ 1 → false ≡ twice (addressesIn k part)
+  unfolding addressesFrom twice among each
+  alone-once n ne l = by (entriesIn k part) (omega (arith, ne))
+    where
+      by : (m : ℕ) → m ≤ 1 → false ≡ twice (each (addressIn k part) 0 (m - 0))
+      by zero h = refl
+      by (suc zero) h = refl
+      by (suc (suc m)) h = absurd (omega (arith, h))
+
+  pub none-marked : (n : ℕ) → n ≡ entriesIn k part → (seen : List ℕ) (last : ℕ) → Marked (addressIn k part) seen last n (entriesIn k part)
+  none-marked n ne seen last = rw ne (marked-none (addressIn k part) seen last (entriesIn k part))
+
+  pub all-once : (from : ℕ) → from ≤ 0 → twice (addressesFrom k part from) ≡ false → false ≡ twice (addressesFrom k part 0)
+  all-once from none-left once = let at : 0 ≡ from = omega arith in rw at (sym once)
+
+  module _ (from : ℕ) (some-left : 0 < from) (within : from ≤ entriesIn k part) where
+    pub before-within : from - 1 < entriesIn k part
+    before-within = omega arith
+
+    module _ (a : Address) (ae : a ≡ addressIn k part (from - 1)) where
+      -- the entries from that one on
+      with-before : addressesFrom k part (from - 1) ≡ a ∷ addressesFrom k part from
+      unfolding addressesFrom
+      with-before =
+          let at : from - 1 + 1 ≡ from = omega arith in
+          each-next (addressIn k part) (from - 1) (entriesIn k part) before-within
+          ∙ ap (λ (j : ℕ). addressIn k part (from - 1) ∷ each (addressIn k part) j (entriesIn k part - j)) at
+          ∙ ap (λ (b : Address). b ∷ each (addressIn k part) from (entriesIn k part - from)) (sym ae)
+
+      pub again-found : (m : ℕ) (b : Bool) → b ≡ (not (eqb m 0) && among a (addressesFrom k part from)) → b ≡ true
+          → true ≡ twice (addressesFrom k part 0)
+      unfolding addressesFrom twice
+      again-found m b be yes-b =
+          sym (twice-within (addressIn k part) (entriesIn k part) (from - 1) (omega (arith, within))
+          (stands-twice (among a (addressesFrom k part from)) (not (eqb m 0)) (sym be ∙ yes-b) refl))
+        where
+          stands-twice : (g x : Bool) → (x && g) ≡ true → among a (addressesFrom k part from) ≡ g → twice (addressesFrom k part (from - 1)) ≡ true
+          stands-twice g true e ge = ap twice with-before ∙ ap (λ c. c || twice (addressesFrom k part from)) (ge ∙ e)
+          stands-twice g false e ge = absurd (true≢false (sym e))
+
+      module _ (seen : List ℕ) (last : ℕ) (marked : Marked (addressIn k part) seen last from (entriesIn k part)) (h : ℕ) (he : h ≡ mark last a) where
+        pub before-marked : length seen ≡ last + 1 → Marked (addressIn k part) (set seen h 1) last (from - 1) (entriesIn k part)
+        before-marked le =
+            marked-down (addressIn k part) seen last from (entriesIn k part) h le (from - 1) (omega arith) marked (he ∙ ap (mark last) ae)
+
+        pub still-once : (b : Bool) → b ≡ (not (eqb (getD seen h 0) 0) && among a (addressesFrom k part from)) → b ≡ false
+            → twice (addressesFrom k part from) ≡ false → twice (addressesFrom k part (from - 1)) ≡ false
+        unfolding twice addressesFrom
+        still-once b be no-b once = ap twice with-before ∙ ap (λ c. c || twice (addressesFrom k part from)) (by (eqb (getD seen h 0) 0) refl) ∙ once
+          where
+            by : (x : Bool) → eqb (getD seen h 0) 0 ≡ x → among a (addressesFrom k part from) ≡ false
+            by true e =
+                among-none (addressIn k part) (entriesIn k part) a (entriesIn k part - from) from refl
+                (unmarked (addressIn k part) seen last from (entriesIn k part) marked a h he (eqb-true (getD seen h 0) 0 e))
+            by false e = sym (ap (λ x. not x && among a (addressesFrom k part from)) e) ∙ sym be ∙ no-b
