@@ -1,4 +1,4 @@
--- The commands that make a point call. Assumes nothing.
+-- The commands that make a point call.
 use Prim.Native.Nat.{ℕ, _+_, _-_, _*_, _<_, _≤_}
 use mathlib.Core.Path.{_≡_, refl, _∙_}
 use mathlib.Core.List.{List}
@@ -9,14 +9,14 @@ use Rattle.octets.specs.LittleEndian.{zeros}
 use Rattle.table.specs.declared.address.Address.{Address}
 use Rattle.table.specs.Address.{addressOf}
 use Rattle.rules.specs.Decision.{Decision}
-use Rattle.rules.specs.Outcome.{lend, Effect, atExit}
+use Rattle.rules.specs.Exit.{lend, Effect, atExit}
 use Rattle.rules.specs.Walk.{tableAt}
 use Rattle.rules.specs.declared.Arrival.{Arrival}
 use Rattle.rules.specs.Originate.{ask, announce}
 use Rattle.rules.specs.Break.{breakNeighbour}
 use Rattle.rules.specs.Receive.{receive}
 use Rattle.calls.specs.declared.Outcome.{Outcome}
-use Rattle.calls.specs.Answers.{exits}
+use Rattle.calls.specs.Answers.{exitOf}
 use Rattle.bench_core.specs.declared.State.{State}
 use Rattle.bench_core.specs.declared.Done.{Done}
 use Rattle.bench_core.specs.declared.Done.the-variants.{Fault}
@@ -47,22 +47,22 @@ module _ (s : State) (tables slots : List ℕ) (p : ℕ) where
     after = doneIn r (putMid (544 * p) (544 * p + 544 - 544 * p) tables u) slots′
 
     -- of any call, by the table and the output that it was lent
-    called : (call : List ℕ → ℕ → Decision Effect) → exits o (lend u) output ≡ atExit (lend t) output₀ (call t n) → t ≡ tableAt tables 544 p → output₀ ≡ zeros 1560
+    called : (call : List ℕ → ℕ → Decision Effect) → exitOf o (lend u) output ≡ atExit (lend t) output₀ (call t n) → t ≡ tableAt tables 544 p → output₀ ≡ zeros 1560
         → n ≡ 1560 → after ≡ settled (benchOf s tables slots) p (calledBy (benchOf s tables slots) p (call (tableAt tables 544 p) 1560))
     called call xe te ue ne = settled-so s few tables slots p o u output _ (xe ∙ rw (te, ue, ne)) r re slots′ se
 
-    pub announce-done : (lifetime : ℕ) → exits o (lend u) output ≡ atExit (lend t) output₀ (announce (lend t) n 0 lifetime) → t ≡ tableAt tables 544 p → output₀ ≡ zeros 1560
+    pub announce-done : (lifetime : ℕ) → exitOf o (lend u) output ≡ atExit (lend t) output₀ (announce (lend t) n 0 lifetime) → t ≡ tableAt tables 544 p → output₀ ≡ zeros 1560
         → n ≡ 1560 → after ≡ announceSelf (benchOf s tables slots) p lifetime
     unfolding announceSelf
     announce-done lifetime xe te ue ne =
         called (λ t n. announce (lend t) n 0 lifetime) xe te ue ne ∙ rw (lt-ltb p (s .points) a-point)
 
-    pub ask-done : (item : List ℕ) (lifetime : ℕ) → exits o (lend u) output ≡ atExit (lend t) output₀ (ask (lend t) n lifetime item) → t ≡ tableAt tables 544 p
+    pub ask-done : (item : List ℕ) (lifetime : ℕ) → exitOf o (lend u) output ≡ atExit (lend t) output₀ (ask (lend t) n lifetime item) → t ≡ tableAt tables 544 p
         → output₀ ≡ zeros 1560 → n ≡ 1560 → after ≡ askFor (benchOf s tables slots) p item lifetime
     unfolding askFor
     ask-done item lifetime xe te ue ne = called (λ t n. ask (lend t) n lifetime item) xe te ue ne ∙ rw (lt-ltb p (s .points) a-point)
 
-    pub break-done : (q c : ℕ) (neighbour : Address) → exits o (lend u) output ≡ atExit (lend t) output₀ (breakNeighbour (lend t) n c neighbour) → q < s .points → c ≡ s .clock
+    pub break-done : (q c : ℕ) (neighbour : Address) → exitOf o (lend u) output ≡ atExit (lend t) output₀ (breakNeighbour (lend t) n c neighbour) → q < s .points → c ≡ s .clock
         → neighbour ≡ addressOf (tableAt tables 544 q)
         → t ≡ tableAt tables 544 p → output₀ ≡ zeros 1560 → n ≡ 1560 → after ≡ breakOff (benchOf s tables slots) p q
     unfolding breakOff
@@ -70,7 +70,7 @@ module _ (s : State) (tables slots : List ℕ) (p : ℕ) where
         called (λ t n. breakNeighbour (lend t) n c neighbour) xe te ue ne
         ∙ rw (lt-ltb p (s .points) a-point, lt-ltb q (s .points) l, ce, qe)
 
-    pub handed-over : (k : ℕ) (a : Arrival) (e : List ℕ) → exits o (lend u) output ≡ atExit (lend t) output₀ (receive (lend t) n a e) → e ≡ elementOf slots k
+    pub handed-over : (k : ℕ) (a : Arrival) (e : List ℕ) → exitOf o (lend u) output ≡ atExit (lend t) output₀ (receive (lend t) n a e) → e ≡ elementOf slots k
         → t ≡ tableAt tables 544 p → output₀ ≡ zeros 1560 → n ≡ 1560 → after ≡ handedOver (benchOf s tables slots) k p a
     unfolding handedOver
     handed-over k a e xe ee te ue ne = called (λ t n. receive (lend t) n a e) xe te ue ne ∙ rw ee

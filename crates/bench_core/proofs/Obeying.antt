@@ -1,4 +1,4 @@
--- Commands by their octets. Assumes nothing.
+-- Commands by their octets.
 use Prim.Native.Nat.{ℕ, _<_, _≤_}
 use mathlib.Core.Path.{_≡_, sym}
 use mathlib.Core.List.{List, [], _∷_}

@@ -1,4 +1,4 @@
--- What becomes of a call that may emit frames: its table and its frames are kept. Assumes nothing.
+-- What becomes of a call that may emit frames: its table and its frames are kept.
 use Prim.Native.Nat.{ℕ, _+_, _-_, _*_, _<_, _≤_}
 use mathlib.Core.Path.{_≡_, refl, ap, _∙_}
 use mathlib.Core.Bool.{Bool, true, false}
@@ -8,11 +8,11 @@ use native.Mathlib.Omega.{arith}
 use native.Mathlib.Nat.{add-zero}
 use borrow.Author.Tests.{lt-ltb, le-ltb}
 use borrow.Rule.Slice.PartMut.{putMid}
-use Rattle.rules.specs.Outcome.{lend, Exit}
+use Rattle.rules.specs.Exit.{lend, Exit}
 use Rattle.calls.specs.declared.Emitted.{Emitted}
 use Rattle.calls.specs.declared.Outcome.{Outcome}
 use Rattle.calls.specs.declared.Outcome.the-variants.{Accepted, Refused}
-use Rattle.calls.specs.Answers.{exits}
+use Rattle.calls.specs.Answers.{exitOf}
 use Rattle.bench_core.specs.declared.State.{State}
 use Rattle.bench_core.specs.declared.Done.{Done}
 use Rattle.bench_core.specs.declared.Done.the-variants.{Fault}
@@ -61,13 +61,13 @@ unfolding withTableAt
 put-back tables u p = let n : 544 * p + 544 - 544 * p ≡ 544 = omega arith in rw n
 
 -- the point's call gave outcome o, table u and output, which is the exit x
-module _ (s : State) (few : s .frames ≤ 128) (tables slots : List ℕ) (p : ℕ) (o : Outcome) (u output : List ℕ) (x : Exit) (xe : exits o (lend u) output ≡ x)
+module _ (s : State) (few : s .frames ≤ 128) (tables slots : List ℕ) (p : ℕ) (o : Outcome) (u output : List ℕ) (x : Exit) (xe : exitOf o (lend u) output ≡ x)
     (r : Done) (re : r ≡ settledAs s o) (slots′ : List ℕ) (se : slots′ ≡ settledSlots s o p output slots) where
   kept-so : doneIn r (withTableAt tables p u) slots′ ≡ settled (benchOf s tables slots) p x
   unfolding settled keep
   kept-so = by o xe re se
     where
-      by : (o : Outcome) → exits o (lend u) output ≡ x → r ≡ settledAs s o → slots′ ≡ settledSlots s o p output slots
+      by : (o : Outcome) → exitOf o (lend u) output ≡ x → r ≡ settledAs s o → slots′ ≡ settledSlots s o p output slots
           → doneIn r (withTableAt tables p u) slots′ ≡ settled (benchOf s tables slots) p x
       by (Refused n) xe re se = rw (re, se, ← xe, add-zero (s .frames), le-ltb 128 (s .frames) few)
       by (Accepted e) xe re se = cases (ltb 128 (s .frames + e .frames)) refl

@@ -1,4 +1,4 @@
--- The commands that make no point emit: point, advance, link and walk. Assumes nothing.
+-- The commands that make no point emit: point, advance, link and walk.
 use Prim.Native.Nat.{ℕ, _+_, _-_, _*_, _<_, _≤_}
 use mathlib.Core.Path.{_≡_, sym, ap, _∙_}
 use mathlib.Core.Bool.{Bool, true, false, not, cond}
@@ -12,14 +12,15 @@ use Rattle.table.specs.declared.address.Address.{Address}
 use Rattle.table.specs.Address.{individual, addressOf}
 use Rattle.table.specs.Layout.{sized}
 use Rattle.table.specs.Table.{fresh}
-use Rattle.rules.specs.Decision.{Decision, refused, accepted, Left, left}
+use Rattle.rules.specs.Decision.{Decision, refused, accepted}
+use Rattle.rules.specs.Exit.{TableExit, tableAtExit}
 use Rattle.rules.specs.Fresh.{makeFresh}
 use Rattle.rules.specs.Walk.{tableAt, walkedAtExit, walk}
 use Rattle.calls.specs.declared.Answer.{Answer}
-use Rattle.calls.specs.Answers.{answerOf, leaves}
+use Rattle.calls.specs.Answers.{answerOf, tableExitOf}
 use Rattle.walk.specs.declared.Ending.{Ending}
 use Rattle.walk.specs.declared.Walked.{Walked as InNumbers}
-use Rattle.walk.specs.Answers.{decisionOf, numbersOf}
+use Rattle.walk.specs.Answers.{walkDecision, numbersOf}
 use Rattle.bench_core.specs.declared.State.{State}
 use Rattle.bench_core.specs.declared.Done.{Done}
 use Rattle.bench_core.specs.declared.Done.the-variants.{Fault}
@@ -33,7 +34,7 @@ use Rattle.bench_core.proofs.Slots.{front-long}
 -- ---- 1 point
 
 -- The answer is 0 exactly if the table is made: no refusal has that number.
-module _ (t u : List ℕ) (own : Address) (number : SequenceNumber) (a : Answer) (ae : leaves a u ≡ left t (makeFresh t own number)) where
+module _ (t u : List ℕ) (own : Address) (number : SequenceNumber) (a : Answer) (ae : tableExitOf a u ≡ tableAtExit t (makeFresh t own number)) where
   abbrev byChecks : Bool → Bool → Decision (List ℕ)
   byChecks b d = cond b (refused 1) (cond d (refused 9) (accepted (fresh (length t) own number)))
 
@@ -41,19 +42,19 @@ module _ (t u : List ℕ) (own : Address) (number : SequenceNumber) (a : Answer)
   unfolding makeFresh
   not-made ne = by (not (sized t)) (not (individual own)) ae
     where
-      by : (b d : Bool) → leaves a u ≡ left t (byChecks b d) → (byChecks b d ≡ refused (answerOf a)) × (u ≡ t)
-      by true d e = (ap refused (sym (ap (λ (x : Left). x .answer) e)), ap (λ (x : Left). x .table) e)
-      by false true e = (ap refused (sym (ap (λ (x : Left). x .answer) e)), ap (λ (x : Left). x .table) e)
-      by false false e = absurd (ne (ap (λ (x : Left). x .answer) e))
+      by : (b d : Bool) → tableExitOf a u ≡ tableAtExit t (byChecks b d) → (byChecks b d ≡ refused (answerOf a)) × (u ≡ t)
+      by true d e = (ap refused (sym (ap (λ (x : TableExit). x .answer) e)), ap (λ (x : TableExit). x .table) e)
+      by false true e = (ap refused (sym (ap (λ (x : TableExit). x .answer) e)), ap (λ (x : TableExit). x .table) e)
+      by false false e = absurd (ne (ap (λ (x : TableExit). x .answer) e))
 
   made : answerOf a ≡ 0 → makeFresh t own number ≡ accepted u
   unfolding makeFresh
   made z = by (not (sized t)) (not (individual own)) ae
     where
-      by : (b d : Bool) → leaves a u ≡ left t (byChecks b d) → byChecks b d ≡ accepted u
-      by true d e = let q = ap (λ (x : Left). x .answer) e in absurd (omega arith)
-      by false true e = let q = ap (λ (x : Left). x .answer) e in absurd (omega arith)
-      by false false e = ap accepted (sym (ap (λ (x : Left). x .table) e))
+      by : (b d : Bool) → tableExitOf a u ≡ tableAtExit t (byChecks b d) → byChecks b d ≡ accepted u
+      by true d e = let q = ap (λ (x : TableExit). x .answer) e in absurd (omega arith)
+      by false true e = let q = ap (λ (x : TableExit). x .answer) e in absurd (omega arith)
+      by false false e = ap accepted (sym (ap (λ (x : TableExit). x .table) e))
 
 module _ (s : State) (own : Address) (number : SequenceNumber) (tables : List ℕ) where
   pub seventeenth : (tables′ : List ℕ) → 16 ≤ s .points → Adds Fault s own number tables tables′
@@ -63,7 +64,7 @@ module _ (s : State) (own : Address) (number : SequenceNumber) (tables : List �
   abbrev place : ℕ
   place = 544 * s .points
 
-  module _ (l : s .points < 16) (t u : List ℕ) (a : Answer) (ae : leaves a u ≡ left t (makeFresh t own number))
+  module _ (l : s .points < 16) (t u : List ℕ) (a : Answer) (ae : tableExitOf a u ≡ tableAtExit t (makeFresh t own number))
       (te : t ≡ take (place + 544 - place) (drop place tables)) (n : ℕ) (ne : n ≡ answerOf a) where
     table-is : t ≡ tableAt tables 544 (s .points)
     table-is = te ∙ lent-table tables (s .points)
@@ -127,11 +128,11 @@ module _ (s : State) (p q : ℕ) (tables : List ℕ) where
     end-unknown no-q slots = rw (lt-ltb p (s .points) l, le-ltb q (s .points) no-q)
 
     pub walked : q < s .points → (part : List ℕ) → part ≡ take (544 * s .points) tables → (start d : Address) → start ≡ addressOf (tableAt tables 544 p)
-        → d ≡ addressOf (tableAt tables 544 q) → (e : Ending) → decisionOf e ≡ walk part (s .points) (s .clock) start d
-        → (w : InNumbers) → numbersOf w ≡ walkedAtExit (decisionOf e) → (r : Done) → r ≡ printed s (w .answer) (w .hops) → Walks r s p q tables
+        → d ≡ addressOf (tableAt tables 544 q) → (e : Ending) → walkDecision e ≡ walk part (s .points) (s .clock) start d
+        → (w : InNumbers) → numbersOf w ≡ walkedAtExit (walkDecision e) → (r : Done) → r ≡ printed s (w .answer) (w .hops) → Walks r s p q tables
     unfolding Walks walkTo
     walked m part pe start d se de e ee w we r re slots =
-        let over = take (544 * s .points) tables in
-        let is : numbersOf w ≡ walkedAtExit (walk over (s .points) (s .clock) (addressOf (tableAt tables 544 p)) (addressOf (tableAt tables 544 q))) =
+        let overwrite = take (544 * s .points) tables in
+        let is : numbersOf w ≡ walkedAtExit (walk overwrite (s .points) (s .clock) (addressOf (tableAt tables 544 p)) (addressOf (tableAt tables 544 q))) =
         we ∙ rw (ee, pe, se, de) in
         rw (re, lt-ltb p (s .points) l, lt-ltb q (s .points) m) (ap (walkedLine (benchOf s tables slots)) is)

@@ -1,11 +1,11 @@
--- Frames in an output and in the slots. Assumes nothing.
+-- Frames in an output and in the slots.
 use Prim.Native.Nat.{ℕ, suc, _+_, _-_, _*_, _<_, _≤_, min}
 use mathlib.Core.Path.{_≡_, sym, ap, _∙_}
 use mathlib.Core.List.{List, _∷_}
 use lib.ListN.{length, getD, set, take, drop, length-set, length-take}
 use native.Mathlib.Omega.{arith}
 use native.Mathlib.Nat.{min-eq-left, min-eq-right, sub-zero, add-zero}
-use Rattle.octets.specs.LittleEndian.{over}
+use Rattle.octets.specs.LittleEndian.{overwrite}
 use Rattle.bench_core.specs.Frames.{frameEnd, senderOf, elementOf, keep}
 
 -- the first n of a list
@@ -44,8 +44,8 @@ module _ (s : List ℕ) (k : ℕ) where
       let m : 264 * k + 8 ≡ 264 * k + 7 + 1 = omega arith in
       rw (n, xe, m)
 
-  pub frame-kept : (x : ℕ) (frame u v : List ℕ) → u ≡ set s (264 * k) x → v ≡ over u (264 * k + 1) frame → v ≡ over s (264 * k) (x ∷ frame)
-  unfolding over
+  pub frame-kept : (x : ℕ) (frame u v : List ℕ) → u ≡ set s (264 * k) x → v ≡ overwrite u (264 * k + 1) frame → v ≡ overwrite s (264 * k) (x ∷ frame)
+  unfolding overwrite
   frame-kept x frame u v ue ve = let n : suc (264 * k) ≡ 264 * k + 1 = omega arith in rw (ve, ue, n)
 
   module _ (long : length s ≡ 33792) (l : k < 128) (at x : ℕ) (ae : at ≡ 264 * k) where
@@ -63,7 +63,7 @@ module _ (output : List ℕ) (sender first n : ℕ) where
 
   module _ (slots g : List ℕ) (i at : ℕ) (so-far : keep slots output sender (first + i) (n - i) at ≡ g) where
     pub keep-more : i < n → (end : ℕ) → end ≡ frameEnd output at → (slots′ : List ℕ)
-        → slots′ ≡ over slots (264 * (first + i)) (sender ∷ take (end - at) (drop at output))
+        → slots′ ≡ overwrite slots (264 * (first + i)) (sender ∷ take (end - at) (drop at output))
         → keep slots′ output sender (first + (i + 1)) (n - (i + 1)) end ≡ g
     unfolding keep
     keep-more l end ee slots′ se =

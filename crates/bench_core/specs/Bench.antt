@@ -1,4 +1,4 @@
--- What the bench holds, and what a command comes to. Assumes nothing.
+-- What the bench holds, and what a command comes to.
 use Prim.Native.Nat.{ℕ, _+_, _*_}
 use mathlib.Core.Bool.{Bool, cond}
 use mathlib.Core.List.{List, _++_}
@@ -8,7 +8,7 @@ use Rattle.octets.specs.LittleEndian.{zeros}
 use Rattle.table.specs.declared.address.Address.{Address}
 use Rattle.table.specs.Address.{addressOf}
 use Rattle.rules.specs.Decision.{Decision, _above_}
-use Rattle.rules.specs.Outcome.{lend, Effect, Exit, atExit, leastOutput}
+use Rattle.rules.specs.Exit.{lend, Effect, Exit, atExit, leastOutput}
 use Rattle.rules.specs.Walk.{tableAt}
 use Rattle.bench_core.specs.Frames.{keep}
 
@@ -33,11 +33,11 @@ pub record WithLinks : Type 0 where
 -- ---- points, numbered from 0
 
 -- 32 octets and 16 rows of 32
-abbrev pub tableOf : Bench → ℕ → List ℕ
-tableOf b p = tableAt (b .tables) 544 p
+abbrev pub tableOfPoint : Bench → ℕ → List ℕ
+tableOfPoint b p = tableAt (b .tables) 544 p
 
-abbrev pub addressIn : Bench → ℕ → Address
-addressIn b p = addressOf (tableOf b p)
+abbrev pub addressOfPoint : Bench → ℕ → Address
+addressOfPoint b p = addressOf (tableOfPoint b p)
 
 abbrev pub isPoint : Bench → ℕ → Bool
 isPoint b p = ltb p (b .points)
@@ -50,7 +50,7 @@ withTableAt tables p u = take (544 * p) tables ++ (u ++ drop 544 (drop (544 * p)
 
 -- The output that the bench lends has the least length, and is zero.
 abbrev pub calledBy : Bench → ℕ → Decision Effect → Exit
-calledBy b p d = atExit (lend (tableOf b p)) (zeros leastOutput) d
+calledBy b p d = atExit (lend (tableOfPoint b p)) (zeros leastOutput) d
 
 -- its table is kept, and its frames with their sender, unless there were more than 128
 unfoldable pub settled : Bench → ℕ → Exit → Done

@@ -1,5 +1,5 @@
 -- The eight commands, in the order of document 01, by their operands. An index of no point or frame, a 17th point, a 129th frame
--- and a clock above 2^48 - 1 are faults. Assumes nothing.
+-- and a clock above 2^48 - 1 are faults.
 use Prim.Native.Nat.{ℕ, _+_, _-_, _*_, _^_}
 use mathlib.Core.Bool.{_&&_, cond}
 use mathlib.Core.List.{List}
@@ -9,7 +9,7 @@ use Rattle.table.specs.Row.{maxClock}
 use Rattle.counters.specs.declared.SequenceNumber.{SequenceNumber}
 use Rattle.table.specs.declared.address.Address.{Address}
 use Rattle.table.specs.Address.{addressOf}
-use Rattle.rules.specs.Outcome.{lend, leastOutput}
+use Rattle.rules.specs.Exit.{lend, leastOutput}
 use Rattle.rules.specs.Decision.{Decision, refused, accepted, _above_, _below_}
 use Rattle.rules.specs.declared.Arrival.{Arrival}
 use Rattle.rules.specs.Fresh.{makeFresh}
@@ -25,8 +25,8 @@ use Rattle.bench_core.specs.Bench.{
   fault,
   line,
   WithLinks,
-  tableOf,
-  addressIn,
+  tableOfPoint,
+  addressOfPoint,
   isPoint,
   withTableAt,
   calledBy,
@@ -47,7 +47,7 @@ added b (accepted u) =
     })
 
 unfoldable pub addPoint : Bench → Address → SequenceNumber → Done
-addPoint b own number = cond ((b .points) below 16) (added b (makeFresh (tableOf b (b .points)) own number)) fault
+addPoint b own number = cond ((b .points) below 16) (added b (makeFresh (tableOfPoint b (b .points)) own number)) fault
 
 -- 2 advance clock
 unfoldable pub advance : Bench → ℕ → Done
@@ -71,16 +71,17 @@ link b links p q metric =
 -- 4 ask for one destination: its item is flags and address
 unfoldable pub askFor : Bench → ℕ → (item : List ℕ) → (lifetime : ℕ) → Done
 askFor b p item lifetime =
-    cond (isPoint b p) (settled b p (calledBy b p (ask (lend (tableOf b p)) leastOutput lifetime item))) fault
+    cond (isPoint b p) (settled b p (calledBy b p (ask (lend (tableOfPoint b p)) leastOutput lifetime item))) fault
 
 -- 5 announce, flags 0
 unfoldable pub announceSelf : Bench → ℕ → (lifetime : ℕ) → Done
 announceSelf b p lifetime =
-    cond (isPoint b p) (settled b p (calledBy b p (announce (lend (tableOf b p)) leastOutput 0 lifetime))) fault
+    cond (isPoint b p) (settled b p (calledBy b p (announce (lend (tableOfPoint b p)) leastOutput 0 lifetime))) fault
 
 -- 6 deliver frame k: from its sender, over the link between the two, whoever its receiver is
 unfoldable pub handedOver : Bench → (k p : ℕ) → Arrival → Done
-handedOver b k p arrival = settled b p (calledBy b p (receive (lend (tableOf b p)) leastOutput arrival (elementOf (b .slots) k)))
+handedOver b k p arrival =
+    settled b p (calledBy b p (receive (lend (tableOfPoint b p)) leastOutput arrival (elementOf (b .slots) k)))
 
 abbrev pub arrivalFrom : (tables : List ℕ) → List (List ℕ) → (clock sender p : ℕ) → Arrival
 arrivalFrom tables links clock sender p =
@@ -97,7 +98,7 @@ deliver b links k p =
 unfoldable pub breakOff : Bench → (p q : ℕ) → Done
 breakOff b p q =
     cond (isPoint b p && isPoint b q)
-    (settled b p (calledBy b p (breakNeighbour (lend (tableOf b p)) leastOutput (b .clock) (addressIn b q)))) fault
+    (settled b p (calledBy b p (breakNeighbour (lend (tableOfPoint b p)) leastOutput (b .clock) (addressOfPoint b q)))) fault
 
 -- 8 walk over the points, from one to another
 abbrev pub walkedLine : Bench → Walked → Done
@@ -107,5 +108,5 @@ unfoldable pub walkTo : Bench → (p q : ℕ) → Done
 walkTo b p q =
     cond (isPoint b p && isPoint b q)
     (walkedLine b
-    (walkedAtExit (walk (take (544 * b .points) (b .tables)) (b .points) (b .clock) (addressIn b p) (addressIn b q))))
+    (walkedAtExit (walk (take (544 * b .points) (b .tables)) (b .points) (b .clock) (addressOfPoint b p) (addressOfPoint b q))))
     fault

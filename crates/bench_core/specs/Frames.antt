@@ -1,9 +1,9 @@
 -- The frames that the bench keeps, with their senders: 128 slots of 264 octets, each the sender's number (1), the receiver
--- address (6) and an element (up to 257). Assumes nothing.
+-- address (6) and an element (up to 257).
 use Prim.Native.Nat.{ℕ, zero, suc, _+_, _-_, _*_, min}
 use mathlib.Core.List.{List, _∷_}
 use lib.ListN.{length, getD, take, drop}
-use Rattle.octets.specs.LittleEndian.{over}
+use Rattle.octets.specs.LittleEndian.{overwrite}
 
 -- ---- the frames of a call, one after another in its output
 
@@ -28,4 +28,4 @@ elementOf slots k = take (2 + getD slots (264 * k + 8) 0) (drop (264 * k + 7) sl
 unfoldable pub keep : (slots output : List ℕ) (sender k n at : ℕ) → List ℕ
 keep slots output sender k zero at = slots
 keep slots output sender k (suc n) at =
-    keep (over slots (264 * k) (sender ∷ frameAt output at)) output sender (k + 1) n (frameEnd output at)
+    keep (overwrite slots (264 * k) (sender ∷ frameAt output at)) output sender (k + 1) n (frameEnd output at)

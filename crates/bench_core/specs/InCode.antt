@@ -1,4 +1,4 @@
--- What the code holds of the bench, as the definitions have it. Assumes nothing.
+-- What the code holds of the bench, as the definitions have it.
 use Prim.Native.Nat.{ℕ, _+_, _≤_}
 use mathlib.Core.Path.{_≡_}
 use mathlib.Core.Bool.{cond}

@@ -1,4 +1,4 @@
--- A command by its octets. Assumes nothing.
+-- A command by its octets.
 use Prim.Native.Nat.{ℕ}
 use mathlib.Core.Bool.{_||_, cond}
 use mathlib.Core.List.{List, [], _∷_}

@@ -1,4 +1,4 @@
--- The link metric of every pair of 16 points; 0 is no link. Assumes nothing.
+-- The link metric of every pair of 16 points; 0 is no link.
 use Prim.Native.Nat.{ℕ}
 use mathlib.Core.List.{List, []}
 use lib.ListN.{getD, set}

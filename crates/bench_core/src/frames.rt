@@ -3,7 +3,7 @@ ghost use mathlib.Core.Path.{_≡_};
 ghost use mathlib.Core.List.{_∷_};
 ghost use Prim.Native.Nat.{_+_, _*_, _<_, _≤_};
 ghost use lib.ListN.{getD, length};
-ghost use Rattle.octets.specs.LittleEndian.{over};
+ghost use Rattle.octets.specs.LittleEndian.{overwrite};
 ghost use Rattle.bench_core.specs.Frames.{elementOf, frameEnd, keep, senderOf};
 
 pub const MOST_FRAMES: usize = 128;
@@ -49,7 +49,7 @@ fn keep_frame(slots: &mut [u8], k: usize, sender: u8, frame: &[u8])
     requires { ⌜ length (now slots) ≡ 33792 ⌝ }
     requires { ⌜ k < 128 ⌝ }
     requires { ⌜ length (now frame) ≤ 263 ⌝ }
-    ensures { λ _. ⌜ now (slots .exit) ≡ over (now (slots .entry)) (264 * k) (sender ∷ now (frame .entry)) ⌝ }
+    ensures { λ _. ⌜ now (slots .exit) ≡ overwrite (now (slots .entry)) (264 * k) (sender ∷ now (frame .entry)) ⌝ }
 {
     let at = SLOT * k;
     slots[at] = sender;

@@ -1,4 +1,4 @@
--- A command leaves at most 16 points and 128 frames, and a clock of at most 2^48 - 1; and one that prints a line was whole. Assumes nothing.
+-- A command leaves at most 16 points and 128 frames, and a clock of at most 2^48 - 1; and one that prints a line was whole.
 use Prim.Native.Nat.{ℕ, _+_, _<_, _≤_}
 use mathlib.Core.Path.{_≡_, refl, sym, ap, subst, _∙_}
 use mathlib.Core.Bool.{Bool, true, false, _&&_, _||_, cond}
@@ -13,7 +13,7 @@ use Rattle.counters.specs.declared.SequenceNumber.{SequenceNumber}
 use Rattle.table.specs.declared.address.Address.{Address}
 use Rattle.rules.specs.Decision.{Decision, refused, accepted}
 use Rattle.rules.specs.Fresh.{makeFresh}
-use Rattle.rules.specs.Outcome.{Exit, lend}
+use Rattle.rules.specs.Exit.{Exit, lend}
 use Rattle.rules.specs.Originate.{ask, announce}
 use Rattle.rules.specs.Receive.{receive}
 use Rattle.rules.specs.Break.{breakNeighbour}
@@ -23,7 +23,7 @@ use Rattle.bench_core.specs.declared.Printed.{Printed}
 use Rattle.bench_core.specs.declared.Done.{Done as DoneInCode}
 use Rattle.bench_core.specs.declared.Done.the-variants.{Line}
 use Rattle.bench_core.specs.Frames.{senderOf, elementOf}
-use Rattle.bench_core.specs.Bench.{Bench, Done, fault, line, tableOf, addressIn, calledBy, settled, WithLinks}
+use Rattle.bench_core.specs.Bench.{Bench, Done, fault, line, tableOfPoint, addressOfPoint, calledBy, settled, WithLinks}
 use Rattle.bench_core.specs.Commands.{added, addPoint, advance, link, askFor, announceSelf, handedOver, arrivalFrom, deliver, breakOff, walkTo}
 use Rattle.bench_core.specs.InCode.{benchOf, doneIn, Bounded, Memory}
 use Rattle.bench_core.specs.Interpreter.{lengthOf, leavingLinks, obeyed, command}
@@ -45,7 +45,7 @@ module _ (b : Bench) (h : Bounded (b .points) (b .frames) (b .clock)) where
   point-within : (own : Address) (number : SequenceNumber) → Within (addPoint b own number)
   unfolding addPoint
   point-within own number =
-      cond-cases Within (ltb (b .points) 16) (λ e. added-within (makeFresh (tableOf b (b .points)) own number) (ltb-true (b .points) 16 e)) (λ _. tt)
+      cond-cases Within (ltb (b .points) 16) (λ e. added-within (makeFresh (tableOfPoint b (b .points)) own number) (ltb-true (b .points) 16 e)) (λ _. tt)
 
   advance-within : (by : ℕ) → Within (advance b by)
   unfolding advance
@@ -59,25 +59,25 @@ module _ (b : Bench) (h : Bounded (b .points) (b .frames) (b .clock)) where
   ask-within : (p : ℕ) (item : List ℕ) (lifetime : ℕ) → Within (askFor b p item lifetime)
   unfolding askFor
   ask-within p item lifetime =
-      cond-cases Within (ltb p (b .points)) (λ _. settled-within p (calledBy b p (ask (lend (tableOf b p)) 1560 lifetime item))) (λ _. tt)
+      cond-cases Within (ltb p (b .points)) (λ _. settled-within p (calledBy b p (ask (lend (tableOfPoint b p)) 1560 lifetime item))) (λ _. tt)
 
   announce-within : (p lifetime : ℕ) → Within (announceSelf b p lifetime)
   unfolding announceSelf
   announce-within p lifetime =
-      cond-cases Within (ltb p (b .points)) (λ _. settled-within p (calledBy b p (announce (lend (tableOf b p)) 1560 0 lifetime))) (λ _. tt)
+      cond-cases Within (ltb p (b .points)) (λ _. settled-within p (calledBy b p (announce (lend (tableOfPoint b p)) 1560 0 lifetime))) (λ _. tt)
 
   deliver-within : (links : List (List ℕ)) (k p : ℕ) → Within (deliver b links k p)
   unfolding deliver handedOver
   deliver-within links k p =
       cond-cases Within (ltb k (b .frames) && ltb p (b .points) && ltb (senderOf (b .slots) k) (b .points))
-      (λ _. settled-within p (calledBy b p (receive (lend (tableOf b p)) 1560 (arrivalFrom (b .tables) links (b .clock) (senderOf (b .slots) k) p) (elementOf (b .slots) k))))
+      (λ _. settled-within p (calledBy b p (receive (lend (tableOfPoint b p)) 1560 (arrivalFrom (b .tables) links (b .clock) (senderOf (b .slots) k) p) (elementOf (b .slots) k))))
       (λ _. tt)
 
   break-within : (p q : ℕ) → Within (breakOff b p q)
   unfolding breakOff
   break-within p q =
       cond-cases Within (ltb p (b .points) && ltb q (b .points))
-      (λ _. settled-within p (calledBy b p (breakNeighbour (lend (tableOf b p)) 1560 (b .clock) (addressIn b q))))
+      (λ _. settled-within p (calledBy b p (breakNeighbour (lend (tableOfPoint b p)) 1560 (b .clock) (addressOfPoint b q))))
       (λ _. tt)
 
   walk-within : (p q : ℕ) → Within (walkTo b p q)

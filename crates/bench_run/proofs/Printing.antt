@@ -1,4 +1,4 @@
--- Room for what is printed, and for what is read. Assumes nothing.
+-- Room for what is printed, and for what is read.
 use Prim.Native.Nat.{ℕ, _+_, _-_, _^_, _<_, _≤_}
 use mathlib.Core.Path.{_≡_, refl}
 use mathlib.Core.Bool.{Bool, true, false}

@@ -1,4 +1,4 @@
--- How far a block may have come: for the code's own functions. Assumes nothing.
+-- How far a block may have come: for the code's own functions.
 use Prim.Native.Nat.{ℕ, _≤_}
 use Rattle.bench_core.specs.InCode.{Bounded}
 use Rattle.bench_run.specs.declared.block.Progress.{Progress}

@@ -1,4 +1,4 @@
--- Break: the rows that are lost, and what it leaves, as the code asks it. Assumes nothing.
+-- Break: the rows that are lost, and what it leaves, as the code asks it.
 use Prim.Native.Nat.{ℕ, zero, suc, _+_, _-_, _<_, _≤_}
 use mathlib.Core.Path.{_≡_, refl, sym, ap, ap₂, _∙_}
 use mathlib.Core.Bool.{Bool, true, false, not, cond}
@@ -8,8 +8,8 @@ use native.Mathlib.Nat.{zero-add, add-zero, sub-zero, le-refl}
 use native.Mathlib.Numerals.{add-one}
 use native.Mathlib.Omega.{arith}
 use borrow.Author.Tests.{eq-eqb, ne-eqb, not-true, not-false}
-use Rattle.octets.specs.LittleEndian.{over}
-use Rattle.octets.proofs.OctetLists.{over-append}
+use Rattle.octets.specs.LittleEndian.{overwrite}
+use Rattle.octets.proofs.OctetLists.{overwrite-append}
 use Rattle.table.specs.declared.address.Address.{Address}
 use Rattle.table.specs.declared.row.Head.{Head}
 use Rattle.table.specs.declared.row.Row.{Row}
@@ -24,7 +24,7 @@ use Rattle.element.specs.declared.LostDestination.{LostDestination}
 use Rattle.element.specs.Entries.{each}
 use Rattle.element.proofs.Scans.{each-length, each-next, each-end}
 use Rattle.rules.specs.Errors.{broken, brokenEntry, brokenEntries, errorsTaken, errorsFor}
-use Rattle.rules.specs.Outcome.{lend, Exit, frameOctets, atExit}
+use Rattle.rules.specs.Exit.{lend, Exit, frameOctets, atExit}
 use Rattle.rules.specs.Break.{brokenOff, breaking, breakNeighbour}
 use Rattle.rules.specs.Decision.{accepted}
 use Rattle.rules.proofs.Room.{entry-one, entries-few}
@@ -32,7 +32,7 @@ use Rattle.calls.specs.declared.Outcome.{Outcome}
 use Rattle.calls.specs.declared.Answer.{Answer}
 use Rattle.calls.specs.declared.Answer.the-variants.{Accepted, Refused}
 use Rattle.calls.specs.declared.Emitted.{Emitted}
-use Rattle.calls.specs.Answers.{answerTo, exits}
+use Rattle.calls.specs.Answers.{answerTo, exitOf}
 use Rattle.breaking.specs.Reports.{octetsFor, begunAfter, filledBy, reportedAfter, reportedFrom, closed}
 use Rattle.breaking.specs.declared.errors.Reported.{Reported}
 use Rattle.breaking.proofs.Reported.{same-reported, begun-append, begun-length, closes, errors-many, errors-long}
@@ -73,8 +73,8 @@ module _ (test : Row → Bool) (t : List ℕ) (i : ℕ) (r : Row) (re : r ≡ ro
         rw none-lost (same-reported before _ (sym (add-zero (before .lost))) (sym (add-zero (before .place)))
         (fe ∙ ap filledBy (sym (add-zero (before .lost)))))
 
-    pub none-added : (k at : ℕ) (s : List ℕ) → s ≡ over s at (begunAfter k (brokenEntry test (rowAt t i)))
-    unfolding begunAfter over
+    pub none-added : (k at : ℕ) (s : List ℕ) → s ≡ overwrite s at (begunAfter k (brokenEntry test (rowAt t i)))
+    unfolding begunAfter overwrite
     none-added k at s = rw none-lost
 
   module _ (falls : not b ≡ false) (fallen : Row) (fe : fallen ≡ broken r) where
@@ -90,9 +90,9 @@ module _ (test : Row → Bool) (t : List ℕ) (i : ℕ) (r : Row) (re : r ≡ ro
         → after ≡ reportedAfter before (brokenEntry test (rowAt t i))
     one-reported before after e = e ∙ ap (reportedAfter before) (sym one-lost)
 
-    pub one-added : (k at : ℕ) (s v : List ℕ) → v ≡ over s at (begunAfter k (record { address = r .destination; number = fallen .number } ∷ []))
-        → v ≡ over s at (begunAfter k (brokenEntry test (rowAt t i)))
-    one-added k at s v ve = ve ∙ ap (λ (l : List LostDestination). over s at (begunAfter k l)) (sym one-lost)
+    pub one-added : (k at : ℕ) (s v : List ℕ) → v ≡ overwrite s at (begunAfter k (record { address = r .destination; number = fallen .number } ∷ []))
+        → v ≡ overwrite s at (begunAfter k (brokenEntry test (rowAt t i)))
+    one-added k at s v ve = ve ∙ ap (λ (l : List LostDestination). overwrite s at (begunAfter k l)) (sym one-lost)
 
 -- ---- the report, one row after another
 
@@ -112,7 +112,7 @@ module _ (test : Row → Bool) (t : List ℕ) (n : ℕ) (out₀ : List ℕ) (at 
     pub placed : so-far .place ≡ at + octetsFor (so-far .lost)
     pub filled : so-far .full ≡ filledBy (so-far .lost)
     pub counted : so-far .lost + length (lostFrom test t n i) ≡ length (allLost test t n)
-    pub written : over out (so-far .place) (begunAfter (so-far .lost) (lostFrom test t n i)) ≡ over out₀ at (begunAfter 0 (allLost test t n))
+    pub written : overwrite out (so-far .place) (begunAfter (so-far .lost) (lostFrom test t n i)) ≡ overwrite out₀ at (begunAfter 0 (allLost test t n))
 
   pub reporting-start : Reporting 0 (record { lost = 0; place = at; full = 0 }) out₀
   reporting-start =
@@ -142,7 +142,7 @@ module _ (test : Row → Bool) (t : List ℕ) (n : ℕ) (out₀ : List ℕ) (at 
       reporting-room many room same-length = omega (arith, stands .few, stands .placed)
 
       pub reporting-more : (next : Reported) → next ≡ reportedAfter so-far (brokenEntry test (rowAt t i))
-          → (out′ : List ℕ) → out′ ≡ over out (so-far .place) (begunAfter (so-far .lost) (brokenEntry test (rowAt t i)))
+          → (out′ : List ℕ) → out′ ≡ overwrite out (so-far .place) (begunAfter (so-far .lost) (brokenEntry test (rowAt t i)))
           → Reporting (i + 1) next out′
       unfolding flatMap reportedAfter
       reporting-more next ne out′ oe =
@@ -160,11 +160,11 @@ module _ (test : Row → Bool) (t : List ℕ) (n : ℕ) (out₀ : List ℕ) (at 
             filled = ap (λ (r : Reported). r .full) ne ∙ ap filledBy (sym le);
             counted = omega (arith, stands .counted, le, ap length left, length-append entry rest);
             written =
-                ap₂ (λ (u : List ℕ) (p : ℕ). over u p (begunAfter (next .lost) rest)) oe pe
-                ∙ sym (over-append out from (begunAfter lost entry) (begunAfter (next .lost) rest))
-                ∙ ap (λ (k : ℕ). over out from (begunAfter lost entry ++ begunAfter k rest)) le
-                ∙ ap (over out from) (sym (begun-append lost entry rest))
-                ∙ ap (λ (m : List LostDestination). over out from (begunAfter lost m)) (sym left)
+                ap₂ (λ (u : List ℕ) (p : ℕ). overwrite u p (begunAfter (next .lost) rest)) oe pe
+                ∙ sym (overwrite-append out from (begunAfter lost entry) (begunAfter (next .lost) rest))
+                ∙ ap (λ (k : ℕ). overwrite out from (begunAfter lost entry ++ begunAfter k rest)) le
+                ∙ ap (overwrite out from) (sym (begun-append lost entry rest))
+                ∙ ap (λ (m : List LostDestination). overwrite out from (begunAfter lost m)) (sym left)
                 ∙ stands .written;
           }
 
@@ -178,10 +178,10 @@ module _ (test : Row → Bool) (t : List ℕ) (n : ℕ) (out₀ : List ℕ) (at 
           let le : so-far .lost ≡ length (allLost test t n) = omega (arith, stands .counted, ap length none-left) in
           same-reported so-far _ le (stands .placed ∙ ap (λ (k : ℕ). at + octetsFor k) le) (stands .filled ∙ ap filledBy le)
 
-      pub all-written : out ≡ over out₀ at (begunAfter 0 (allLost test t n))
-      unfolding over begunAfter
+      pub all-written : out ≡ overwrite out₀ at (begunAfter 0 (allLost test t n))
+      unfolding overwrite begunAfter
       all-written =
-          sym (ap (λ (m : List LostDestination). over out (so-far .place) (begunAfter (so-far .lost) m)) none-left) ∙ stands .written
+          sym (ap (λ (m : List LostDestination). overwrite out (so-far .place) (begunAfter (so-far .lost) m)) none-left) ∙ stands .written
 
 -- ---- all rows, and the errors closed
 
@@ -205,13 +205,13 @@ module _ (test : Row → Bool) (t : List ℕ) (n : ℕ) (ne : n ≡ rows t) (at 
   pub lost-counted : r ≡ reportedFrom at (brokenEntries test t)
   lost-counted = e ∙ ap (reportedFrom at) lost-are
 
-  pub errors-closed : Sized t → (output w v : List ℕ) → w ≡ over output at (begunAfter 0 (allLost test t n)) → v ≡ closed w at (r .lost)
-      → v ≡ over output at (frameOctets (errorsFor (brokenEntries test t)))
+  pub errors-closed : Sized t → (output w v : List ℕ) → w ≡ overwrite output at (begunAfter 0 (allLost test t n)) → v ≡ closed w at (r .lost)
+      → v ≡ overwrite output at (frameOctets (errorsFor (brokenEntries test t)))
   errors-closed l output w v we ve =
       let all : List LostDestination = allLost test t n in
       ve ∙ ap₂ (λ (x : List ℕ) (k : ℕ). closed x at k) we le
       ∙ closes 6 all (omega (arith, le, lost-few l)) output at
-      ∙ ap (λ (m : List LostDestination). over output at (frameOctets (errorsFor m))) lost-are
+      ∙ ap (λ (m : List LostDestination). overwrite output at (frameOctets (errorsFor m))) lost-are
 
 -- ---- no row is lost, and no row changes
 
@@ -257,9 +257,9 @@ module _ (entries : List LostDestination) (r : Reported) (e : r ≡ reportedFrom
 
 pub broken-exit : (t output w u v : List ℕ) (c : ℕ) (test : Row → Bool) (h : Head) → h ≡ headAt t
     → (r : Reported) → r ≡ reportedFrom 0 (brokenEntries test t) → r .lost ≤ mostRows
-    → w ≡ changeWhere test broken t → v ≡ over output 0 (frameOctets (errorsFor (brokenEntries test t)))
+    → w ≡ changeWhere test broken t → v ≡ overwrite output 0 (frameOctets (errorsFor (brokenEntries test t)))
     → u ≡ putHead w (headWith (h .number) (h .request) c h) → (e : Emitted) → e ≡ record { frames = errorsTaken (r .lost); octets = octetsFor (r .lost) }
-    → exits (Outcome.Accepted e) (lend u) v ≡ atExit (lend t) output (accepted (brokenOff (lend t) c test))
+    → exitOf (Outcome.Accepted e) (lend u) v ≡ atExit (lend t) output (accepted (brokenOff (lend t) c test))
 unfolding brokenOff
 broken-exit t output w u v c test h he r re few we ve ue e ee =
     let entries : List LostDestination = brokenEntries test t in
@@ -283,7 +283,7 @@ module _ (t output : List ℕ) (c : ℕ) (neighbour : Address) (a : Answer) (ae 
     unfolding listed
     break-output-long = output-long t output _ a ae ok
 
-  pub break-refused : (n : ℕ) → a ≡ Refused n → exits (Outcome.Refused n) (lend t) output ≡ atExit (lend t) output (breakNeighbour (lend t) (length output) c neighbour)
+  pub break-refused : (n : ℕ) → a ≡ Refused n → exitOf (Outcome.Refused n) (lend t) output ≡ atExit (lend t) output (breakNeighbour (lend t) (length output) c neighbour)
   unfolding breakNeighbour
   break-refused = refusal (lend t) output (breaking (lend t) (length output) c neighbour) a ae
 

@@ -1,5 +1,4 @@
 -- The errors of a break: written one destination after another, and closed, they are the frames that the rules say.
--- Assumes nothing.
 use Prim.Native.Nat.{ℕ, zero, suc, _+_, _-_, _*_, _/_, _%_, _<_, _≤_}
 use mathlib.Core.Path.{_≡_, refl, sym, ap, ap₂, _∙_}
 use mathlib.Core.Bool.{Bool, true, false, cond}
@@ -10,8 +9,8 @@ use lib.Seq.{take-all, drop-drop}
 use native.Mathlib.Omega.{arith}
 use native.Mathlib.Nat.{zero-add, add-zero}
 use borrow.Author.Tests.{eqb-true, eqb-false, eq-eqb, ne-eqb, ltb-true, ltb-false}
-use Rattle.octets.specs.LittleEndian.{over}
-use Rattle.octets.proofs.OctetLists.{over-append, over-again}
+use Rattle.octets.specs.LittleEndian.{overwrite}
+use Rattle.octets.proofs.OctetLists.{overwrite-append, overwrite-again}
 use Rattle.element.specs.declared.Kind.the-variants.{Rerr}
 use Rattle.element.specs.declared.LostDestination.{LostDestination}
 use Rattle.element.specs.Element.{rerr, rerrNumbers}
@@ -22,7 +21,7 @@ use Rattle.element.proofs.Sizes.{start-length}
 use Rattle.element.proofs.Scans.{each-length}
 use Rattle.element.proofs.ListParts.{losses-length}
 use Rattle.element.proofs.Written.{frame-parts, lost-length}
-use Rattle.rules.specs.Outcome.{Frame, frameOctets}
+use Rattle.rules.specs.Exit.{Frame, frameOctets}
 use Rattle.rules.specs.Errors.{ownError, errorAt, errorsTaken, errorsFor}
 use Rattle.breaking.specs.Reports.{octetsFor, errorStart, begunBefore, begunAfter, filledBy, begunFor, reportedAfter, closed}
 use Rattle.breaking.specs.declared.errors.Reported.{Reported}
@@ -33,7 +32,7 @@ start-long : (n : ℕ) → length (errorStart n) ≡ 10
 unfolding errorStart
 start-long n = start-length allOnes (rerr ownError []) n
 
-pub begin-writes : (s t : List ℕ) (at n : ℕ) → t ≡ over s at (frameStart allOnes Rerr n (rerrNumbers ownError)) → t ≡ over s at (errorStart n)
+pub begin-writes : (s t : List ℕ) (at n : ℕ) → t ≡ overwrite s at (frameStart allOnes Rerr n (rerrNumbers ownError)) → t ≡ overwrite s at (errorStart n)
 unfolding errorStart
 begin-writes s t at n e = e
 
@@ -72,8 +71,8 @@ module _ (b : Reported) (fe : b .full ≡ filledBy (b .lost)) where
         let rest = inside in
         same-reported b _ refl (omega arith) (omega arith)
 
-    pub next-same : (s : List ℕ) (at : ℕ) → s ≡ over s at (begunBefore (b .lost))
-    unfolding over
+    pub next-same : (s : List ℕ) (at : ℕ) → s ≡ overwrite s at (begunBefore (b .lost))
+    unfolding overwrite
     next-same s at = rw (before-none (b .lost) inside)
 
   module _ (same : b .lost ≡ b .full) where
@@ -86,7 +85,7 @@ module _ (b : Reported) (fe : b .full ≡ filledBy (b .lost)) where
         let ten : length (begunBefore (b .lost)) ≡ 10 = ap length (before-one (b .lost) filled) ∙ start-long 25 in
         same-reported _ _ refl (omega arith) (omega arith)
 
-    pub next-starts : (s t : List ℕ) (at : ℕ) → t ≡ over s at (errorStart 25) → t ≡ over s at (begunBefore (b .lost))
+    pub next-starts : (s t : List ℕ) (at : ℕ) → t ≡ overwrite s at (errorStart 25) → t ≡ overwrite s at (begunBefore (b .lost))
     next-starts s t at te = rw (before-one (b .lost) filled) te
 
   -- the last RERR has its count or gets it
@@ -96,14 +95,14 @@ module _ (b : Reported) (fe : b .full ≡ filledBy (b .lost)) where
     close-none same = rw (eq-eqb (b .lost % 25) 0 (filled same))
 
     pub close-last : b .place ≡ at + octetsFor (b .lost) → (b .lost ≡ b .full → ⊥) → (t : List ℕ)
-        → t ≡ over s (b .place - (10 + 10 * (b .lost + 25 - b .full))) (errorStart (b .lost + 25 - b .full)) → t ≡ closed s at (b .lost)
+        → t ≡ overwrite s (b .place - (10 + 10 * (b .lost + 25 - b .full))) (errorStart (b .lost + 25 - b .full)) → t ≡ closed s at (b .lost)
     unfolding closed
     close-last pe apart t te =
         let k : ℕ = b .lost in
         let rest = inside apart in
         let count : k + 25 - b .full ≡ k % 25 = omega arith in
         let start : b .place - (10 + 10 * (k + 25 - b .full)) ≡ at + 260 * (k / 25) = omega arith in
-        rw (ne-eqb (k % 25) 0 (inside apart)) (te ∙ ap₂ (λ (p n : ℕ). over s p (errorStart n)) start count)
+        rw (ne-eqb (k % 25) 0 (inside apart)) (te ∙ ap₂ (λ (p n : ℕ). overwrite s p (errorStart n)) start count)
 
 -- ---- destinations one after another
 
@@ -151,13 +150,13 @@ module _ (b g : Reported) (ge : g ≡ begunFor b) where
       same-reported _ _ refl (omega (arith, before-long (b .lost), begun-place, begun-length (b .lost) (x ∷ [])))
       (ap (λ (r : Reported). r .full) ge)
 
-  pub entry-added : (s t u : List ℕ) (x : LostDestination) → t ≡ over s (b .place) (begunBefore (b .lost)) → u ≡ over t (g .place) (lostOctets x)
-      → u ≡ over s (b .place) (begunAfter (b .lost) (x ∷ []))
+  pub entry-added : (s t u : List ℕ) (x : LostDestination) → t ≡ overwrite s (b .place) (begunBefore (b .lost)) → u ≡ overwrite t (g .place) (lostOctets x)
+      → u ≡ overwrite s (b .place) (begunAfter (b .lost) (x ∷ []))
   unfolding begunAfter
   entry-added s t u x te ue =
-      ue ∙ ap₂ (λ (l : List ℕ) (n : ℕ). over l n (lostOctets x)) te begun-place
-      ∙ sym (over-append s (b .place) (begunBefore (b .lost)) (lostOctets x))
-      ∙ ap (λ (l : List ℕ). over s (b .place) (begunBefore (b .lost) ++ l)) (sym (append-nil (lostOctets x)))
+      ue ∙ ap₂ (λ (l : List ℕ) (n : ℕ). overwrite l n (lostOctets x)) te begun-place
+      ∙ sym (overwrite-append s (b .place) (begunBefore (b .lost)) (lostOctets x))
+      ∙ ap (λ (l : List ℕ). overwrite s (b .place) (begunBefore (b .lost) ++ l)) (sym (append-nil (lostOctets x)))
 
 -- after 25 more it goes on as before
 begun-shift : (k : ℕ) (l : List LostDestination) → begunAfter (k + 25) l ≡ begunAfter k l
@@ -263,7 +262,7 @@ errors-long =
 -- ---- closed, they are those frames
 
 abbrev Closes : List LostDestination → Type 0
-Closes entries = (s : List ℕ) (at : ℕ) → closed (over s at (begunAfter 0 entries)) at (length entries) ≡ over s at (frameOctets (errorsFor entries))
+Closes entries = (s : List ℕ) (at : ℕ) → closed (overwrite s at (begunAfter 0 entries)) at (length entries) ≡ overwrite s at (frameOctets (errorsFor entries))
 
 -- in a RERR that is not full the count is set
 closes-last : (entries : List LostDestination) → 1 ≤ length entries → length entries < 25 → Closes entries
@@ -275,12 +274,12 @@ closes-last entries one few s at =
     let whole : take 25 entries ≡ entries = take-all 25 entries (omega arith) in
     let few-at-most : length entries ≤ 25 = omega arith in
     let none : drop 25 entries ≡ [] = drop-of-length-le entries few-at-most in
-    let begun : List ℕ = over s at (begunAfter 0 entries) in
-    ap (λ (b : Bool). cond b begun (over begun (at + 260 * (n / 25)) (errorStart (n % 25)))) (ne-eqb (n % 25) 0 (λ e. omega arith))
-    ∙ ap₂ (λ (p k : ℕ). over begun p (errorStart k)) place count
-    ∙ ap (λ (l : List ℕ). over (over s at l) at (errorStart n)) (begun-first entries one (omega arith))
-    ∙ over-again s at (errorStart 25) (errorStart n) (flatMap lostOctets entries) (start-long 25 ∙ sym (start-long n))
-    ∙ ap (over s at) (sym (errors-octets entries one
+    let begun : List ℕ = overwrite s at (begunAfter 0 entries) in
+    ap (λ (b : Bool). cond b begun (overwrite begun (at + 260 * (n / 25)) (errorStart (n % 25)))) (ne-eqb (n % 25) 0 (λ e. omega arith))
+    ∙ ap₂ (λ (p k : ℕ). overwrite begun p (errorStart k)) place count
+    ∙ ap (λ (l : List ℕ). overwrite (overwrite s at l) at (errorStart n)) (begun-first entries one (omega arith))
+    ∙ overwrite-again s at (errorStart 25) (errorStart n) (flatMap lostOctets entries) (start-long 25 ∙ sym (start-long n))
+    ∙ ap (overwrite s at) (sym (errors-octets entries one
     ∙ ap₂ (λ (l r : List LostDestination). (errorStart (length l) ++ flatMap lostOctets l) ++ frameOctets (errorsFor r)) whole none
     ∙ ap (λ (frames : List Frame). (errorStart n ++ flatMap lostOctets entries) ++ frameOctets frames) errors-none
     ∙ append-nil (errorStart n ++ flatMap lostOctets entries)))
@@ -290,7 +289,7 @@ unfolding closed
 closed-later s at k j e =
     let count : k % 25 ≡ j % 25 = omega arith in
     let place : at + 260 * (k / 25) ≡ at + 260 + 260 * (j / 25) = omega arith in
-    ap₂ (λ (r p : ℕ). cond (eqb r 0) s (over s p (errorStart r))) count place
+    ap₂ (λ (r p : ℕ). cond (eqb r 0) s (overwrite s p (errorStart r))) count place
 
 -- a full one stands as it was begun
 closes-full : (entries : List LostDestination) → 25 ≤ length entries → Closes (drop 25 entries) → Closes entries
@@ -304,20 +303,20 @@ closes-full entries many rest-closes s at =
     let begun : begunAfter 0 entries ≡ full ++ begunAfter 0 rest =
     ap (begunAfter 0) (sym (take-append-drop 25 entries)) ∙ begun-append 0 first rest
     ∙ ap₂ _++_ (begun-first first (omega arith) (omega arith)) (ap (λ (k : ℕ). begunAfter k rest) after ∙ begun-shift 0 rest) in
-    let written : over s at (begunAfter 0 entries) ≡ over (over s at full) (at + 260) (begunAfter 0 rest) =
-    ap (over s at) begun ∙ over-append s at full (begunAfter 0 rest) ∙ ap (λ (k : ℕ). over (over s at full) (at + k) (begunAfter 0 rest)) size in
+    let written : overwrite s at (begunAfter 0 entries) ≡ overwrite (overwrite s at full) (at + 260) (begunAfter 0 rest) =
+    ap (overwrite s at) begun ∙ overwrite-append s at full (begunAfter 0 rest) ∙ ap (λ (k : ℕ). overwrite (overwrite s at full) (at + k) (begunAfter 0 rest)) size in
     ap (λ (l : List ℕ). closed l at (length entries)) written
-    ∙ closed-later (over (over s at full) (at + 260) (begunAfter 0 rest)) at (length entries) (length rest) (omega (arith, length-drop 25 entries))
-    ∙ rest-closes (over s at full) (at + 260)
-    ∙ ap (λ (k : ℕ). over (over s at full) (at + k) (frameOctets (errorsFor rest))) (sym size)
-    ∙ sym (over-append s at full (frameOctets (errorsFor rest)))
-    ∙ ap (over s at) (sym (errors-octets entries (omega arith)
+    ∙ closed-later (overwrite (overwrite s at full) (at + 260) (begunAfter 0 rest)) at (length entries) (length rest) (omega (arith, length-drop 25 entries))
+    ∙ rest-closes (overwrite s at full) (at + 260)
+    ∙ ap (λ (k : ℕ). overwrite (overwrite s at full) (at + k) (frameOctets (errorsFor rest))) (sym size)
+    ∙ sym (overwrite-append s at full (frameOctets (errorsFor rest)))
+    ∙ ap (overwrite s at) (sym (errors-octets entries (omega arith)
     ∙ ap (λ (k : ℕ). (errorStart k ++ flatMap lostOctets first) ++ frameOctets (errorsFor rest)) long))
 
 pub closes : (n : ℕ) (entries : List LostDestination) → length entries ≤ 25 * n → (s : List ℕ) (at : ℕ)
-    → closed (over s at (begunAfter 0 entries)) at (length entries) ≡ over s at (frameOctets (errorsFor entries))
+    → closed (overwrite s at (begunAfter 0 entries)) at (length entries) ≡ overwrite s at (frameOctets (errorsFor entries))
 unfolding closed begunAfter frameOctets flatMap
-closes = by-25 Closes (λ s at. ap (λ (frames : List Frame). over s at (frameOctets frames)) (sym errors-none)) more
+closes = by-25 Closes (λ s at. ap (λ (frames : List Frame). overwrite s at (frameOctets frames)) (sym errors-none)) more
   where
     more : (l : List LostDestination) → 1 ≤ length l → Closes (drop 25 l) → Closes l
     more l one rest-closes = by (ltb (length l) 25) refl

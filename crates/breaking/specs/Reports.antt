@@ -1,11 +1,11 @@
 -- The errors of a break while they are written: each RERR is begun as one of 25, and the last gets its count in the end. For
--- the code's own functions, no part of what a call is. Assumes nothing.
+-- the code's own functions, no part of what a call is.
 use Prim.Native.Nat.{ℕ, suc, _+_, _*_, _/_, _%_}
 use mathlib.Core.Bool.{cond}
 use mathlib.Core.List.{List, [], _∷_, _++_}
 use lib.Dec.{eqb}
 use lib.ListN.{length}
-use Rattle.octets.specs.LittleEndian.{over}
+use Rattle.octets.specs.LittleEndian.{overwrite}
 use Rattle.element.specs.declared.Kind.the-variants.{Rerr}
 use Rattle.element.specs.declared.LostDestination.{LostDestination}
 use Rattle.element.specs.declared.list.ListKind.the-variants.{LostDestinations}
@@ -67,4 +67,4 @@ reportedFrom at entries =
 -- the output s, in which the errors for k destinations stand from place at on, with the count of the last
 unfoldable pub closed : List ℕ → ℕ → ℕ → List ℕ
 closed s at k =
-    cond (eqb (k % most Rerr) 0) s (over s (at + octetsFor (most Rerr) * (k / most Rerr)) (errorStart (k % most Rerr)))
+    cond (eqb (k % most Rerr) 0) s (overwrite s (at + octetsFor (most Rerr) * (k / most Rerr)) (errorStart (k % most Rerr)))

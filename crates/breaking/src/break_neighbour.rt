@@ -12,10 +12,11 @@ ghost use Prim.Native.Nat.{_≤_};
 ghost use lib.ListN.{length};
 ghost use Rattle.table.specs.Layout.{Sized};
 ghost use Rattle.table.specs.Row.{isThrough};
-ghost use Rattle.rules.specs.Break.{breakNeighbour, breaking, brokenOff};
+ghost use Rattle.rules.specs.Break.{breaking, brokenOff};
 ghost use Rattle.rules.specs.Decision.{accepted};
-ghost use Rattle.rules.specs.Outcome.{atExit, lend, leastOutput};
-ghost use Rattle.calls.specs.Answers.{answerTo, exits};
+ghost use Rattle.rules.specs.Exit.{atExit, lend, leastOutput};
+ghost use Rattle.rules.specs.Exits.{breakExit};
+ghost use Rattle.calls.specs.Answers.{answerTo, exitOf};
 
 fn check(table: &[u8], output: &[u8], clock: u64, neighbour: Address) -> Answer
     ensures { λ r. ⌜ r ≡ answerTo
@@ -31,7 +32,7 @@ fn check(table: &[u8], output: &[u8], clock: u64, neighbour: Address) -> Answer
 fn break_off(table: &mut [u8], output: &mut [u8], clock: u64, neighbour: Address) -> Outcome
     requires { ⌜ Sized (now table) ⌝ }
     requires { ⌜ leastOutput ≤ length (now output) ⌝ }
-    ensures { λ r. ⌜ exits r (lend (now (table .exit))) (now (output .exit))
+    ensures { λ r. ⌜ exitOf r (lend (now (table .exit))) (now (output .exit))
         ≡ atExit (lend (now (table .entry))) (now (output .entry))
         (accepted (brokenOff (lend (now (table .entry))) clock (isThrough clock neighbour))) ⌝ }
 {
@@ -48,9 +49,8 @@ pub fn break_neighbour(
     clock: u64,
     neighbour: Address,
 ) -> Outcome
-    ensures { λ r. ⌜ exits r (lend (now (table .exit))) (now (output .exit))
-        ≡ atExit (lend (now (table .entry))) (now (output .entry))
-        (breakNeighbour (lend (now (table .entry))) (length (now (output .entry))) clock neighbour) ⌝ }
+    ensures { λ r. ⌜ exitOf r (lend (now (table .exit))) (now (output .exit))
+        ≡ breakExit (lend (now (table .entry))) (now (output .entry)) clock neighbour ⌝ }
 {
     match check(table, output, clock, neighbour) {
         Answer::Accepted => break_off(table, output, clock, neighbour),

@@ -11,7 +11,7 @@ ghost use mathlib.Core.Path.{_≡_};
 ghost use mathlib.Core.List.{[], _∷_};
 ghost use Prim.Native.Nat.{_+_, _≤_};
 ghost use lib.ListN.{length};
-ghost use Rattle.octets.specs.LittleEndian.{over};
+ghost use Rattle.octets.specs.LittleEndian.{overwrite};
 ghost use Rattle.table.specs.Layout.{mostRows};
 ghost use Rattle.rules.specs.Errors.{errorsTaken};
 ghost use Rattle.breaking.specs.Reports.{begunAfter, begunBefore, begunFor, closed, errorStart};
@@ -51,7 +51,7 @@ fn begin(out: &mut [u8], at: usize, n: usize) -> usize
     requires { ⌜ n ≤ 25 ⌝ }
     requires { ⌜ at + 10 ≤ length (now out) ⌝ }
     ensures { λ r. ⌜ r ≡ at + 10 ⌝ }
-    ensures { λ _. ⌜ now (out .exit) ≡ over (now (out .entry)) at (errorStart n) ⌝ }
+    ensures { λ _. ⌜ now (out .exit) ≡ overwrite (now (out .entry)) at (errorStart n) ⌝ }
 {
     let fields = RerrFields { flags: 0 };
     write::start_rerr(out, at, Address(list::ALL_ONES), fields, n)
@@ -63,7 +63,7 @@ fn begin_if_full(out: &mut [u8], before: Reported) -> Reported
     requires { ⌜ before .full ≡ filledBy (before .lost) ⌝ }
     requires { ⌜ before .place + octetsFor (before .lost + 1) ≤ length (now out) + octetsFor (before .lost) ⌝ }
     ensures { λ r. ⌜ r ≡ begunFor before ⌝ }
-    ensures { λ _. ⌜ now (out .exit) ≡ over (now (out .entry)) (before .place) (begunBefore (before .lost)) ⌝ }
+    ensures { λ _. ⌜ now (out .exit) ≡ overwrite (now (out .entry)) (before .place) (begunBefore (before .lost)) ⌝ }
 {
     if before.lost != before.full {
         return before;
@@ -80,7 +80,7 @@ pub fn add(out: &mut [u8], before: Reported, entry: LostDestination) -> Reported
     requires { ⌜ before .full ≡ filledBy (before .lost) ⌝ }
     requires { ⌜ before .place + octetsFor (before .lost + 1) ≤ length (now out) + octetsFor (before .lost) ⌝ }
     ensures { λ r. ⌜ r ≡ reportedAfter before (entry ∷ []) ⌝ }
-    ensures { λ _. ⌜ now (out .exit) ≡ over (now (out .entry)) (before .place) (begunAfter (before .lost) (entry ∷ [])) ⌝ }
+    ensures { λ _. ⌜ now (out .exit) ≡ overwrite (now (out .entry)) (before .place) (begunAfter (before .lost) (entry ∷ [])) ⌝ }
 {
     let begun = begin_if_full(out, before);
     let place = write::write_lost(out, begun.place, entry);

@@ -10,12 +10,12 @@ ghost use mathlib.Core.Path.{_≡_};
 ghost use mathlib.Core.List.{flatMap};
 ghost use Prim.Native.Nat.{_+_, _≤_};
 ghost use lib.ListN.{length};
-ghost use Rattle.octets.specs.LittleEndian.{over};
+ghost use Rattle.octets.specs.LittleEndian.{overwrite};
 ghost use Rattle.table.specs.Layout.{mostRows, place, rowAt, rowOctets, Sized};
 ghost use Rattle.table.specs.Row.{isThrough};
 ghost use Rattle.element.specs.Entries.{each};
 ghost use Rattle.rules.specs.Errors.{brokenEntries, brokenEntry, errorsFor};
-ghost use Rattle.rules.specs.Outcome.{frameOctets};
+ghost use Rattle.rules.specs.Exit.{frameOctets};
 ghost use Rattle.breaking.specs.Reports.{begunAfter, filledBy, octetsFor, reportedAfter, reportedFrom};
 
 // Adds the destination of row i to those reported before it, if the row leads through the neighbour.
@@ -33,7 +33,7 @@ fn report_row(
     requires { ⌜ before .place + octetsFor (before .lost + 1) ≤ length (now output) + octetsFor (before .lost) ⌝ }
     ensures { λ r. ⌜ r ≡ reportedAfter before (brokenEntry (isThrough clock neighbour) (rowAt (now (table .entry)) i)) ⌝ }
     ensures { λ _. ⌜ now (output .exit)
-        ≡ over (now (output .entry)) (before .place)
+        ≡ overwrite (now (output .entry)) (before .place)
         (begunAfter (before .lost) (brokenEntry (isThrough clock neighbour) (rowAt (now (table .entry)) i))) ⌝ }
 {
     let r = row::read_row(table, i);
@@ -60,7 +60,7 @@ fn report_rows(
     ensures { λ r. ⌜ r
         ≡ reportedFrom at (flatMap (brokenEntry (isThrough clock neighbour)) (each (rowAt (now (table .entry))) 0 n)) ⌝ }
     ensures { λ _. ⌜ now (output .exit)
-        ≡ over (now (output .entry)) at
+        ≡ overwrite (now (output .entry)) at
         (begunAfter 0 (flatMap (brokenEntry (isThrough clock neighbour)) (each (rowAt (now (table .entry))) 0 n))) ⌝ }
 {
     let mut reported = Reported {
@@ -90,7 +90,7 @@ pub fn report(
     ensures { λ r. ⌜ r ≡ reportedFrom at (brokenEntries (isThrough clock neighbour) (now (table .entry))) ⌝ }
     ensures { λ r. ⌜ r .lost ≤ mostRows ⌝ }
     ensures { λ _. ⌜ now (output .exit)
-        ≡ over (now (output .entry)) at
+        ≡ overwrite (now (output .entry)) at
         (frameOctets (errorsFor (brokenEntries (isThrough clock neighbour) (now (table .entry))))) ⌝ }
 {
     let n = search::rows_of(table);

@@ -1,5 +1,4 @@
 -- A list of checks gone through one by one, as the `return` of a check asks it; and what its answer says of the call.
--- Assumes nothing.
 use Prim.Native.Nat.{ℕ, _≤_}
 use mathlib.Core.Path.{_≡_, refl, sym, ap, ap₂, _∙_}
 use mathlib.Core.Bool.{Bool, true, false, not, _||_, cond}
@@ -7,18 +6,18 @@ use mathlib.Core.List.{List, [], _∷_, _++_, append-nil}
 use lib.ListN.{length}
 use native.Mathlib.Omega.{arith}
 use borrow.Author.Tests.{eq-eqb, ne-eqb, lt-ltb, le-ltb, ltb-false, not-false}
-use Rattle.octets.specs.LittleEndian.{over}
+use Rattle.octets.specs.LittleEndian.{overwrite}
 use Rattle.table.specs.Layout.{sized, headOctets, Sized}
 use Rattle.table.proofs.Cases.{of-size}
 use Rattle.rules.specs.Decision.{Decision, refused, accepted, Check, Ruling, judged, decide}
 use Rattle.rules.specs.Checks.{bufferChecks}
-use Rattle.rules.specs.Outcome.{Lent, Effect, frameOctets, Exit, atExit}
+use Rattle.rules.specs.Exit.{Lent, Effect, frameOctets, Exit, atExit}
 use Rattle.rules.proofs.Rulings.{Passed, passed}
 use Rattle.calls.specs.declared.Outcome.{Outcome}
 use Rattle.calls.specs.declared.Answer.{Answer}
 use Rattle.calls.specs.declared.Answer.the-variants.{Accepted, Refused}
 use Rattle.calls.specs.declared.Emitted.{Emitted}
-use Rattle.calls.specs.Answers.{answerTo, emitted, exits}
+use Rattle.calls.specs.Answers.{answerTo, emitted, exitOf}
 
 -- ---- one check after another
 
@@ -117,7 +116,7 @@ pub decided-as : {A : Type 0} (r : Ruling A) (a : Answer) → a ≡ answerTo (r 
 decided-as r a ae = answer-decides (r .otherwise) (r .checks) a ae
 
 module _ (l : Lent) (output : List ℕ) (r : Ruling Effect) (a : Answer) (ae : a ≡ answerTo (r .checks)) where
-  pub refusal : (n : ℕ) → a ≡ Refused n → exits (Outcome.Refused n) l output ≡ atExit l output (decide r)
+  pub refusal : (n : ℕ) → a ≡ Refused n → exitOf (Outcome.Refused n) l output ≡ atExit l output (decide r)
   unfolding atExit
   refusal n e = sym (ap (atExit l output) (decided-as r a ae ∙ ap (as-decision (r .otherwise)) e))
 
@@ -126,7 +125,7 @@ module _ (l : Lent) (output : List ℕ) (r : Ruling Effect) (a : Answer) (ae : a
 
 -- an accepted call by what it leaves in what it was lent and in the output, and by its frames
 pub accepted-exit : (l : Lent) (output : List ℕ) (x : Effect) (m : Lent) (v : List ℕ) (e : Emitted) → m ≡ x .lent
-    → v ≡ over output 0 (frameOctets (x .frames)) → e ≡ emitted (x .frames) → exits (Outcome.Accepted e) m v ≡ atExit l output (accepted x)
+    → v ≡ overwrite output 0 (frameOctets (x .frames)) → e ≡ emitted (x .frames) → exitOf (Outcome.Accepted e) m v ≡ atExit l output (accepted x)
 unfolding atExit
 accepted-exit l output x m v e me ve ee = rw (me, ve, ee)
 

@@ -1,4 +1,4 @@
--- What receive and break have in common: what their checks of operands say, and the head that they store. Assumes nothing.
+-- What receive and break have in common: what their checks of operands say, and the head that they store.
 use Prim.Native.Nat.{ℕ, _≤_}
 use mathlib.Core.Path.{_≡_, ap, ap₂, _∙_}
 use mathlib.Core.List.{List}
@@ -10,7 +10,7 @@ use Rattle.table.specs.Layout.{headAt, putHead, headOctets, Sized}
 use Rattle.table.specs.Table.{number}
 use Rattle.counters.specs.declared.SequenceNumber.{SequenceNumber}
 use Rattle.rules.specs.Checks.{operandChecks}
-use Rattle.rules.specs.Outcome.{underHead}
+use Rattle.rules.specs.Exit.{underHead}
 use Rattle.calls.specs.declared.Answer.{Answer}
 use Rattle.calls.specs.declared.Answer.the-variants.{Accepted}
 use Rattle.calls.specs.Answers.{answerTo}

@@ -5,7 +5,7 @@ use element::PathInfo;
 use rules::Arrival;
 ghost use mathlib.Core.Path.{_≡_};
 ghost use Prim.Native.Nat.{_+_, _<_, _≤_};
-ghost use Rattle.rules.specs.Learn.{hopsHere, maxMetric, metricHere, mostHops};
+ghost use Rattle.rules.specs.Learn.{hopsHere, maxMetric, metricHere, maxHops};
 
 // Received metric + link metric.
 pub fn metric_here(a: Arrival, p: PathInfo) -> Metric
@@ -17,7 +17,7 @@ pub fn metric_here(a: Arrival, p: PathInfo) -> Metric
 
 // Received hop count + 1.
 pub fn hops_here(p: PathInfo) -> HopCount
-    requires { ⌜ p .hops .0 < mostHops ⌝ }
+    requires { ⌜ p .hops .0 < maxHops ⌝ }
     ensures { λ r. ⌜ r ≡ hopsHere p ⌝ }
 {
     HopCount(p.hops.0 + 1)

@@ -5,7 +5,7 @@ pub mod here;
 ghost use mathlib.Core.Path.{_≡_};
 ghost use mathlib.Core.List.{[]};
 ghost use Prim.Native.Nat.{_≤_};
-ghost use Rattle.rules.specs.Outcome.{leastOutput};
+ghost use Rattle.rules.specs.Exit.{leastOutput};
 ghost use Rattle.calls.specs.Answers.{answerOf, emitted};
 
 // Octets of an output that holds the frames of any call.

@@ -1,5 +1,4 @@
 -- Laws of the comparison: by the distance of two numbers, and inside a window of 2^31 consecutive numbers.
--- Assumes nothing.
 use Prim.Native.Nat.{ℕ, _+_, _-_, _%_, _^_, _<_}
 use mathlib.Core.Path.{_≡_, refl, sym, ap, _∙_}
 use mathlib.Core.Bool.{Bool, true, false, _&&_, cond, and-true, and-false}

@@ -1,5 +1,5 @@
 -- The rank of a number with a metric, for numbers inside a window of 2^31: a newer number is better, and of equal numbers the
--- smaller metric. Inside the window this order has no cycles. Assumes nothing.
+-- smaller metric. Inside the window this order has no cycles.
 use Prim.Native.Nat.{ℕ, suc, _^_, _<_, _≤_}
 use mathlib.Core.Path.{_≡_, _∙_, refl, ap}
 use mathlib.Core.Bool.{Bool, true, false, _&&_, _||_, and-eq-true-iff}

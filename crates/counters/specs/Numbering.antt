@@ -1,4 +1,4 @@
--- What numbering a new element makes of the counters of a point. Assumes nothing.
+-- What numbering a new element makes of the counters of a point.
 use mathlib.Core.Bool.{Bool, cond}
 use Rattle.counters.specs.Numbers.{nextNumber, nextRequest}
 use Rattle.counters.specs.declared.own.OwnCounters.{OwnCounters}

@@ -1,5 +1,4 @@
 -- Sequence numbers and request IDs: 32-bit counters that go round, and which of two sequence numbers is newer.
--- Assumes nothing.
 use Prim.Native.Nat.{ℕ, _+_, _-_, _%_, _^_}
 use mathlib.Core.Bool.{Bool, cond}
 use lib.Dec.{ltb}

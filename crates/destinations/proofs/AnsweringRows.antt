@@ -1,4 +1,4 @@
--- Whether a point answers for another, case by case, as the code asks it. Assumes nothing.
+-- Whether a point answers for another, case by case, as the code asks it.
 use Prim.Native.Nat.{ℕ}
 use mathlib.Core.Path.{_≡_, refl}
 use mathlib.Core.Bool.{Bool, true, false, not}

@@ -1,4 +1,4 @@
--- The replies, case by case and one after another, as the code asks it. Assumes nothing.
+-- The replies, case by case and one after another, as the code asks it.
 use Prim.Native.Nat.{ℕ, _+_, _-_, _*_, _/_, _<_, _≤_}
 use mathlib.Core.Path.{_≡_, refl, sym, ap, ap₂, _∙_}
 use mathlib.Core.Bool.{Bool, true, false, not}
@@ -8,8 +8,8 @@ use lib.ListN.{length, length-append}
 use native.Mathlib.Omega.{arith}
 use native.Mathlib.Nat.{sub-zero, add-zero, zero-add}
 use borrow.Author.Tests.{eq-eqb, ne-eqb, not-true, not-false}
-use Rattle.octets.specs.LittleEndian.{over}
-use Rattle.octets.proofs.OctetLists.{over-append}
+use Rattle.octets.specs.LittleEndian.{overwrite}
+use Rattle.octets.proofs.OctetLists.{overwrite-append}
 use Rattle.counters.specs.declared.SequenceNumber.{SequenceNumber}
 use Rattle.counters.specs.Numbers.{nextNumber, newer}
 use Rattle.table.specs.declared.address.Address.{Address}
@@ -31,7 +31,7 @@ use Rattle.element.proofs.Sizes.{frame-length}
 use Rattle.element.proofs.Written.{frame-parts}
 use Rattle.rules.specs.declared.Arrival.{Arrival}
 use Rattle.element.specs.Flags.{replyWanted}
-use Rattle.rules.specs.Outcome.{Frame, frameOctets}
+use Rattle.rules.specs.Exit.{Frame, frameOctets}
 use Rattle.rules.specs.Destinations.{Answered, reply, replyFields, ownReply, answeredNumber, forOneself, forAllOnes, forAnother, answered, allAnswered}
 use Rattle.rules.proofs.Emitting.{Each, Emits, one-answered, replies-emitted}
 use Rattle.rules.proofs.FrameOctets.{one-frame, frames-append}
@@ -54,9 +54,9 @@ reply-octets to f = one-frame (replyFrame to f) ∙ frame-parts to (rrep f []) �
 reply-long : (to : Address) (f : RrepFields) → length (frameOctets (replyFrame to f ∷ [])) ≡ 40
 reply-long to f = ap length (one-frame (replyFrame to f)) ∙ frame-length to (rrep f [])
 
-pub reply-written : (s v : List ℕ) (at : ℕ) (to : Address) (f : RrepFields) → v ≡ over s at (frameStart to Rrep 0 (rrepNumbers f))
-    → v ≡ over s at (frameOctets (record { receiver = to; element = rrep f [] } ∷ []))
-reply-written s v at to f e = e ∙ ap (over s at) (sym (reply-octets to f))
+pub reply-written : (s v : List ℕ) (at : ℕ) (to : Address) (f : RrepFields) → v ≡ overwrite s at (frameStart to Rrep 0 (rrepNumbers f))
+    → v ≡ overwrite s at (frameOctets (record { receiver = to; element = rrep f [] } ∷ []))
+reply-written s v at to f e = e ∙ ap (overwrite s at) (sym (reply-octets to f))
 
 module _ (self requested : SequenceNumber) (b : Bool) (be : b ≡ newer requested self) where
   pub number-raised : b ≡ true → (n : SequenceNumber) → n ≡ nextNumber requested → n ≡ answeredNumber self requested
@@ -70,11 +70,11 @@ module _ (self requested : SequenceNumber) (b : Bool) (be : b ≡ newer requeste
 -- for oneself
 module _ (t s v : List ℕ) (a : Arrival) (p : PathInfo) (n : SequenceNumber) (at : ℕ) (h : Head) (he : h ≡ headAt t)
     (f : RrepFields) (fe : f ≡ replyFields p (h .own) n (record { 0 = 0 }) (record { 0 = 0 })) where
-  pub oneself-written : v ≡ over s at (frameOctets (record { receiver = a .transmitter; element = rrep f [] } ∷ []))
-      → v ≡ over s at (frameOctets (ownReply a p (own t) n ∷ []))
+  pub oneself-written : v ≡ overwrite s at (frameOctets (record { receiver = a .transmitter; element = rrep f [] } ∷ []))
+      → v ≡ overwrite s at (frameOctets (ownReply a p (own t) n ∷ []))
   unfolding reply
   oneself-written ve =
-      ve ∙ ap (λ (g : RrepFields). over s at (frameOctets (replyFrame (a .transmitter) g ∷ [])))
+      ve ∙ ap (λ (g : RrepFields). overwrite s at (frameOctets (replyFrame (a .transmitter) g ∷ [])))
       (fe ∙ ap (λ (k : Head). replyFields p (k .own) n (record { 0 = 0 }) (record { 0 = 0 })) he)
 
 pub oneself-place : (n : SequenceNumber) (frames at place : ℕ) → place ≡ at + 40
@@ -90,8 +90,8 @@ module _ (before : Replied) where
     unfolding frameOctets flatMap
     silent-place = rw (none-said, same-number, add-zero (before .frames), add-zero (before .place))
 
-    silent-output : (s : List ℕ) → s ≡ over s (before .place) (frameOctets (x .replies))
-    unfolding frameOctets flatMap over
+    silent-output : (s : List ℕ) → s ≡ overwrite s (before .place) (frameOctets (x .replies))
+    unfolding frameOctets flatMap overwrite
     silent-output s = rw none-said
 
   -- it has one
@@ -100,9 +100,9 @@ module _ (before : Replied) where
         → record { number = n; frames = before .frames + 1; place = place } ≡ repliedAfter before x
     said-place n ne place pe = rw (ne, pe, said, reply-long to f)
 
-    said-output : (s v : List ℕ) → v ≡ over s (before .place) (frameOctets (record { receiver = to; element = rrep f [] } ∷ []))
-        → v ≡ over s (before .place) (frameOctets (x .replies))
-    said-output s v ve = ve ∙ ap (λ (l : List Frame). over s (before .place) (frameOctets l)) (sym said)
+    said-output : (s v : List ℕ) → v ≡ overwrite s (before .place) (frameOctets (record { receiver = to; element = rrep f [] } ∷ []))
+        → v ≡ overwrite s (before .place) (frameOctets (x .replies))
+    said-output s v ve = ve ∙ ap (λ (l : List Frame). overwrite s (before .place) (frameOctets l)) (sym said)
 
 -- ---- to another, by the row that answers
 
@@ -120,7 +120,7 @@ module _ (t : List ℕ) (a : Arrival) (p : PathInfo) (q : Target) (before : Repl
     pub another-silent-place : before ≡ repliedAfter before toAnother
     another-silent-place = silent-place before toAnother (ap (λ (y : Answered). y .replies) unanswered) (ap (λ (y : Answered). y .number) unanswered)
 
-    pub another-silent-output : (s : List ℕ) → s ≡ over s (before .place) (frameOctets (toAnother .replies))
+    pub another-silent-output : (s : List ℕ) → s ≡ overwrite s (before .place) (frameOctets (toAnother .replies))
     another-silent-output = silent-output before toAnother (ap (λ (y : Answered). y .replies) unanswered) (ap (λ (y : Answered). y .number) unanswered)
 
   module _ (r : Row) (e : x ≡ By r) (f : RrepFields) (fe : f ≡ replyFields p (r .destination) (r .number) (r .hops) (r .metric)) where
@@ -135,8 +135,8 @@ module _ (t : List ℕ) (a : Arrival) (p : PathInfo) (q : Target) (before : Repl
         → _≡_ {A = Replied} (record { number = before .number; frames = before .frames + 1; place = place }) (repliedAfter before toAnother)
     another-said-place = said-place before toAnother (a .transmitter) f row-said (before .number) (ap (λ (y : Answered). y .number) (sym row-answer))
 
-    pub another-said-output : (s v : List ℕ) → v ≡ over s (before .place) (frameOctets (record { receiver = a .transmitter; element = rrep f [] } ∷ []))
-        → v ≡ over s (before .place) (frameOctets (toAnother .replies))
+    pub another-said-output : (s v : List ℕ) → v ≡ overwrite s (before .place) (frameOctets (record { receiver = a .transmitter; element = rrep f [] } ∷ []))
+        → v ≡ overwrite s (before .place) (frameOctets (toAnother .replies))
     another-said-output = said-output before toAnother (a .transmitter) f row-said
 
 -- ---- to a destination, by its address
@@ -149,9 +149,9 @@ module _ (t : List ℕ) (a : Arrival) (p : PathInfo) (q : Target) (before : Repl
   answer-place : (x : Answered) → toThis ≡ x → (r : Replied) → r ≡ repliedAfter before x → r ≡ repliedAfter before toThis
   answer-place x e r re = re ∙ ap (repliedAfter before) (sym e)
 
-  answer-output : (x : Answered) → toThis ≡ x → (s v : List ℕ) → v ≡ over s (before .place) (frameOctets (x .replies))
-      → v ≡ over s (before .place) (frameOctets (toThis .replies))
-  answer-output x e s v ve = ve ∙ ap (λ (y : Answered). over s (before .place) (frameOctets (y .replies))) (sym e)
+  answer-output : (x : Answered) → toThis ≡ x → (s v : List ℕ) → v ≡ overwrite s (before .place) (frameOctets (x .replies))
+      → v ≡ overwrite s (before .place) (frameOctets (toThis .replies))
+  answer-output x e s v ve = ve ∙ ap (λ (y : Answered). overwrite s (before .place) (frameOctets (y .replies))) (sym e)
 
   -- a reply for oneself under the number m
   module _ (m : SequenceNumber) (number-is : toThis .number ≡ m) (replies-are : toThis .replies ≡ ownReply a p (own t) m ∷ []) where
@@ -159,8 +159,8 @@ module _ (t : List ℕ) (a : Arrival) (p : PathInfo) (q : Target) (before : Repl
     unfolding reply
     own-said-place r re = re ∙ said-place before toThis (a .transmitter) _ replies-are m (sym number-is) (before .place + 40) refl
 
-    own-said-output : (s v : List ℕ) → v ≡ over s (before .place) (frameOctets (ownReply a p (own t) m ∷ [])) → v ≡ over s (before .place) (frameOctets (toThis .replies))
-    own-said-output s v ve = ve ∙ ap (λ (l : List Frame). over s (before .place) (frameOctets l)) (sym replies-are)
+    own-said-output : (s v : List ℕ) → v ≡ overwrite s (before .place) (frameOctets (ownReply a p (own t) m ∷ [])) → v ≡ overwrite s (before .place) (frameOctets (toThis .replies))
+    own-said-output s v ve = ve ∙ ap (λ (l : List Frame). overwrite s (before .place) (frameOctets l)) (sym replies-are)
 
   module _ (is-self : q .address .0 ≡ h .own .0) (m : SequenceNumber) (me : m ≡ answeredNumber (before .number) (q .number)) where
     self-answer : toThis ≡ forOneself t a p (before .number) q
@@ -178,7 +178,7 @@ module _ (t : List ℕ) (a : Arrival) (p : PathInfo) (q : Target) (before : Repl
     pub self-place : (r : Replied) → r ≡ record { number = m; frames = before .frames + 1; place = before .place + 40 } → r ≡ repliedAfter before toThis
     self-place = own-said-place m self-number self-replies
 
-    pub self-output : (s v : List ℕ) → v ≡ over s (before .place) (frameOctets (ownReply a p (own t) m ∷ [])) → v ≡ over s (before .place) (frameOctets (toThis .replies))
+    pub self-output : (s v : List ℕ) → v ≡ overwrite s (before .place) (frameOctets (ownReply a p (own t) m ∷ [])) → v ≡ overwrite s (before .place) (frameOctets (toThis .replies))
     self-output = own-said-output m self-number self-replies
 
   module _ (not-self : q .address .0 ≡ h .own .0 → ⊥) where
@@ -191,8 +191,8 @@ module _ (t : List ℕ) (a : Arrival) (p : PathInfo) (q : Target) (before : Repl
           → r ≡ repliedAfter before toThis
       other-place = answer-place _ other-answer
 
-      pub other-output : (s v : List ℕ) → v ≡ over s (before .place) (frameOctets (forAnother t a p (before .number) q (rowFor t (q .address)) .replies))
-          → v ≡ over s (before .place) (frameOctets (toThis .replies))
+      pub other-output : (s v : List ℕ) → v ≡ overwrite s (before .place) (frameOctets (forAnother t a p (before .number) q (rowFor t (q .address)) .replies))
+          → v ≡ overwrite s (before .place) (frameOctets (toThis .replies))
       other-output = answer-output _ other-answer
 
     module _ (is-ones : q .address .0 ≡ 281474976710655) (b : Bool) (be : b ≡ replyWanted p) where
@@ -209,7 +209,7 @@ module _ (t : List ℕ) (a : Arrival) (p : PathInfo) (q : Target) (before : Repl
         unwanted-place =
             silent-place before toThis (ap (λ (y : Answered). y .replies) (ones-answer ∙ unwanted)) (ap (λ (y : Answered). y .number) (ones-answer ∙ unwanted))
 
-        pub unwanted-output : (s : List ℕ) → s ≡ over s (before .place) (frameOctets (toThis .replies))
+        pub unwanted-output : (s : List ℕ) → s ≡ overwrite s (before .place) (frameOctets (toThis .replies))
         unwanted-output =
             silent-output before toThis (ap (λ (y : Answered). y .replies) (ones-answer ∙ unwanted)) (ap (λ (y : Answered). y .number) (ones-answer ∙ unwanted))
 
@@ -221,7 +221,7 @@ module _ (t : List ℕ) (a : Arrival) (p : PathInfo) (q : Target) (before : Repl
         pub wanted-place : (r : Replied) → r ≡ record { number = m; frames = before .frames + 1; place = before .place + 40 } → r ≡ repliedAfter before toThis
         wanted-place = own-said-place m (ap (λ (y : Answered). y .number) (ones-answer ∙ wanted)) (ap (λ (y : Answered). y .replies) (ones-answer ∙ wanted))
 
-        pub wanted-output : (s v : List ℕ) → v ≡ over s (before .place) (frameOctets (ownReply a p (own t) m ∷ [])) → v ≡ over s (before .place) (frameOctets (toThis .replies))
+        pub wanted-output : (s v : List ℕ) → v ≡ overwrite s (before .place) (frameOctets (ownReply a p (own t) m ∷ [])) → v ≡ overwrite s (before .place) (frameOctets (toThis .replies))
         wanted-output = own-said-output m (ap (λ (y : Answered). y .number) (ones-answer ∙ wanted)) (ap (λ (y : Answered). y .replies) (ones-answer ∙ wanted))
 
 -- ---- all of them: each takes 40 octets
@@ -273,7 +273,7 @@ module _ (t : List ℕ) (a : Arrival) (p : PathInfo) (part out₀ : List ℕ) (a
     pub number : leftFrom i (replied .number) .number ≡ allReplies .number
     pub counted : replied .frames + length (leftFrom i (replied .number) .replies) ≡ length (allReplies .replies)
     pub long : replied .place + length (frameOctets (leftFrom i (replied .number) .replies)) ≡ at + length (frameOctets (allReplies .replies))
-    pub written : over out (replied .place) (frameOctets (leftFrom i (replied .number) .replies)) ≡ over out₀ at (frameOctets (allReplies .replies))
+    pub written : overwrite out (replied .place) (frameOctets (leftFrom i (replied .number) .replies)) ≡ overwrite out₀ at (frameOctets (allReplies .replies))
 
   pub replying-start : Replying 0 (record { number = start; frames = 0; place = at }) out₀
   replying-start =
@@ -294,13 +294,13 @@ module _ (t : List ℕ) (a : Arrival) (p : PathInfo) (part out₀ : List ℕ) (a
     replying-few l ne short = omega (arith, so-far .few)
 
     pub replying-more : i < n → (q : Target) → q ≡ targetAt part i → (next : Replied) → next ≡ repliedAfter replied (answered t a p (replied .number) q)
-        → (out′ : List ℕ) → out′ ≡ over out (replied .place) (frameOctets (answered t a p (replied .number) q .replies)) → Replying (i + 1) next out′
+        → (out′ : List ℕ) → out′ ≡ overwrite out (replied .place) (frameOctets (answered t a p (replied .number) q .replies)) → Replying (i + 1) next out′
     unfolding allAnswered
     replying-more l q qe next ne out′ oe =
         let this : Answered = answered t a p (replied .number) (targetAt part i) in
         let after : next ≡ repliedAfter replied this = ne ∙ ap (λ (x : Target). repliedAfter replied (answered t a p (replied .number) x)) qe in
-        let here : out′ ≡ over out (replied .place) (frameOctets (this .replies)) =
-        oe ∙ ap (λ (x : Target). over out (replied .place) (frameOctets (answered t a p (replied .number) x .replies))) qe in
+        let here : out′ ≡ overwrite out (replied .place) (frameOctets (this .replies)) =
+        oe ∙ ap (λ (x : Target). overwrite out (replied .place) (frameOctets (answered t a p (replied .number) x .replies))) qe in
         let rest : Answered = leftFrom (i + 1) (this .number) in
         let left : leftFrom i (replied .number) ≡ record { number = rest .number; replies = this .replies ++ rest .replies; kept = this .kept ++ rest .kept } =
         ap (allAnswered t a p (replied .number)) (each-next (targetAt part) i n l) in
@@ -333,9 +333,9 @@ module _ (t : List ℕ) (a : Arrival) (p : PathInfo) (part out₀ : List ℕ) (a
                 ap (λ (x : Answered). length (frameOctets (x .replies))) numbers,
               );
           written =
-              ap₂ (λ (u : List ℕ) (x : Replied). over u (x .place) (frameOctets (leftFrom (i + 1) (x .number) .replies))) here after
-              ∙ sym (over-append out (replied .place) (frameOctets (this .replies)) (frameOctets (rest .replies)))
-              ∙ ap (over out (replied .place)) (sym octets)
+              ap₂ (λ (u : List ℕ) (x : Replied). overwrite u (x .place) (frameOctets (leftFrom (i + 1) (x .number) .replies))) here after
+              ∙ sym (overwrite-append out (replied .place) (frameOctets (this .replies)) (frameOctets (rest .replies)))
+              ∙ ap (overwrite out (replied .place)) (sym octets)
               ∙ so-far .written;
         }
 
@@ -354,6 +354,6 @@ module _ (t : List ℕ) (a : Arrival) (p : PathInfo) (part out₀ : List ℕ) (a
           omega (arith, so-far .long, ap (λ (x : Answered). length (frameOctets (x .replies))) none-left) in
           rw (number, frames, place)
 
-      pub replies-written : out ≡ over out₀ at (frameOctets (allReplies .replies))
-      unfolding frameOctets flatMap over
-      replies-written = ap (λ (x : Answered). over out (replied .place) (frameOctets (x .replies))) (sym none-left) ∙ so-far .written
+      pub replies-written : out ≡ overwrite out₀ at (frameOctets (allReplies .replies))
+      unfolding frameOctets flatMap overwrite
+      replies-written = ap (λ (x : Answered). overwrite out (replied .place) (frameOctets (x .replies))) (sym none-left) ∙ so-far .written

@@ -1,5 +1,5 @@
 -- The row that an intermediate reply is made from. For the code's own functions: `answering-is` says that `forAnother` goes by
--- it. Assumes nothing.
+-- it.
 use Prim.Native.Nat.{ℕ}
 use mathlib.Core.Bool.{cond}
 use mathlib.Core.List.{List}

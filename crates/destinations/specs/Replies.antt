@@ -1,7 +1,7 @@
--- The replies while they are written. For the code's own functions. Assumes nothing.
+-- The replies while they are written. For the code's own functions.
 use Prim.Native.Nat.{ℕ, _+_}
 use lib.ListN.{length}
-use Rattle.rules.specs.Outcome.{frameOctets}
+use Rattle.rules.specs.Exit.{frameOctets}
 use Rattle.rules.specs.Destinations.{Answered}
 use Rattle.destinations.specs.declared.replies.Replied.{Replied}
 

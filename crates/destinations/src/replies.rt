@@ -19,7 +19,7 @@ ghost use mathlib.Core.Path.{_≡_};
 ghost use mathlib.Core.List.{[], _∷_};
 ghost use Prim.Native.Nat.{_+_, _<_, _≤_};
 ghost use lib.ListN.{length};
-ghost use Rattle.octets.specs.LittleEndian.{over};
+ghost use Rattle.octets.specs.LittleEndian.{overwrite};
 ghost use Rattle.table.specs.Table.{own, rowFor};
 ghost use Rattle.table.specs.Layout.{Sized};
 ghost use Rattle.element.specs.Layout.{PartOf};
@@ -27,7 +27,7 @@ ghost use Rattle.element.specs.declared.Kind.{Kind};
 ghost use Rattle.element.specs.Element.{rrep};
 ghost use Rattle.element.specs.Entries.{targetsIn};
 ghost use Rattle.rules.specs.Destinations.{allAnswered, answered, answeredNumber, forAnother, ownReply, replyFields};
-ghost use Rattle.rules.specs.Outcome.{frameOctets};
+ghost use Rattle.rules.specs.Exit.{frameOctets};
 ghost use Rattle.destinations.specs.Replies.{repliedAfter, repliedFrom};
 
 // Where the replies stand: the own number so far, how many they are, and the place after them in the output.
@@ -84,7 +84,7 @@ fn write_reply(output: &mut [u8], at: usize, a: Arrival, f: RrepFields) -> usize
     requires { ⌜ at + 40 ≤ length (now output) ⌝ }
     ensures { λ r. ⌜ r ≡ at + 40 ⌝ }
     ensures { λ _. ⌜ now (output .exit)
-        ≡ over (now (output .entry)) at (frameOctets (record { receiver = a .transmitter; element = rrep f [] } ∷ [])) ⌝ }
+        ≡ overwrite (now (output .entry)) at (frameOctets (record { receiver = a .transmitter; element = rrep f [] } ∷ [])) ⌝ }
 {
     write::start_rrep(output, at, a.transmitter, f, 0)
 }
@@ -113,7 +113,7 @@ fn reply_as_oneself(
     requires { ⌜ Sized (now table) ⌝ }
     ensures { λ r. ⌜ r ≡ record { number = number; frames = before .frames + 1; place = before .place + 40 } ⌝ }
     ensures { λ _. ⌜ now (output .exit)
-        ≡ over (now (output .entry)) (before .place) (frameOctets (ownReply a p (own (now (table .entry))) number ∷ [])) ⌝ }
+        ≡ overwrite (now (output .entry)) (before .place) (frameOctets (ownReply a p (own (now (table .entry))) number ∷ [])) ⌝ }
 {
     let f = own_fields(p, row::read_head(table).own, number);
     let place = write_reply(output, before.place, a, f);
@@ -140,7 +140,7 @@ fn reply_for_another(
     ensures { λ r. ⌜ r ≡ repliedAfter before
         (forAnother (now (table .entry)) a p (before .number) q (rowFor (now (table .entry)) (q .address))) ⌝ }
     ensures { λ _. ⌜ now (output .exit)
-        ≡ over (now (output .entry)) (before .place)
+        ≡ overwrite (now (output .entry)) (before .place)
         (frameOctets (forAnother (now (table .entry)) a p (before .number) q
         (rowFor (now (table .entry)) (q .address)) .replies)) ⌝ }
 {
@@ -171,7 +171,7 @@ fn reply_to(
     requires { ⌜ Sized (now table) ⌝ }
     ensures { λ r. ⌜ r ≡ repliedAfter before (answered (now (table .entry)) a p (before .number) q) ⌝ }
     ensures { λ _. ⌜ now (output .exit)
-        ≡ over (now (output .entry)) (before .place)
+        ≡ overwrite (now (output .entry)) (before .place)
         (frameOctets (answered (now (table .entry)) a p (before .number) q .replies)) ⌝ }
 {
     let number = before.number;
@@ -209,7 +209,7 @@ pub fn write_replies(
     requires { ⌜ at + 800 ≤ length (now output) ⌝ }
     ensures { λ r. ⌜ r ≡ repliedFrom at (allAnswered (now (table .entry)) a p number (targetsIn (now (part .entry)))) ⌝ }
     ensures { λ _. ⌜ now (output .exit)
-        ≡ over (now (output .entry)) at
+        ≡ overwrite (now (output .entry)) at
         (frameOctets (allAnswered (now (table .entry)) a p number (targetsIn (now (part .entry))) .replies)) ⌝ }
 {
     let n = part.len() / list::TARGET;

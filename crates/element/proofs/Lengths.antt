@@ -1,4 +1,4 @@
--- Lengths and counts: which there are, and that each fits its octet. Assumes nothing.
+-- Lengths and counts: which there are, and that each fits its octet.
 use Prim.Native.Nat.{ℕ, _<_, _≤_}
 use mathlib.Core.Path.{_≡_}
 use mathlib.Core.Bool.{Bool, true, _&&_}

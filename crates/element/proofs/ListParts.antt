@@ -1,5 +1,5 @@
 -- Entries as octets one after another: read back from these, and made again of what is read. Once for all kinds of
--- entry. Assumes nothing.
+-- entry.
 use Prim.Native.Nat.{ℕ, zero, suc, _+_, _*_, _≤_}
 use mathlib.Core.Path.{_≡_, refl, sym, ap, ap₂, _∙_}
 use mathlib.Core.List.{List, [], _∷_, _++_, append-assoc, flatMap}

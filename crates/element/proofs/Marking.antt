@@ -13,7 +13,7 @@ use Rattle.table.specs.Marks.{mark}
 use Rattle.table.proofs.Marks.{Marked, marked-down, marked-none, unmarked}
 use Rattle.element.specs.declared.list.ListKind.{ListKind}
 use Rattle.element.specs.Entries.{each, entriesIn}
-use Rattle.element.specs.Lists.{addressIn, addressesFrom, addressesIn, among, twice}
+use Rattle.element.specs.Lists.{addressIn, addressesFrom, addressesIn, contains, hasDuplicate}
 use Rattle.element.proofs.Scans.{each-next, each-end}
 
 -- whether it stands again, by its mark
@@ -28,39 +28,39 @@ module _ (m : ℕ) (g : Bool) where
 
 module _ (f : ℕ → Address) (n : ℕ) where
   -- a list whose end has an address twice has it twice
-  twice-within : (i : ℕ) → i ≤ n → twice (each f i (n - i)) ≡ true → twice (each f 0 (n - 0)) ≡ true
-  unfolding twice
-  twice-within zero l e = e
-  twice-within (suc i) l e =
-      twice-within i (omega arith)
-      (ap twice (each-next f i n l) ∙ ap (λ b. among (f i) (each f (i + 1) (n - (i + 1))) || b) later ∙ or-true (among (f i) (each f (i + 1) (n - (i + 1)))))
+  duplicate-within : (i : ℕ) → i ≤ n → hasDuplicate (each f i (n - i)) ≡ true → hasDuplicate (each f 0 (n - 0)) ≡ true
+  unfolding hasDuplicate
+  duplicate-within zero l e = e
+  duplicate-within (suc i) l e =
+      duplicate-within i (omega arith)
+      (ap hasDuplicate (each-next f i n l) ∙ ap (λ b. contains (each f (i + 1) (n - (i + 1))) (f i) || b) later ∙ or-true (contains (each f (i + 1) (n - (i + 1))) (f i)))
     where
-      later : twice (each f (i + 1) (n - (i + 1))) ≡ true
+      later : hasDuplicate (each f (i + 1) (n - (i + 1))) ≡ true
       later = let at : i + 1 ≡ suc i = omega arith in rw at e
 
   -- an address that is not among those up to n is apart from each
-  among-none : (d : Address) (k i : ℕ) → n - i ≡ k → ((j : ℕ) → i ≤ j → j < n → f j .0 ≡ d .0 → ⊥) → among d (each f i (n - i)) ≡ false
-  unfolding among
-  among-none d zero i e apart = ap (among d) (each-end f i n (omega (arith, e)))
-  among-none d (suc k) i e apart =
+  contains-none : (d : Address) (k i : ℕ) → n - i ≡ k → ((j : ℕ) → i ≤ j → j < n → f j .0 ≡ d .0 → ⊥) → contains (each f i (n - i)) d ≡ false
+  unfolding contains
+  contains-none d zero i e apart = ap (λ (l : List Address). contains l d) (each-end f i n (omega (arith, e)))
+  contains-none d (suc k) i e apart =
       let l : i < n = omega (arith, e) in
-      ap (among d) (each-next f i n l)
-      ∙ ap (λ b. b || among d (each f (i + 1) (n - (i + 1)))) (ne-eqb (f i .0) (d .0) (apart i (omega arith) l))
-      ∙ among-none d k (i + 1) (omega (arith, e)) (λ j g h. apart j (omega (arith, g)) h)
+      ap (λ (l : List Address). contains l d) (each-next f i n l)
+      ∙ ap (λ b. b || contains (each f (i + 1) (n - (i + 1))) d) (ne-eqb (f i .0) (d .0) (apart i (omega arith) l))
+      ∙ contains-none d k (i + 1) (omega (arith, e)) (λ j g h. apart j (omega (arith, g)) h)
 
 -- ---- as the loop asks it: i is the entry before those from `from` on
 
 module _ (k : ListKind) (part : List ℕ) where
-  pub none-twice : (n : ℕ) → n ≡ entriesIn k part → twice (addressesFrom k part n) ≡ false
-  unfolding addressesFrom twice
-  none-twice n ne = ap twice (each-end (addressIn k part) n (entriesIn k part) (omega (arith, ne)))
+  pub no-duplicate : (n : ℕ) → n ≡ entriesIn k part → hasDuplicate (addressesFrom k part n) ≡ false
+  unfolding addressesFrom hasDuplicate
+  no-duplicate n ne = ap hasDuplicate (each-end (addressIn k part) n (entriesIn k part) (omega (arith, ne)))
 
   -- an address alone stands once
-  pub alone-once : (n : ℕ) → n ≡ entriesIn k part → n ≤ 1 → false ≡ twice (addressesIn k part)
-  unfolding addressesFrom twice among each
+  pub alone-once : (n : ℕ) → n ≡ entriesIn k part → n ≤ 1 → false ≡ hasDuplicate (addressesIn k part)
+  unfolding addressesFrom hasDuplicate contains each
   alone-once n ne l = by (entriesIn k part) (omega (arith, ne))
     where
-      by : (m : ℕ) → m ≤ 1 → false ≡ twice (each (addressIn k part) 0 (m - 0))
+      by : (m : ℕ) → m ≤ 1 → false ≡ hasDuplicate (each (addressIn k part) 0 (m - 0))
       by zero h = refl
       by (suc zero) h = refl
       by (suc (suc m)) h = absurd (omega (arith, h))
@@ -68,7 +68,7 @@ module _ (k : ListKind) (part : List ℕ) where
   pub none-marked : (n : ℕ) → n ≡ entriesIn k part → (seen : List ℕ) (last : ℕ) → Marked (addressIn k part) seen last n (entriesIn k part)
   none-marked n ne seen last = rw ne (marked-none (addressIn k part) seen last (entriesIn k part))
 
-  pub all-once : (from : ℕ) → from ≤ 0 → twice (addressesFrom k part from) ≡ false → false ≡ twice (addressesFrom k part 0)
+  pub all-once : (from : ℕ) → from ≤ 0 → hasDuplicate (addressesFrom k part from) ≡ false → false ≡ hasDuplicate (addressesFrom k part 0)
   all-once from none-left once = let at : 0 ≡ from = omega arith in rw at (sym once)
 
   module _ (from : ℕ) (some-left : 0 < from) (within : from ≤ entriesIn k part) where
@@ -85,29 +85,29 @@ module _ (k : ListKind) (part : List ℕ) where
           ∙ ap (λ (j : ℕ). addressIn k part (from - 1) ∷ each (addressIn k part) j (entriesIn k part - j)) at
           ∙ ap (λ (b : Address). b ∷ each (addressIn k part) from (entriesIn k part - from)) (sym ae)
 
-      pub again-found : (m : ℕ) (b : Bool) → b ≡ (not (eqb m 0) && among a (addressesFrom k part from)) → b ≡ true
-          → true ≡ twice (addressesFrom k part 0)
-      unfolding addressesFrom twice
+      pub again-found : (m : ℕ) (b : Bool) → b ≡ (not (eqb m 0) && contains (addressesFrom k part from) a) → b ≡ true
+          → true ≡ hasDuplicate (addressesFrom k part 0)
+      unfolding addressesFrom hasDuplicate
       again-found m b be yes-b =
-          sym (twice-within (addressIn k part) (entriesIn k part) (from - 1) (omega (arith, within))
-          (stands-twice (among a (addressesFrom k part from)) (not (eqb m 0)) (sym be ∙ yes-b) refl))
+          sym (duplicate-within (addressIn k part) (entriesIn k part) (from - 1) (omega (arith, within))
+          (is-duplicate (contains (addressesFrom k part from) a) (not (eqb m 0)) (sym be ∙ yes-b) refl))
         where
-          stands-twice : (g x : Bool) → (x && g) ≡ true → among a (addressesFrom k part from) ≡ g → twice (addressesFrom k part (from - 1)) ≡ true
-          stands-twice g true e ge = ap twice with-before ∙ ap (λ c. c || twice (addressesFrom k part from)) (ge ∙ e)
-          stands-twice g false e ge = absurd (true≢false (sym e))
+          is-duplicate : (g x : Bool) → (x && g) ≡ true → contains (addressesFrom k part from) a ≡ g → hasDuplicate (addressesFrom k part (from - 1)) ≡ true
+          is-duplicate g true e ge = ap hasDuplicate with-before ∙ ap (λ c. c || hasDuplicate (addressesFrom k part from)) (ge ∙ e)
+          is-duplicate g false e ge = absurd (true≢false (sym e))
 
       module _ (seen : List ℕ) (last : ℕ) (marked : Marked (addressIn k part) seen last from (entriesIn k part)) (h : ℕ) (he : h ≡ mark last a) where
         pub before-marked : length seen ≡ last + 1 → Marked (addressIn k part) (set seen h 1) last (from - 1) (entriesIn k part)
         before-marked le =
             marked-down (addressIn k part) seen last from (entriesIn k part) h le (from - 1) (omega arith) marked (he ∙ ap (mark last) ae)
 
-        pub still-once : (b : Bool) → b ≡ (not (eqb (getD seen h 0) 0) && among a (addressesFrom k part from)) → b ≡ false
-            → twice (addressesFrom k part from) ≡ false → twice (addressesFrom k part (from - 1)) ≡ false
-        unfolding twice addressesFrom
-        still-once b be no-b once = ap twice with-before ∙ ap (λ c. c || twice (addressesFrom k part from)) (by (eqb (getD seen h 0) 0) refl) ∙ once
+        pub still-once : (b : Bool) → b ≡ (not (eqb (getD seen h 0) 0) && contains (addressesFrom k part from) a) → b ≡ false
+            → hasDuplicate (addressesFrom k part from) ≡ false → hasDuplicate (addressesFrom k part (from - 1)) ≡ false
+        unfolding hasDuplicate addressesFrom
+        still-once b be no-b once = ap hasDuplicate with-before ∙ ap (λ c. c || hasDuplicate (addressesFrom k part from)) (by (eqb (getD seen h 0) 0) refl) ∙ once
           where
-            by : (x : Bool) → eqb (getD seen h 0) 0 ≡ x → among a (addressesFrom k part from) ≡ false
+            by : (x : Bool) → eqb (getD seen h 0) 0 ≡ x → contains (addressesFrom k part from) a ≡ false
             by true e =
-                among-none (addressIn k part) (entriesIn k part) a (entriesIn k part - from) from refl
+                contains-none (addressIn k part) (entriesIn k part) a (entriesIn k part - from) from refl
                 (unmarked (addressIn k part) seen last from (entriesIn k part) marked a h he (eqb-true (getD seen h 0) 0 e))
-            by false e = sym (ap (λ x. not x && among a (addressesFrom k part from)) e) ∙ sym be ∙ no-b
+            by false e = sym (ap (λ x. not x && contains (addressesFrom k part from) a) e) ∙ sym be ∙ no-b

@@ -1,5 +1,5 @@
 -- Read-back: what is written is read as the same fields and list, and passes 6, 7 and 8; and octets that pass these are
--- what writing their fields gives. Assumes nothing.
+-- what writing their fields gives.
 use Prim.Native.Nat.{ℕ, zero, suc, _+_, _*_, _<_, _≤_}
 use mathlib.Core.Path.{_≡_, refl, sym, ap, ap₂, _∙_}
 use mathlib.Core.Bool.{true, false}

@@ -1,4 +1,4 @@
--- Lists of entries: by index, and the scans over their addresses. Assumes nothing.
+-- Lists of entries: by index, and the scans over their addresses.
 use Prim.Native.Nat.{ℕ, zero, suc, _+_, _-_, _*_, _/_, _^_, _<_, _≤_}
 use mathlib.Core.Path.{_≡_, refl, sym, ap, _∙_}
 use mathlib.Core.Bool.{Bool, true, false, _&&_, _||_, not}
@@ -21,7 +21,7 @@ use Rattle.element.specs.declared.NumberedAddress.{NumberedAddress}
 use Rattle.element.specs.declared.Target.{Target}
 use Rattle.element.specs.Entries.{each, entriesIn, itemFrom, itemAt, lostFrom, lostAt, lostIn, numberedFrom, numberedAt, targetFrom, targetAt, targetsIn}
 use Rattle.element.specs.Layout.{beforeAddress, sizeOf}
-use Rattle.element.specs.Lists.{addressIn, addressesFrom, addressesIn, allOnes, allowed, anyForbidden, among, twice, onesBesideOthers}
+use Rattle.element.specs.Lists.{addressIn, addressesFrom, addressesIn, allOnes, allowed, anyForbidden, contains, hasDuplicate, onesBesideOthers}
 
 -- ---- entries one after another
 
@@ -162,34 +162,34 @@ module _ (f : ℕ → Address) (n i : ℕ) (g : Bool) where
       same-is : same a d ≡ same (f i) d
       same-is = ap (λ (c : Address). same c d) ae
 
-      pub found-among : a .0 ≡ d .0 → among d (each f i (n - i)) ≡ g → true ≡ g
-      unfolding among
-      found-among e = scan-found (among d) (λ c rest. same c d) refl (λ c rest. refl) f n i g l (sym same-is ∙ eq-eqb (a .0) (d .0) e)
+      pub each-contains-found : a .0 ≡ d .0 → contains (each f i (n - i)) d ≡ g → true ≡ g
+      unfolding contains
+      each-contains-found e = scan-found (λ (l : List Address). contains l d) (λ c rest. same c d) refl (λ c rest. refl) f n i g l (sym same-is ∙ eq-eqb (a .0) (d .0) e)
 
-      pub more-among : (a .0 ≡ d .0 → ⊥) → among d (each f i (n - i)) ≡ g → among d (each f (i + 1) (n - (i + 1))) ≡ g
-      unfolding among
-      more-among e = scan-more (among d) (λ c rest. same c d) refl (λ c rest. refl) f n i g l (sym same-is ∙ ne-eqb (a .0) (d .0) e)
+      pub each-contains-more : (a .0 ≡ d .0 → ⊥) → contains (each f i (n - i)) d ≡ g → contains (each f (i + 1) (n - (i + 1))) d ≡ g
+      unfolding contains
+      each-contains-more e = scan-more (λ (l : List Address). contains l d) (λ c rest. same c d) refl (λ c rest. refl) f n i g l (sym same-is ∙ ne-eqb (a .0) (d .0) e)
 
-    module _ (b : Bool) (be : b ≡ among a (each f (i + 1) (n - (i + 1)))) where
-      again-is : b ≡ among (f i) (each f (i + 1) (n - (i + 1)))
-      again-is = be ∙ ap (λ (c : Address). among c (each f (i + 1) (n - (i + 1)))) ae
+    module _ (b : Bool) (be : b ≡ contains (each f (i + 1) (n - (i + 1))) a) where
+      again-is : b ≡ contains (each f (i + 1) (n - (i + 1))) (f i)
+      again-is = be ∙ ap (λ (c : Address). contains (each f (i + 1) (n - (i + 1))) c) ae
 
-      pub found-twice : b ≡ true → twice (each f i (n - i)) ≡ g → true ≡ g
-      unfolding twice
-      found-twice yes-b = scan-found twice among refl (λ c rest. refl) f n i g l (sym again-is ∙ yes-b)
+      pub each-duplicate-found : b ≡ true → hasDuplicate (each f i (n - i)) ≡ g → true ≡ g
+      unfolding hasDuplicate
+      each-duplicate-found yes-b = scan-found hasDuplicate (λ c rest. contains rest c) refl (λ c rest. refl) f n i g l (sym again-is ∙ yes-b)
 
-      pub more-twice : b ≡ false → twice (each f i (n - i)) ≡ g → twice (each f (i + 1) (n - (i + 1))) ≡ g
-      unfolding twice
-      more-twice no-b = scan-more twice among refl (λ c rest. refl) f n i g l (sym again-is ∙ no-b)
+      pub each-duplicate-more : b ≡ false → hasDuplicate (each f i (n - i)) ≡ g → hasDuplicate (each f (i + 1) (n - (i + 1))) ≡ g
+      unfolding hasDuplicate
+      each-duplicate-more no-b = scan-more hasDuplicate (λ c rest. contains rest c) refl (λ c rest. refl) f n i g l (sym again-is ∙ no-b)
 
   module _ (l : n ≤ i) where
-    pub ended-among : (d : Address) → among d (each f i (n - i)) ≡ g → false ≡ g
-    unfolding among
-    ended-among d = scan-ended (among d) (λ c rest. same c d) refl (λ c rest. refl) f n i g l
+    pub each-contains-ended : (d : Address) → contains (each f i (n - i)) d ≡ g → false ≡ g
+    unfolding contains
+    each-contains-ended d = scan-ended (λ (l : List Address). contains l d) (λ c rest. same c d) refl (λ c rest. refl) f n i g l
 
-    pub ended-twice : twice (each f i (n - i)) ≡ g → false ≡ g
-    unfolding twice
-    ended-twice = scan-ended twice among refl (λ c rest. refl) f n i g l
+    pub each-duplicate-ended : hasDuplicate (each f i (n - i)) ≡ g → false ≡ g
+    unfolding hasDuplicate
+    each-duplicate-ended = scan-ended hasDuplicate (λ c rest. contains rest c) refl (λ c rest. refl) f n i g l
 
 -- as the loops ask it: n entries, at entry i, and g what the whole scan gives
 module _ (k : ListKind) (part : List ℕ) (n : ℕ) (ne : n ≡ entriesIn k part) (i : ℕ) (g : Bool) where
@@ -215,22 +215,22 @@ module _ (k : ListKind) (part : List ℕ) (n : ℕ) (ne : n ≡ entriesIn k part
             (addressIn k part) (entriesIn k part) i g entry-there (ap not (sym allowed-is) ∙ yes-b)
 
       module _ (d : Address) where
-        pub among-found : a .0 ≡ d .0 → among d (addressesFrom k part i) ≡ g → true ≡ g
+        pub contains-found : a .0 ≡ d .0 → contains (addressesFrom k part i) d ≡ g → true ≡ g
         unfolding addressesFrom
-        among-found = found-among (addressIn k part) (entriesIn k part) i g entry-there a ae d
+        contains-found = each-contains-found (addressIn k part) (entriesIn k part) i g entry-there a ae d
 
-        pub among-more : (a .0 ≡ d .0 → ⊥) → among d (addressesFrom k part i) ≡ g → among d (addressesFrom k part (i + 1)) ≡ g
+        pub contains-more : (a .0 ≡ d .0 → ⊥) → contains (addressesFrom k part i) d ≡ g → contains (addressesFrom k part (i + 1)) d ≡ g
         unfolding addressesFrom
-        among-more = more-among (addressIn k part) (entriesIn k part) i g entry-there a ae d
+        contains-more = each-contains-more (addressIn k part) (entriesIn k part) i g entry-there a ae d
 
-      module _ (b : Bool) (be : b ≡ among a (addressesFrom k part (i + 1))) where
-        pub twice-found : b ≡ true → twice (addressesFrom k part i) ≡ g → true ≡ g
+      module _ (b : Bool) (be : b ≡ contains (addressesFrom k part (i + 1)) a) where
+        pub duplicate-found : b ≡ true → hasDuplicate (addressesFrom k part i) ≡ g → true ≡ g
         unfolding addressesFrom
-        twice-found = found-twice (addressIn k part) (entriesIn k part) i g entry-there a ae b be
+        duplicate-found = each-duplicate-found (addressIn k part) (entriesIn k part) i g entry-there a ae b be
 
-        pub twice-more : b ≡ false → twice (addressesFrom k part i) ≡ g → twice (addressesFrom k part (i + 1)) ≡ g
+        pub duplicate-more : b ≡ false → hasDuplicate (addressesFrom k part i) ≡ g → hasDuplicate (addressesFrom k part (i + 1)) ≡ g
         unfolding addressesFrom
-        twice-more = more-twice (addressIn k part) (entriesIn k part) i g entry-there a ae b be
+        duplicate-more = each-duplicate-more (addressIn k part) (entriesIn k part) i g entry-there a ae b be
 
   module _ (l : n ≤ i) where
     all-passed : entriesIn k part ≤ i
@@ -242,16 +242,16 @@ module _ (k : ListKind) (part : List ℕ) (n : ℕ) (ne : n ≡ entriesIn k part
         scan-ended (anyForbidden k) (λ c rest. not (allowed k c)) refl (λ c rest. refl)
         (addressIn k part) (entriesIn k part) i g all-passed
 
-    pub among-ended : (d : Address) → among d (addressesFrom k part i) ≡ g → false ≡ g
+    pub contains-ended : (d : Address) → contains (addressesFrom k part i) d ≡ g → false ≡ g
     unfolding addressesFrom
-    among-ended = ended-among (addressIn k part) (entriesIn k part) i g all-passed
+    contains-ended = each-contains-ended (addressIn k part) (entriesIn k part) i g all-passed
 
-    pub twice-ended : twice (addressesFrom k part i) ≡ g → false ≡ g
+    pub duplicate-ended : hasDuplicate (addressesFrom k part i) ≡ g → false ≡ g
     unfolding addressesFrom
-    twice-ended = ended-twice (addressIn k part) (entriesIn k part) i g all-passed
+    duplicate-ended = each-duplicate-ended (addressIn k part) (entriesIn k part) i g all-passed
 
 module _ (k : ListKind) (part : List ℕ) where
-  pub ones-beside : (b : Bool) (n : ℕ) → b ≡ among allOnes (addressesIn k part) → n ≡ entriesIn k part
+  pub ones-beside : (b : Bool) (n : ℕ) → b ≡ contains (addressesIn k part) allOnes → n ≡ entriesIn k part
       → (b && ltb 1 n) ≡ onesBesideOthers (addressesIn k part)
   unfolding onesBesideOthers addressesFrom
   ones-beside b n be ne =

@@ -1,5 +1,5 @@
 -- Entries of a list: by index, one after another, and what holds of all. Those of an element's list part, and
--- the items of an ask. Assumes nothing.
+-- the items of an ask.
 use Prim.Native.Nat.{ℕ, zero, suc, _*_, _/_}
 use mathlib.Core.List.{List, [], _∷_}
 use lib.ListN.{length, getD}

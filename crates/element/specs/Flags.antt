@@ -1,4 +1,4 @@
--- The bits of flags. Those that are not named here are reserved: ignored and passed on. Assumes nothing.
+-- The bits of flags. Those that are not named here are reserved: ignored and passed on.
 use Prim.Native.Nat.{ℕ, _+_, _*_, _/_, _%_, _^_}
 use mathlib.Core.Bool.{Bool}
 use lib.Dec.{eqb}

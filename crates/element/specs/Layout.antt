@@ -1,5 +1,5 @@
 -- 'Element octets' of document 01: for each type the ID, the Length with N entries, how many there may be, and the widths
--- of the fields; for each kind of list the octets of an entry. Assumes nothing.
+-- of the fields; for each kind of list the octets of an entry.
 use Prim.Native.Nat.{ℕ, _+_, _*_, _%_, _≤_}
 use mathlib.Core.Path.{_≡_}
 use mathlib.Core.Bool.{Bool, _&&_, _||_, cond}

@@ -1,5 +1,5 @@
 -- The addresses in a list part or in the items of an ask, and what can be wrong with them: what refusals 9 and 10 ask of
--- destinations. Receive passes the dependents of a RREP on unread. Assumes nothing.
+-- destinations. Receive passes the dependents of a RREP on unread.
 use Prim.Native.Nat.{ℕ, _-_, _^_}
 use mathlib.Core.Bool.{Bool, false, _&&_, _||_, not}
 use mathlib.Core.List.{List, [], _∷_}
@@ -42,15 +42,15 @@ unfoldable pub anyForbidden : ListKind → List Address → Bool
 anyForbidden k [] = false
 anyForbidden k (a ∷ rest) = not (allowed k a) || anyForbidden k rest
 
-unfoldable pub among : Address → List Address → Bool
-among a [] = false
-among a (b ∷ rest) = same b a || among a rest
+unfoldable pub contains : List Address → Address → Bool
+contains [] a = false
+contains (b ∷ rest) a = same b a || contains rest a
 
 -- an address twice
-unfoldable pub twice : List Address → Bool
-twice [] = false
-twice (a ∷ rest) = among a rest || twice rest
+unfoldable pub hasDuplicate : List Address → Bool
+hasDuplicate [] = false
+hasDuplicate (a ∷ rest) = contains rest a || hasDuplicate rest
 
 -- all ones beside others
 unfoldable pub onesBesideOthers : List Address → Bool
-onesBesideOthers l = among allOnes l && ltb 1 (length l)
+onesBesideOthers l = contains l allOnes && ltb 1 (length l)

@@ -1,4 +1,4 @@
--- Elements as octets: what is turned away (6, 7, 8), what is read, and what is written. Assumes nothing.
+-- Elements as octets: what is turned away (6, 7, 8), what is read, and what is written.
 use Prim.Native.Nat.{ℕ, _+_}
 use mathlib.Core.Bool.{Bool, _||_, not, cond}
 use mathlib.Core.List.{List, [], _∷_, _++_, flatMap}

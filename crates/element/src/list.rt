@@ -19,10 +19,10 @@ ghost use Rattle.element.specs.Lists.{
   addressesFrom,
   addressesIn,
   allowed,
-  among,
+  contains,
   anyForbidden,
   onesBesideOthers,
-  twice,
+  hasDuplicate,
 };
 
 // Every point: as a receiver, and as the destination of a root request.
@@ -155,8 +155,8 @@ pub fn has_forbidden(part: &[u8], kind: ListKind) -> bool
 }
 
 // Whether the address stands at entry from or after it.
-fn is_among_from(part: &[u8], kind: ListKind, from: usize, address: Address) -> bool
-    ensures { λ r. ⌜ r ≡ among address (addressesFrom kind (now (part .entry)) from) ⌝ }
+fn contains_from(part: &[u8], kind: ListKind, from: usize, address: Address) -> bool
+    ensures { λ r. ⌜ r ≡ contains (addressesFrom kind (now (part .entry)) from) address ⌝ }
 {
     let n = entries_in(part, kind);
     let mut i = from;
@@ -169,27 +169,27 @@ fn is_among_from(part: &[u8], kind: ListKind, from: usize, address: Address) -> 
     false
 }
 
-pub fn is_among(part: &[u8], kind: ListKind, address: Address) -> bool
-    ensures { λ r. ⌜ r ≡ among address (addressesIn kind (now (part .entry))) ⌝ }
+pub fn contains(part: &[u8], kind: ListKind, address: Address) -> bool
+    ensures { λ r. ⌜ r ≡ contains (addressesIn kind (now (part .entry))) address ⌝ }
 {
-    is_among_from(part, kind, 0, address)
+    contains_from(part, kind, 0, address)
 }
 
 // Whether the address stands at entry from or after it, where mark 0 says that it does not.
 fn is_again(part: &[u8], kind: ListKind, from: usize, address: Address, mark: u8) -> bool
-    ensures { λ r. ⌜ r ≡ (not (eqb mark 0) && among address (addressesFrom kind (now (part .entry)) from)) ⌝ }
+    ensures { λ r. ⌜ r ≡ (not (eqb mark 0) && contains (addressesFrom kind (now (part .entry)) from) address) ⌝ }
 {
     if mark == 0 {
         return false;
     }
-    is_among_from(part, kind, from, address)
+    contains_from(part, kind, from, address)
 }
 
 // Marks the address of each entry in seen, from the last entry down. Two addresses may share a mark: then the entries after are
 // searched.
-fn has_twice_by_marks(part: &[u8], kind: ListKind, seen: &mut [u8], last: usize) -> bool
+fn has_duplicate_by_marks(part: &[u8], kind: ListKind, seen: &mut [u8], last: usize) -> bool
     requires { ⌜ length (now seen) ≡ last + 1 ⌝ }
-    ensures { λ r. ⌜ r ≡ twice (addressesIn kind (now (part .entry))) ⌝ }
+    ensures { λ r. ⌜ r ≡ hasDuplicate (addressesIn kind (now (part .entry))) ⌝ }
 {
     let mut from = entries_in(part, kind);
     while 0 < from {
@@ -205,18 +205,18 @@ fn has_twice_by_marks(part: &[u8], kind: ListKind, seen: &mut [u8], last: usize)
     false
 }
 
-pub fn has_twice(part: &[u8], kind: ListKind) -> bool
-    ensures { λ r. ⌜ r ≡ twice (addressesIn kind (now (part .entry))) ⌝ }
+pub fn has_duplicate(part: &[u8], kind: ListKind) -> bool
+    ensures { λ r. ⌜ r ≡ hasDuplicate (addressesIn kind (now (part .entry))) ⌝ }
 {
     if entries_in(part, kind) <= 1 {
         return false;
     }
     let mut seen = [0u8; 256];
-    has_twice_by_marks(part, kind, &mut seen, 255)
+    has_duplicate_by_marks(part, kind, &mut seen, 255)
 }
 
 pub fn has_ones_beside_others(part: &[u8], kind: ListKind) -> bool
     ensures { λ r. ⌜ r ≡ onesBesideOthers (addressesIn kind (now (part .entry))) ⌝ }
 {
-    is_among(part, kind, Address(ALL_ONES)) & (1 < entries_in(part, kind))
+    contains(part, kind, Address(ALL_ONES)) & (1 < entries_in(part, kind))
 }

@@ -13,7 +13,7 @@ ghost use mathlib.Core.Path.{_≡_};
 ghost use mathlib.Core.List.{_++_};
 ghost use Prim.Native.Nat.{_+_, _≤_};
 ghost use lib.ListN.{length};
-ghost use Rattle.octets.specs.LittleEndian.{fieldOctets, numberOctets, over, total};
+ghost use Rattle.octets.specs.LittleEndian.{fieldOctets, numberOctets, overwrite, total};
 ghost use Rattle.element.specs.declared.Kind.{Kind};
 ghost use Rattle.element.specs.Element.{rann, rannNumbers, rerrNumbers, rrep, rrepNumbers, rreq, rreqNumbers};
 ghost use Rattle.element.specs.Entries.{lostOctets, numberedIn, targetOctets, targetsIn};
@@ -35,7 +35,7 @@ fn start_frame(out: &mut [u8], at: usize, to: Address, widths: &[u8], numbers: &
     requires { ⌜ at + 6 + total (now widths) ≤ length (now out) ⌝ }
     requires { ⌜ length (now widths) ≡ length (now numbers) ⌝ }
     ensures { λ _. ⌜ now (out .exit)
-        ≡ over (now (out .entry)) at (numberOctets 6 (to .0) ++ fieldOctets (now (widths .entry)) (now (numbers .entry))) ⌝ }
+        ≡ overwrite (now (out .entry)) at (numberOctets 6 (to .0) ++ fieldOctets (now (widths .entry)) (now (numbers .entry))) ⌝ }
 {
     octets::write_number(out, at, 6, to.0);
     octets::write_fields(out, at + 6, widths, numbers);
@@ -63,7 +63,7 @@ pub fn rann_numbers(p: PathInfo) -> [u64; 9]
 pub fn write_rann(out: &mut [u8], at: usize, to: Address, path: PathInfo) -> usize
     requires { ⌜ at + startOctets Kind.Rann ≤ length (now out) ⌝ }
     ensures { λ r. ⌜ r ≡ at + startOctets Kind.Rann ⌝ }
-    ensures { λ _. ⌜ now (out .exit) ≡ over (now (out .entry)) at (writeFrame to (rann path)) ⌝ }
+    ensures { λ _. ⌜ now (out .exit) ≡ overwrite (now (out .entry)) at (writeFrame to (rann path)) ⌝ }
 {
     let widths = [1u8, 1, 1, 1, 1, 6, 4, 4, 4];
     let numbers = rann_numbers(path);
@@ -99,7 +99,7 @@ pub fn start_rreq(out: &mut [u8], at: usize, to: Address, f: RreqFields, n: usiz
     requires { ⌜ n ≤ most Kind.Rreq ⌝ }
     requires { ⌜ at + startOctets Kind.Rreq ≤ length (now out) ⌝ }
     ensures { λ r. ⌜ r ≡ at + startOctets Kind.Rreq ⌝ }
-    ensures { λ _. ⌜ now (out .exit) ≡ over (now (out .entry)) at (frameStart to Kind.Rreq n (rreqNumbers f)) ⌝ }
+    ensures { λ _. ⌜ now (out .exit) ≡ overwrite (now (out .entry)) at (frameStart to Kind.Rreq n (rreqNumbers f)) ⌝ }
 {
     let widths = [1u8, 1, 1, 1, 1, 4, 6, 4, 4, 4, 1];
     let numbers = rreq_numbers(f, n);
@@ -110,7 +110,7 @@ pub fn start_rreq(out: &mut [u8], at: usize, to: Address, f: RreqFields, n: usiz
 pub fn write_target(out: &mut [u8], at: usize, target: Target) -> usize
     requires { ⌜ at + sizeOf ListKind.Targets ≤ length (now out) ⌝ }
     ensures { λ r. ⌜ r ≡ at + sizeOf ListKind.Targets ⌝ }
-    ensures { λ _. ⌜ now (out .exit) ≡ over (now (out .entry)) at (targetOctets target) ⌝ }
+    ensures { λ _. ⌜ now (out .exit) ≡ overwrite (now (out .entry)) at (targetOctets target) ⌝ }
 {
     let widths = [1u8, 6, 4];
     let numbers = [
@@ -127,7 +127,8 @@ pub fn write_rreq(out: &mut [u8], at: usize, to: Address, f: RreqFields, part: &
     requires { ⌜ PartOf Kind.Rreq (now part) ⌝ }
     requires { ⌜ at + startOctets Kind.Rreq + length (now part) ≤ length (now out) ⌝ }
     ensures { λ r. ⌜ r ≡ at + startOctets Kind.Rreq + length (now (part .entry)) ⌝ }
-    ensures { λ _. ⌜ now (out .exit) ≡ over (now (out .entry)) at (writeFrame to (rreq f (targetsIn (now (part .entry))))) ⌝ }
+    ensures { λ _. ⌜ now (out .exit)
+        ≡ overwrite (now (out .entry)) at (writeFrame to (rreq f (targetsIn (now (part .entry))))) ⌝ }
 {
     let place = start_rreq(out, at, to, f, list::entries_in(part, ListKind::Targets));
     octets::write_octets(out, place, part);
@@ -164,7 +165,7 @@ pub fn start_rrep(out: &mut [u8], at: usize, to: Address, f: RrepFields, n: usiz
     requires { ⌜ n ≤ most Kind.Rrep ⌝ }
     requires { ⌜ at + startOctets Kind.Rrep ≤ length (now out) ⌝ }
     ensures { λ r. ⌜ r ≡ at + startOctets Kind.Rrep ⌝ }
-    ensures { λ _. ⌜ now (out .exit) ≡ over (now (out .entry)) at (frameStart to Kind.Rrep n (rrepNumbers f)) ⌝ }
+    ensures { λ _. ⌜ now (out .exit) ≡ overwrite (now (out .entry)) at (frameStart to Kind.Rrep n (rrepNumbers f)) ⌝ }
 {
     let widths = [1u8, 1, 1, 1, 1, 6, 4, 4, 4, 6, 4, 1];
     let numbers = rrep_numbers(f, n);
@@ -177,7 +178,8 @@ pub fn write_rrep(out: &mut [u8], at: usize, to: Address, f: RrepFields, part: &
     requires { ⌜ PartOf Kind.Rrep (now part) ⌝ }
     requires { ⌜ at + startOctets Kind.Rrep + length (now part) ≤ length (now out) ⌝ }
     ensures { λ r. ⌜ r ≡ at + startOctets Kind.Rrep + length (now (part .entry)) ⌝ }
-    ensures { λ _. ⌜ now (out .exit) ≡ over (now (out .entry)) at (writeFrame to (rrep f (numberedIn (now (part .entry))))) ⌝ }
+    ensures { λ _. ⌜ now (out .exit)
+        ≡ overwrite (now (out .entry)) at (writeFrame to (rrep f (numberedIn (now (part .entry))))) ⌝ }
 {
     let place = start_rrep(out, at, to, f, list::entries_in(part, ListKind::Dependents));
     octets::write_octets(out, place, part);
@@ -199,7 +201,7 @@ pub fn start_rerr(out: &mut [u8], at: usize, to: Address, f: RerrFields, n: usiz
     requires { ⌜ n ≤ most Kind.Rerr ⌝ }
     requires { ⌜ at + startOctets Kind.Rerr ≤ length (now out) ⌝ }
     ensures { λ r. ⌜ r ≡ at + startOctets Kind.Rerr ⌝ }
-    ensures { λ _. ⌜ now (out .exit) ≡ over (now (out .entry)) at (frameStart to Kind.Rerr n (rerrNumbers f)) ⌝ }
+    ensures { λ _. ⌜ now (out .exit) ≡ overwrite (now (out .entry)) at (frameStart to Kind.Rerr n (rerrNumbers f)) ⌝ }
 {
     let widths = [1u8, 1, 1, 1];
     let numbers = rerr_numbers(f, n);
@@ -210,7 +212,7 @@ pub fn start_rerr(out: &mut [u8], at: usize, to: Address, f: RerrFields, n: usiz
 pub fn write_lost(out: &mut [u8], at: usize, lost: LostDestination) -> usize
     requires { ⌜ at + sizeOf ListKind.LostDestinations ≤ length (now out) ⌝ }
     ensures { λ r. ⌜ r ≡ at + sizeOf ListKind.LostDestinations ⌝ }
-    ensures { λ _. ⌜ now (out .exit) ≡ over (now (out .entry)) at (lostOctets lost) ⌝ }
+    ensures { λ _. ⌜ now (out .exit) ≡ overwrite (now (out .entry)) at (lostOctets lost) ⌝ }
 {
     let widths = [6u8, 4];
     let numbers = [lost.address.0, lost.number.0 as u64];

@@ -1,26 +1,26 @@
--- What C gets of a decision. Assumes nothing.
+-- What C gets of a decision.
 use Prim.Native.Nat.{ℕ}
 use mathlib.Core.List.{List}
 use Rattle.octets.specs.LittleEndian.{zeros}
 use Rattle.table.specs.declared.address.Address.{Address}
 use Rattle.table.specs.Address.{octetsOf}
 use Rattle.rules.specs.Decision.{Decision, refused, accepted}
-use Rattle.rules.specs.Outcome.{Lent, Exit}
+use Rattle.rules.specs.Exit.{Lent, Exit}
 use Rattle.calls.specs.declared.Outcome.{Outcome}
 use Rattle.calls.specs.declared.Outcome.the-variants.{Accepted, Refused}
 use Rattle.hwmp.specs.declared.HwmpHop.{HwmpHop}
 use Rattle.hwmp.specs.declared.HwmpOutcome.{HwmpOutcome}
 
 -- answer 0 and the next hop, or the refusal's number and zeros
-abbrev pub hopFor : Decision Address → HwmpHop
-hopFor (accepted a) = record { answer = 0; address = octetsOf a }
-hopFor (refused n) = record { answer = n; address = zeros 6 }
+abbrev pub hopForC : Decision Address → HwmpHop
+hopForC (accepted a) = record { answer = 0; address = octetsOf a }
+hopForC (refused n) = record { answer = n; address = zeros 6 }
 
 -- answer 0 and what was written, or the refusal's number and zeros
-abbrev pub outcomeFor : Outcome → HwmpOutcome
-outcomeFor (Accepted e) = record { answer = 0; frames = e .frames; octets = e .octets }
-outcomeFor (Refused n) = record { answer = n; frames = 0; octets = 0 }
+abbrev pub outcomeForC : Outcome → HwmpOutcome
+outcomeForC (Accepted e) = record { answer = 0; frames = e .frames; octets = e .octets }
+outcomeForC (Refused n) = record { answer = n; frames = 0; octets = 0 }
 
 -- what C gets, with what the call leaves in what it was lent and in the output
-abbrev pub leaving : HwmpOutcome → Lent → List ℕ → Exit
-leaving r l output = record { answer = r .answer; frames = r .frames; octets = r .octets; lent = l; output = output }
+abbrev pub exitForC : HwmpOutcome → Lent → List ℕ → Exit
+exitForC r l output = record { answer = r .answer; frames = r .frames; octets = r .octets; lent = l; output = output }

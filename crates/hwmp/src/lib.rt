@@ -15,20 +15,22 @@ use table_calls::next_hop::Hop;
 use walk::Walked;
 ghost use mathlib.Core.Path.{_≡_};
 ghost use Prim.Native.Nat.{_≤_};
-ghost use lib.ListN.{length};
 ghost use Rattle.table.specs.Address.{addressOf};
-ghost use Rattle.rules.specs.Decision.{left};
-ghost use Rattle.rules.specs.Outcome.{atExit, lend};
-ghost use Rattle.rules.specs.Fresh.{makeFresh};
-ghost use Rattle.rules.specs.Forget.{forget};
+ghost use Rattle.rules.specs.Exit.{lend};
+ghost use Rattle.rules.specs.Exits.{
+  announceExit,
+  askExit,
+  breakExit,
+  forgetExit,
+  freshExit,
+  receiveExit,
+  rootRequestExit,
+  walkExit,
+};
 ghost use Rattle.rules.specs.NextHop.{nextHop};
-ghost use Rattle.rules.specs.Receive.{receive};
-ghost use Rattle.rules.specs.Originate.{announce, ask, rootRequest};
-ghost use Rattle.rules.specs.Break.{breakNeighbour};
-ghost use Rattle.rules.specs.Walk.{walk, walkedAtExit};
-ghost use Rattle.table_calls.specs.Answers.{decisionOf};
+ghost use Rattle.table_calls.specs.Answers.{hopDecision};
 ghost use Rattle.walk.specs.Answers.{numbersOf};
-ghost use Rattle.hwmp.specs.ForC.{hopFor, leaving, outcomeFor};
+ghost use Rattle.hwmp.specs.ForC.{hopForC, exitForC, outcomeForC};
 
 #[repr(C)]
 pub struct HwmpHop {
@@ -44,8 +46,8 @@ pub struct HwmpOutcome {
 }
 
 // A next hop as C gets it: answer 0 and the address, or the refusal's number and zeros.
-fn hop_for(hop: Hop) -> HwmpHop
-    ensures { λ r. ⌜ r ≡ hopFor (decisionOf hop) ⌝ }
+fn hop_for_c(hop: Hop) -> HwmpHop
+    ensures { λ r. ⌜ r ≡ hopForC (hopDecision hop) ⌝ }
 {
     match hop {
         Hop::Via(next) => {
@@ -60,8 +62,8 @@ fn hop_for(hop: Hop) -> HwmpHop
 }
 
 // What a call that may emit frames gives to C: answer 0 and what was written, or the refusal's number and zeros.
-fn outcome_for(outcome: Outcome) -> HwmpOutcome
-    ensures { λ r. ⌜ r ≡ outcomeFor outcome ⌝ }
+fn outcome_for_c(outcome: Outcome) -> HwmpOutcome
+    ensures { λ r. ⌜ r ≡ outcomeForC outcome ⌝ }
 {
     match outcome {
         Outcome::Accepted(emitted) => HwmpOutcome {
@@ -80,7 +82,7 @@ fn outcome_for(outcome: Outcome) -> HwmpOutcome
 #[no_mangle]
 pub extern "C" fn hwmp_fresh(table: &mut [u8], own: &[u8; 6], number: u32) -> u32
     ensures { λ r. ⌜ record { answer = r; table = now (table .exit) }
-        ≡ left (now (table .entry)) (makeFresh (now (table .entry)) (addressOf (now (own .entry))) (record { 0 = number })) ⌝ }
+        ≡ freshExit (now (table .entry)) (addressOf (now (own .entry))) (record { 0 = number }) ⌝ }
 {
     calls::number_of(fresh::make_fresh(table, address::read(own), SequenceNumber(number)))
 }
@@ -88,16 +90,16 @@ pub extern "C" fn hwmp_fresh(table: &mut [u8], own: &[u8; 6], number: u32) -> u3
 #[no_mangle]
 pub extern "C" fn hwmp_forget(table: &mut [u8], destination: &[u8; 6]) -> u32
     ensures { λ r. ⌜ record { answer = r; table = now (table .exit) }
-        ≡ left (now (table .entry)) (forget (now (table .entry)) (addressOf (now (destination .entry)))) ⌝ }
+        ≡ forgetExit (now (table .entry)) (addressOf (now (destination .entry))) ⌝ }
 {
     calls::number_of(forget::forget(table, address::read(destination)))
 }
 
 #[no_mangle]
 pub extern "C" fn hwmp_next_hop(table: &[u8], clock: u64, destination: &[u8; 6]) -> HwmpHop
-    ensures { λ r. ⌜ r ≡ hopFor (nextHop (now (table .entry)) clock (addressOf (now (destination .entry)))) ⌝ }
+    ensures { λ r. ⌜ r ≡ hopForC (nextHop (now (table .entry)) clock (addressOf (now (destination .entry)))) ⌝ }
 {
-    hop_for(next_hop::next_hop(table, clock, address::read(destination)))
+    hop_for_c(next_hop::next_hop(table, clock, address::read(destination)))
 }
 
 #[no_mangle]
@@ -109,18 +111,17 @@ pub extern "C" fn hwmp_receive(
     link: u32,
     element: &[u8],
 ) -> HwmpOutcome
-    ensures { λ r. ⌜ leaving r (lend (now (table .exit))) (now (output .exit))
-        ≡ atExit (lend (now (table .entry))) (now (output .entry))
-        (receive (lend (now (table .entry))) (length (now (output .entry)))
+    ensures { λ r. ⌜ exitForC r (lend (now (table .exit))) (now (output .exit))
+        ≡ receiveExit (lend (now (table .entry))) (now (output .entry))
         (record { clock = clock; transmitter = addressOf (now (transmitter .entry)); link = record { 0 = link } })
-        (now (element .entry))) ⌝ }
+        (now (element .entry)) ⌝ }
 {
     let arrival = Arrival {
         clock,
         transmitter: address::read(transmitter),
         link: Metric(link),
     };
-    outcome_for(receive::receive(table, output, arrival, element))
+    outcome_for_c(receive::receive(table, output, arrival, element))
 }
 
 #[no_mangle]
@@ -130,11 +131,10 @@ pub extern "C" fn hwmp_ask(
     lifetime: u32,
     items: &[u8],
 ) -> HwmpOutcome
-    ensures { λ r. ⌜ leaving r (lend (now (table .exit))) (now (output .exit))
-        ≡ atExit (lend (now (table .entry))) (now (output .entry))
-        (ask (lend (now (table .entry))) (length (now (output .entry))) lifetime (now (items .entry))) ⌝ }
+    ensures { λ r. ⌜ exitForC r (lend (now (table .exit))) (now (output .exit))
+        ≡ askExit (lend (now (table .entry))) (now (output .entry)) lifetime (now (items .entry)) ⌝ }
 {
-    outcome_for(ask::ask(table, output, lifetime, items))
+    outcome_for_c(ask::ask(table, output, lifetime, items))
 }
 
 #[no_mangle]
@@ -144,11 +144,10 @@ pub extern "C" fn hwmp_announce(
     flags: u8,
     lifetime: u32,
 ) -> HwmpOutcome
-    ensures { λ r. ⌜ leaving r (lend (now (table .exit))) (now (output .exit))
-        ≡ atExit (lend (now (table .entry))) (now (output .entry))
-        (announce (lend (now (table .entry))) (length (now (output .entry))) flags lifetime) ⌝ }
+    ensures { λ r. ⌜ exitForC r (lend (now (table .exit))) (now (output .exit))
+        ≡ announceExit (lend (now (table .entry))) (now (output .entry)) flags lifetime ⌝ }
 {
-    outcome_for(announce::announce(table, output, flags, lifetime))
+    outcome_for_c(announce::announce(table, output, flags, lifetime))
 }
 
 #[no_mangle]
@@ -158,11 +157,10 @@ pub extern "C" fn hwmp_root_request(
     flags: u8,
     lifetime: u32,
 ) -> HwmpOutcome
-    ensures { λ r. ⌜ leaving r (lend (now (table .exit))) (now (output .exit))
-        ≡ atExit (lend (now (table .entry))) (now (output .entry))
-        (rootRequest (lend (now (table .entry))) (length (now (output .entry))) flags lifetime) ⌝ }
+    ensures { λ r. ⌜ exitForC r (lend (now (table .exit))) (now (output .exit))
+        ≡ rootRequestExit (lend (now (table .entry))) (now (output .entry)) flags lifetime ⌝ }
 {
-    outcome_for(root_request::root_request(table, output, flags, lifetime))
+    outcome_for_c(root_request::root_request(table, output, flags, lifetime))
 }
 
 #[no_mangle]
@@ -172,12 +170,10 @@ pub extern "C" fn hwmp_break(
     clock: u64,
     neighbour: &[u8; 6],
 ) -> HwmpOutcome
-    ensures { λ r. ⌜ leaving r (lend (now (table .exit))) (now (output .exit))
-        ≡ atExit (lend (now (table .entry))) (now (output .entry))
-        (breakNeighbour (lend (now (table .entry))) (length (now (output .entry))) clock
-        (addressOf (now (neighbour .entry)))) ⌝ }
+    ensures { λ r. ⌜ exitForC r (lend (now (table .exit))) (now (output .exit))
+        ≡ breakExit (lend (now (table .entry))) (now (output .entry)) clock (addressOf (now (neighbour .entry))) ⌝ }
 {
-    outcome_for(break_neighbour::break_neighbour(table, output, clock, address::read(neighbour)))
+    outcome_for_c(break_neighbour::break_neighbour(table, output, clock, address::read(neighbour)))
 }
 
 #[no_mangle]
@@ -189,8 +185,7 @@ pub extern "C" fn hwmp_walk(
     destination: &[u8; 6],
 ) -> Walked
     ensures { λ r. ⌜ numbersOf r
-        ≡ walkedAtExit (walk (now (tables .entry)) count clock (addressOf (now (start .entry)))
-        (addressOf (now (destination .entry)))) ⌝ }
+        ≡ walkExit (now (tables .entry)) count clock (addressOf (now (start .entry))) (addressOf (now (destination .entry))) ⌝ }
     ensures { λ r. ⌜ r .hops ≤ count ⌝ }
 {
     let from = address::read(start);

@@ -1,4 +1,4 @@
--- Refusal 27, case by case, as the code asks it. Assumes nothing.
+-- Refusal 27, case by case, as the code asks it.
 use Prim.Native.Nat.{ℕ, _+_}
 use mathlib.Core.Path.{_≡_, refl, sym, ap₂, _∙_}
 use mathlib.Core.Bool.{false, cond}

@@ -1,4 +1,4 @@
--- Steps 1 and 2, case by case, as the code asks it. Assumes nothing.
+-- Steps 1 and 2, case by case, as the code asks it.
 use Prim.Native.Nat.{ℕ, _+_}
 use mathlib.Core.Path.{_≡_, refl, sym, ap, _∙_}
 use mathlib.Core.Bool.{Bool, true, false, not, _&&_, _||_}

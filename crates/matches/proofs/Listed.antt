@@ -1,4 +1,4 @@
--- The matches written one after another, and the RERR that they make, as the code asks it. Assumes nothing.
+-- The matches written one after another, and the RERR that they make, as the code asks it.
 use Prim.Native.Nat.{ℕ, _+_, _-_, _*_, _/_, _<_, _≤_}
 use mathlib.Core.Path.{_≡_, refl, sym, ap, _∙_}
 use mathlib.Core.Bool.{Bool, true, false, not, cond}
@@ -6,7 +6,7 @@ use mathlib.Core.List.{List, [], _∷_, _++_, flatMap}
 use lib.ListN.{length}
 use native.Mathlib.Omega.{arith}
 use borrow.Author.Tests.{not-true, not-false}
-use Rattle.octets.specs.LittleEndian.{over}
+use Rattle.octets.specs.LittleEndian.{overwrite}
 use Rattle.element.specs.declared.Kind.the-variants.{Rerr}
 use Rattle.element.specs.declared.LostDestination.{LostDestination}
 use Rattle.element.specs.declared.RerrFields.{RerrFields}
@@ -22,17 +22,17 @@ use Rattle.element.proofs.Sizes.{frame-length}
 use Rattle.element.proofs.Written.{lost-length, started-last}
 use Rattle.rules.specs.declared.Arrival.{Arrival}
 use Rattle.rules.specs.Errors.{matches}
-use Rattle.rules.specs.Lists.{any, those}
+use Rattle.rules.specs.Lists.{any, filter}
 use Rattle.rules.specs.Onward.{toAll}
-use Rattle.rules.specs.Outcome.{frameOctets}
-use Rattle.rules.proofs.Alls.{those-fewer}
+use Rattle.rules.specs.Exit.{frameOctets}
+use Rattle.rules.proofs.Alls.{filter-fewer}
 use Rattle.rules.proofs.Branches.{cond-cases}
 use Rattle.rules.proofs.FrameOctets.{one-frame}
 use Rattle.matches.specs.Report.{matchOctets}
 
 -- those of these destinations that match
 abbrev matched : List ℕ → Arrival → List LostDestination → List LostDestination
-matched t a named = those (matches t (a .clock) (a .transmitter)) named
+matched t a named = filter (matches t (a .clock) (a .transmitter)) named
 
 -- ---- one destination: written, or not
 
@@ -46,7 +46,7 @@ module _ (t : List ℕ) (a : Arrival) (m : LostDestination) where
       pub other-place : at ≡ at + length (matchOctets t a m)
       other-place = skipped-place s at (matchOctets t a m) nothing
 
-      pub other-written : s ≡ over s at (matchOctets t a m)
+      pub other-written : s ≡ overwrite s at (matchOctets t a m)
       other-written = skipped-written s at (matchOctets t a m) nothing
 
     module _ (e : not b ≡ false) where
@@ -57,8 +57,8 @@ module _ (t : List ℕ) (a : Arrival) (m : LostDestination) where
       pub match-place : (r : ℕ) → r ≡ at + 10 → r ≡ at + length (matchOctets t a m)
       match-place r re = re ∙ ap (λ (k : ℕ). at + k) (sym (lost-length m) ∙ ap length itself)
 
-      pub match-written : (v : List ℕ) → v ≡ over s at (lostOctets m) → v ≡ over s at (matchOctets t a m)
-      match-written v ve = ve ∙ ap (over s at) itself
+      pub match-written : (v : List ℕ) → v ≡ overwrite s at (lostOctets m) → v ≡ overwrite s at (matchOctets t a m)
+      match-written v ve = ve ∙ ap (overwrite s at) itself
 
   match-short : length (matchOctets t a m) ≤ 10
   unfolding matchOctets
@@ -69,7 +69,7 @@ module _ (t : List ℕ) (a : Arrival) (m : LostDestination) where
 
 matches-octets : (t : List ℕ) (a : Arrival) (named : List LostDestination)
     → flatMap (matchOctets t a) named ≡ flatMap lostOctets (matched t a named)
-unfolding matchOctets those flatMap
+unfolding matchOctets filter flatMap
 matches-octets t a [] = refl
 matches-octets t a (m ∷ named) = by (matches t (a .clock) (a .transmitter) m) (matches-octets t a named)
   where
@@ -86,7 +86,7 @@ module _ (t : List ℕ) (a : Arrival) (part out₀ : List ℕ) (at n i place : �
   reporting-room l ne room same-length = omega (arith, so-far .few)
 
   pub reporting-more : i < n → (m : LostDestination) → m ≡ lostAt part i → (place′ : ℕ) → place′ ≡ place + length (matchOctets t a m)
-      → (out′ : List ℕ) → out′ ≡ over out place (matchOctets t a m) → Reporting t a part out₀ at n (i + 1) place′ out′
+      → (out′ : List ℕ) → out′ ≡ overwrite out place (matchOctets t a m) → Reporting t a part out₀ at n (i + 1) place′ out′
   reporting-more l = listing-more (matchOctets t a) (lostAt part) n 10 out₀ at i place out so-far l (match-short t a (lostAt part i))
 
   module _ (l : n ≤ i) where
@@ -95,10 +95,10 @@ module _ (t : List ℕ) (a : Arrival) (part out₀ : List ℕ) (at n i place : �
         listing-counted (matchOctets t a) (lostAt part) n 10 out₀ at i place out so-far l
         ∙ ap (λ (p : List ℕ). at + length p) (matches-octets t a (each (lostAt part) 0 n))
 
-    pub all-written : out ≡ over out₀ at (flatMap lostOctets (matched t a (each (lostAt part) 0 n)))
+    pub all-written : out ≡ overwrite out₀ at (flatMap lostOctets (matched t a (each (lostAt part) 0 n)))
     all-written =
         listing-written (matchOctets t a) (lostAt part) n 10 out₀ at i place out so-far l
-        ∙ ap (over out₀ at) (matches-octets t a (each (lostAt part) 0 n))
+        ∙ ap (overwrite out₀ at) (matches-octets t a (each (lostAt part) 0 n))
 
 -- ---- the RERR from place at on, by the place after the matches
 
@@ -112,18 +112,18 @@ module _ (t : List ℕ) (a : Arrival) (part : List ℕ) (at end : ℕ) (pe : end
 
     pub error-few : PartOf Rerr part → n ≤ 25
     error-few l =
-        omega (arith, counted, l .short, those-fewer (matches t (a .clock) (a .transmitter)) (lostIn part), each-length (lostAt part) 0 (length part / 10))
+        omega (arith, counted, l .short, filter-fewer (matches t (a .clock) (a .transmitter)) (lostIn part), each-length (lostAt part) 0 (length part / 10))
 
-    pub error-written : (f : RerrFields) (output w v : List ℕ) → w ≡ over output (at + 10) (flatMap lostOctets (matched t a (lostIn part)))
-        → v ≡ over w at (frameStart allOnes Rerr n (rerrNumbers f))
-        → v ≡ over output at (frameOctets (toAll (rerr f (matched t a (lostIn part)))))
+    pub error-written : (f : RerrFields) (output w v : List ℕ) → w ≡ overwrite output (at + 10) (flatMap lostOctets (matched t a (lostIn part)))
+        → v ≡ overwrite w at (frameStart allOnes Rerr n (rerrNumbers f))
+        → v ≡ overwrite output at (frameOctets (toAll (rerr f (matched t a (lostIn part)))))
     error-written f output w v we ve =
         started-last allOnes output w v at (at + 10) (rerr f (matched t a (lostIn part))) n counted refl we ve
-        ∙ ap (over output at) (sym (one-frame (record { receiver = allOnes; element = rerr f (matched t a (lostIn part)) })))
+        ∙ ap (overwrite output at) (sym (one-frame (record { receiver = allOnes; element = rerr f (matched t a (lostIn part)) })))
 
   pub error-short : PartOf Rerr part → end - at ≤ 260
   error-short l =
-      omega (arith, many, l .short, those-fewer (matches t (a .clock) (a .transmitter)) (lostIn part), each-length (lostAt part) 0 (length part / 10))
+      omega (arith, many, l .short, filter-fewer (matches t (a .clock) (a .transmitter)) (lostIn part), each-length (lostAt part) 0 (length part / 10))
 
   pub error-long : (f : RerrFields) → end - at ≡ length (frameOctets (toAll (rerr f (matched t a (lostIn part)))))
   error-long f =

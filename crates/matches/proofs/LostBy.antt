@@ -1,4 +1,4 @@
--- Which destinations match, case by case and one after another, as the code asks it. Assumes nothing.
+-- Which destinations match, case by case and one after another, as the code asks it.
 use Prim.Native.Nat.{ℕ, _+_, _-_, _<_, _≤_}
 use mathlib.Core.Path.{_≡_, sym, ap, _∙_}
 use mathlib.Core.Bool.{Bool, true, false, not, _&&_}

@@ -1,4 +1,4 @@
--- What becomes of the rows of the matches, case by case, as the code asks it. Assumes nothing.
+-- What becomes of the rows of the matches, case by case, as the code asks it.
 use Prim.Native.Nat.{ℕ, _+_, _-_, _<_, _≤_}
 use mathlib.Core.Path.{_≡_, sym, ap, _∙_}
 use mathlib.Core.Bool.{Bool, true, false, not, cond}
@@ -19,7 +19,7 @@ use Rattle.element.specs.declared.LostDestination.{LostDestination}
 use Rattle.element.specs.Entries.{each, lostAt}
 use Rattle.element.proofs.Scans.{each-next, each-end}
 use Rattle.rules.specs.Errors.{isLostBy, numberBeside, isMatch, erredWith, erred}
-use Rattle.rules.specs.Lists.{isThere}
+use Rattle.rules.specs.Lists.{isSome}
 use Rattle.matches.specs.declared.rows.Beside.{Beside}
 use Rattle.matches.specs.declared.rows.Beside.the-variants.{Number, Nothing}
 use Rattle.matches.specs.Rows.{numberIn}
@@ -72,12 +72,12 @@ module _ (t : List ℕ) (i c : ℕ) (hop : Address) (named : List LostDestinatio
     elsewhere-stays = row-stays (isMatch c hop named) (erred named) t i r re unmatched
 
   module _ (is-lost : not b ≡ false) (x : Beside) (xe : numberIn x ≡ numberBeside (r .destination) named) where
-    by-name : isMatch c hop named r ≡ isThere (numberIn x)
+    by-name : isMatch c hop named r ≡ isSome (numberIn x)
     unfolding isMatch
     by-name = rw (← be, not-false b is-lost, ← xe)
 
     pub unnamed-stays : x ≡ Nothing → t ≡ changeAt (isMatch c hop named) (erred named) i t
-    unnamed-stays e = row-stays (isMatch c hop named) (erred named) t i r re (by-name ∙ ap (λ (y : Beside). isThere (numberIn y)) e)
+    unnamed-stays e = row-stays (isMatch c hop named) (erred named) t i r re (by-name ∙ ap (λ (y : Beside). isSome (numberIn y)) e)
 
     module _ (number : SequenceNumber) (e : x ≡ Number number) where
       erred-by : erredWith (some number) r ≡ erred named r
@@ -86,4 +86,4 @@ module _ (t : List ℕ) (i c : ℕ) (hop : Address) (named : List LostDestinatio
 
       pub match-lost : (s : Row) → s ≡ erredWith (some number) r → (u : List ℕ) → u ≡ putRow t i s → u ≡ changeAt (isMatch c hop named) (erred named) i t
       match-lost s se =
-          row-changed (isMatch c hop named) (erred named) t i r re (by-name ∙ ap (λ (y : Beside). isThere (numberIn y)) e) s (se ∙ erred-by)
+          row-changed (isMatch c hop named) (erred named) t i r re (by-name ∙ ap (λ (y : Beside). isSome (numberIn y)) e) s (se ∙ erred-by)

@@ -1,5 +1,5 @@
 -- What the RERR that goes on has of a destination. For the code's own functions: `matches-octets` says that all of these are
--- the octets of those that match. Assumes nothing.
+-- the octets of those that match.
 use Prim.Native.Nat.{ℕ}
 use mathlib.Core.Bool.{cond}
 use mathlib.Core.List.{List, []}

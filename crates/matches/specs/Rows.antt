@@ -1,4 +1,4 @@
--- The number beside a destination. For the code's own functions. Assumes nothing.
+-- The number beside a destination. For the code's own functions.
 use mathlib.Core.Option.{Option, none, some}
 use Rattle.counters.specs.declared.SequenceNumber.{SequenceNumber}
 use Rattle.matches.specs.declared.rows.Beside.{Beside}

@@ -10,16 +10,16 @@ ghost use mathlib.Core.Path.{_≡_};
 ghost use mathlib.Core.List.{flatMap};
 ghost use Prim.Native.Nat.{_+_, _≤_};
 ghost use lib.ListN.{length};
-ghost use Rattle.octets.specs.LittleEndian.{over};
+ghost use Rattle.octets.specs.LittleEndian.{overwrite};
 ghost use Rattle.element.specs.Element.{rerr};
 ghost use Rattle.element.specs.Layout.{PartOf, sizeOf};
 ghost use Rattle.element.specs.declared.Kind.{Kind};
 ghost use Rattle.element.specs.declared.list.ListKind.{ListKind};
 ghost use Rattle.element.specs.Entries.{lostIn, lostOctets};
 ghost use Rattle.rules.specs.Errors.{matches};
-ghost use Rattle.rules.specs.Lists.{those};
+ghost use Rattle.rules.specs.Lists.{filter};
 ghost use Rattle.rules.specs.Onward.{toAll};
-ghost use Rattle.rules.specs.Outcome.{frameOctets};
+ghost use Rattle.rules.specs.Exit.{frameOctets};
 ghost use Rattle.matches.specs.Report.{matchOctets};
 ghost use Rattle.table.specs.Layout.{Sized};
 
@@ -34,7 +34,7 @@ fn write_if_match(
     requires { ⌜ Sized (now table) ⌝ }
     requires { ⌜ at + sizeOf ListKind.LostDestinations ≤ length (now output) ⌝ }
     ensures { λ r. ⌜ r ≡ at + length (matchOctets (now (table .entry)) a m) ⌝ }
-    ensures { λ _. ⌜ now (output .exit) ≡ over (now (output .entry)) at (matchOctets (now (table .entry)) a m) ⌝ }
+    ensures { λ _. ⌜ now (output .exit) ≡ overwrite (now (output .entry)) at (matchOctets (now (table .entry)) a m) ⌝ }
 {
     if !matching::is_match(table, a, m) {
         return at;
@@ -48,10 +48,10 @@ fn write_matches(output: &mut [u8], at: usize, table: &[u8], a: Arrival, part: &
     requires { ⌜ at + length (now part) ≤ length (now output) ⌝ }
     ensures { λ r. ⌜ r
         ≡ at + length (flatMap lostOctets
-        (those (matches (now (table .entry)) (a .clock) (a .transmitter)) (lostIn (now (part .entry))))) ⌝ }
+        (filter (matches (now (table .entry)) (a .clock) (a .transmitter)) (lostIn (now (part .entry))))) ⌝ }
     ensures { λ _. ⌜ now (output .exit)
-        ≡ over (now (output .entry)) at
-        (flatMap lostOctets (those (matches (now (table .entry)) (a .clock) (a .transmitter))
+        ≡ overwrite (now (output .entry)) at
+        (flatMap lostOctets (filter (matches (now (table .entry)) (a .clock) (a .transmitter))
         (lostIn (now (part .entry))))) ⌝ }
 {
     let n = part.len() / list::LOST;
@@ -80,11 +80,11 @@ pub fn write_error(
     ensures { λ r. ⌜ r ≤ 260 ⌝ }
     ensures { λ r. ⌜ r
         ≡ length (frameOctets (toAll (rerr f
-        (those (matches (now (table .entry)) (a .clock) (a .transmitter)) (lostIn (now (part .entry))))))) ⌝ }
+        (filter (matches (now (table .entry)) (a .clock) (a .transmitter)) (lostIn (now (part .entry))))))) ⌝ }
     ensures { λ _. ⌜ now (output .exit)
-        ≡ over (now (output .entry)) at
+        ≡ overwrite (now (output .entry)) at
         (frameOctets (toAll (rerr f
-        (those (matches (now (table .entry)) (a .clock) (a .transmitter)) (lostIn (now (part .entry))))))) ⌝ }
+        (filter (matches (now (table .entry)) (a .clock) (a .transmitter)) (lostIn (now (part .entry))))))) ⌝ }
 {
     let start = at + write::RERR_START;
     let end = write_matches(output, start, table, a, part);

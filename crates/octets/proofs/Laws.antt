@@ -1,4 +1,4 @@
--- Laws of numbers in octets and of runs of fields, each once for all widths. Assumes nothing.
+-- Laws of numbers in octets and of runs of fields, each once for all widths.
 use Prim.Native.Nat.{ℕ, zero, suc, _+_, _-_, _*_, _/_, _%_, _^_, _<_, _≤_}
 use mathlib.Core.Path.{_≡_, refl, sym, ap, ap₂, _∙_}
 use mathlib.Core.Logic.{_⊎_, inl, inr, ⊎-elim}
@@ -13,7 +13,7 @@ use borrow.Author.Count.{below-more}
 use borrow.Author.Tests.{ltb-true, ltb-false}
 use lib.Dec.{ltb}
 use mathlib.Core.Bool.{Bool, true, false}
-use Rattle.octets.specs.LittleEndian.{numberAt, numberOctets, over, withNumber, fieldsAt, withFields, total, zeros, Octets}
+use Rattle.octets.specs.LittleEndian.{numberAt, numberOctets, overwrite, withNumber, fieldsAt, withFields, total, zeros, Octets}
 
 -- ---- numbers that fields can hold
 
@@ -34,11 +34,11 @@ split (suc m) n s at = rw (suc-add, add-suc, ← suc-add, pow-suc) (omega (arith
 
 -- the clauses of `withNumber` as equations: `rw` sees a call only where the definition is shut
 with-zero : (s : List ℕ) (at x : ℕ) → withNumber zero s at x ≡ s
-unfolding withNumber over numberOctets
+unfolding withNumber overwrite numberOctets
 with-zero s at x = refl
 
 with-suc : (n : ℕ) (s : List ℕ) (at x : ℕ) → withNumber (suc n) s at x ≡ withNumber n (set s at (x % 256)) (suc at) (x / 256)
-unfolding withNumber over numberOctets
+unfolding withNumber overwrite numberOctets
 with-suc n s at x = refl
 
 -- a number written in two parts, the low one in m octets and the high one in the n after them
@@ -66,7 +66,7 @@ parted m n s t u at x low high small xe te ue =
     ue ∙ ap (λ (v : List ℕ). withNumber n v (at + m) high) te ∙ number-parts m n s at low high small ∙ ap (withNumber (m + n) s at) (sym xe)
 
 pub written-1 : (s : List ℕ) (at x : ℕ) → x < 256 → set s at x ≡ withNumber 1 s at x
-unfolding withNumber over numberOctets
+unfolding withNumber overwrite numberOctets
 written-1 s at x small = ap (set s at) (omega arith)
 
 -- the second of two octets has its place when the first is written
@@ -74,7 +74,7 @@ pub second-in : (s : List ℕ) (at x : ℕ) → at + 2 ≤ length s → at + 1 <
 second-in s at x l = omega (arith, length-set s at x)
 
 pub written-2 : (s : List ℕ) (at x : ℕ) → x < 65536 → set (set s at (x % 256)) (at + 1) (x / 256) ≡ withNumber 2 s at x
-unfolding withNumber over numberOctets
+unfolding withNumber overwrite numberOctets
 written-2 s at x small = ap₂ (λ (p y : ℕ). set (set s at (x % 256)) p y) (omega arith) (omega arith)
 
 module _ (s t u : List ℕ) (at x : ℕ) where
@@ -97,7 +97,7 @@ module _ (s : List ℕ) (at x : ℕ) where
       (lowest-alone 2 t u (at + 4) (x / 4294967296) (x / 4294967296 % 65536) (x / 4294967296 / 65536) (omega arith) (omega arith) ue)
 
 pub length-number : (n : ℕ) (s : List ℕ) (at x : ℕ) → length (withNumber n s at x) ≡ length s
-unfolding withNumber over numberOctets
+unfolding withNumber overwrite numberOctets
 length-number zero s at x = refl
 length-number (suc n) s at x = length-number n (set s at (x % 256)) (suc at) (x / 256) ∙ length-set s at (x % 256)
 
@@ -105,21 +105,21 @@ length-number (suc n) s at x = length-number n (set s at (x % 256)) (suc at) (x 
 
 -- an octet outside of what is written stays
 octet-other : (n : ℕ) (s : List ℕ) (at x k : ℕ) → (k < at) ⊎ (at + n ≤ k) → getD (withNumber n s at x) k 0 ≡ getD s k 0
-unfolding withNumber over numberOctets
+unfolding withNumber overwrite numberOctets
 octet-other zero s at x k h = refl
 octet-other (suc n) s at x k h =
     octet-other n (set s at (x % 256)) (suc at) (x / 256) k (⊎-elim (λ l. inl (omega arith)) (λ l. inr (omega arith)) h)
     ∙ getD-set-other s at k (x % 256) 0 (⊎-elim (λ l. omega arith) (λ l. omega arith) h)
 
 -- one inside does not depend on what stood there
-octet-over : (n : ℕ) (s u : List ℕ) (at x k : ℕ) → length s ≡ length u → at + n ≤ length s → at ≤ k → k < at + n
+octet-overwrite : (n : ℕ) (s u : List ℕ) (at x k : ℕ) → length s ≡ length u → at + n ≤ length s → at ≤ k → k < at + n
     → getD (withNumber n s at x) k 0 ≡ getD (withNumber n u at x) k 0
-unfolding withNumber over numberOctets
-octet-over zero s u at x k e l h g = absurd (omega arith)
-octet-over (suc n) s u at x k e l h g =
+unfolding withNumber overwrite numberOctets
+octet-overwrite zero s u at x k e l h g = absurd (omega arith)
+octet-overwrite (suc n) s u at x k e l h g =
     ⊎-elim
     (λ q. rw (← q) (first s (omega arith) ∙ sym (first u (omega arith))))
-    (λ (m : at < k). octet-over n (set s at (x % 256)) (set u at (x % 256)) (suc at) (x / 256) k (simp length-set e) (rw length-set (omega arith)) m (omega arith))
+    (λ (m : at < k). octet-overwrite n (set s at (x % 256)) (set u at (x % 256)) (suc at) (x / 256) k (simp length-set e) (rw length-set (omega arith)) m (omega arith))
     (eq-or-lt-of-le h)
   where
     first : (v : List ℕ) → at < length v → getD (withNumber n (set v at (x % 256)) (suc at) (x / 256)) at 0 ≡ x % 256
@@ -134,7 +134,7 @@ agree (suc n) s t at h =
 
 -- a number that is written is read back
 pub number-same : (n : ℕ) (s : List ℕ) (at x : ℕ) → at + n ≤ length s → x < 256 ^ n → numberAt n (withNumber n s at x) at ≡ x
-unfolding numberAt withNumber over numberOctets
+unfolding numberAt withNumber overwrite numberOctets
 number-same zero s at x h b = omega arith
 number-same (suc n) s at x h b =
     let t : List ℕ = set s at (x % 256) in
@@ -176,7 +176,7 @@ octets-set s at v l o k = by (ℕ-discrete k at) (ltb at (length s)) refl
     by (yes q) false e = rw (set-out s at v (ltb-false at (length s) e)) (o k)
 
 pub octets-number : (n : ℕ) (s : List ℕ) (at x : ℕ) → Octets s → Octets (withNumber n s at x)
-unfolding withNumber over numberOctets
+unfolding withNumber overwrite numberOctets
 octets-number zero s at x o = o
 octets-number (suc n) s at x o =
     octets-number n (set s at (x % 256)) (suc at) (x / 256) (octets-set s at (x % 256) (omega arith) o)
@@ -221,7 +221,7 @@ octet-inside (w ∷ ws) s u k at o (x ∷ xs) e f l h g =
     by true q rest =
         let m = ltb-true k (at + o + w) q in
         octet-apart ws (withNumber w s (at + o) x) k at (o + w) xs (inl (omega arith))
-        ∙ octet-over w s u (at + o) x k e (omega arith) h m
+        ∙ octet-overwrite w s u (at + o) x k e (omega arith) h m
         ∙ sym (octet-apart ws (withNumber w u (at + o) x) k at (o + w) xs (inl (omega arith)))
     by false q rest = rest (ltb-false k (at + o + w) q)
 

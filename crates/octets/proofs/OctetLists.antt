@@ -1,5 +1,4 @@
 -- Laws of numbers and fields as lists of octets: written over others, read from a longer list, and made of what is read.
--- Assumes nothing.
 use Prim.Native.Nat.{ℕ, zero, suc, _+_, _*_, _/_, _%_, _^_, _<_, _≤_}
 use mathlib.Core.Path.{_≡_, refl, sym, ap, ap₂, _∙_}
 use mathlib.Core.List.{List, [], _∷_, _++_, append-assoc}
@@ -8,56 +7,56 @@ use lib.Seq.{set-set, set-comm, drop-cons, take-add, drop-drop, getD-append-add,
 use native.Mathlib.Omega.{arith}
 use native.Mathlib.Numerals.{add-one}
 use native.Mathlib.Nat.{add-zero, pow-suc}
-use Rattle.octets.specs.LittleEndian.{numberAt, numberOctets, over, withNumber, fieldsAt, fieldOctets, withFields, total, Octets}
+use Rattle.octets.specs.LittleEndian.{numberAt, numberOctets, overwrite, withNumber, fieldsAt, fieldOctets, withFields, total, Octets}
 use Rattle.octets.proofs.Laws.{FitFields}
 
 -- ---- written over other octets
 
--- the clauses of `over` as equations
-over-nil : (s : List ℕ) (at : ℕ) → over s at [] ≡ s
-unfolding over
-over-nil s at = refl
+-- the clauses of `overwrite` as equations
+overwrite-nil : (s : List ℕ) (at : ℕ) → overwrite s at [] ≡ s
+unfolding overwrite
+overwrite-nil s at = refl
 
-over-cons : (s : List ℕ) (at x : ℕ) (p : List ℕ) → over s at (x ∷ p) ≡ over (set s at x) (suc at) p
-unfolding over
-over-cons s at x p = refl
+overwrite-cons : (s : List ℕ) (at x : ℕ) (p : List ℕ) → overwrite s at (x ∷ p) ≡ overwrite (set s at x) (suc at) p
+unfolding overwrite
+overwrite-cons s at x p = refl
 
 -- one after the other
-pub over-append : (s : List ℕ) (at : ℕ) (p q : List ℕ) → over s at (p ++ q) ≡ over (over s at p) (at + length p) q
-over-append s at [] q = rw (over-nil, add-zero at)
-over-append s at (x ∷ p) q =
+pub overwrite-append : (s : List ℕ) (at : ℕ) (p q : List ℕ) → overwrite s at (p ++ q) ≡ overwrite (overwrite s at p) (at + length p) q
+overwrite-append s at [] q = rw (overwrite-nil, add-zero at)
+overwrite-append s at (x ∷ p) q =
     let place : suc at + length p ≡ at + suc (length p) = omega arith in
-    rw (over-cons s at x (p ++ q), over-cons s at x p, over-append (set s at x) (suc at) p q, place)
+    rw (overwrite-cons s at x (p ++ q), overwrite-cons s at x p, overwrite-append (set s at x) (suc at) p q, place)
 
 -- an octet before a place, and octets from there on
-set-before : (s : List ℕ) (i at x : ℕ) (p : List ℕ) → i < at → set (over s at p) i x ≡ over (set s i x) at p
-set-before s i at x [] l = rw (over-nil, over-nil)
+set-before : (s : List ℕ) (i at x : ℕ) (p : List ℕ) → i < at → set (overwrite s at p) i x ≡ overwrite (set s i x) at p
+set-before s i at x [] l = rw (overwrite-nil, overwrite-nil)
 set-before s i at x (y ∷ p) l =
-    rw (over-cons s at y p, over-cons (set s i x) at y p, set-before (set s at y) i (suc at) x p (omega arith), set-comm s at i y x (λ q. omega arith))
+    rw (overwrite-cons s at y p, overwrite-cons (set s i x) at y p, set-before (set s at y) i (suc at) x p (omega arith), set-comm s at i y x (λ q. omega arith))
 
 -- the second part may be written before the first
-pub over-before : (s : List ℕ) (at : ℕ) (p q : List ℕ) → over (over s (at + length p) q) at p ≡ over s at (p ++ q)
-over-before s at [] q = over-nil (over s (at + 0) q) at ∙ ap (λ (k : ℕ). over s k q) (add-zero at)
-over-before s at (x ∷ p) q =
+pub overwrite-before : (s : List ℕ) (at : ℕ) (p q : List ℕ) → overwrite (overwrite s (at + length p) q) at p ≡ overwrite s at (p ++ q)
+overwrite-before s at [] q = overwrite-nil (overwrite s (at + 0) q) at ∙ ap (λ (k : ℕ). overwrite s k q) (add-zero at)
+overwrite-before s at (x ∷ p) q =
     let place : at + length (x ∷ p) ≡ suc at + length p = omega arith in
-    over-cons (over s (at + length (x ∷ p)) q) at x p
-    ∙ ap (λ (l : List ℕ). over l (suc at) p) (set-before s at (at + length (x ∷ p)) x q (omega arith))
-    ∙ ap (λ (k : ℕ). over (over (set s at x) k q) (suc at) p) place
-    ∙ over-before (set s at x) (suc at) p q
-    ∙ sym (over-cons s at x (p ++ q))
+    overwrite-cons (overwrite s (at + length (x ∷ p)) q) at x p
+    ∙ ap (λ (l : List ℕ). overwrite l (suc at) p) (set-before s at (at + length (x ∷ p)) x q (omega arith))
+    ∙ ap (λ (k : ℕ). overwrite (overwrite (set s at x) k q) (suc at) p) place
+    ∙ overwrite-before (set s at x) (suc at) p q
+    ∙ sym (overwrite-cons s at x (p ++ q))
 
 -- of what was written, the first part once more
-pub over-again : (s : List ℕ) (at : ℕ) (p q r : List ℕ) → length p ≡ length q → over (over s at (p ++ r)) at q ≡ over s at (q ++ r)
-over-again s at [] [] r e = over-nil (over s at r) at
-over-again s at [] (y ∷ q) r e = absurd (omega arith)
-over-again s at (x ∷ p) [] r e = absurd (omega arith)
-over-again s at (x ∷ p) (y ∷ q) r e =
-    over-cons (over s at (x ∷ p ++ r)) at y q
-    ∙ ap (λ (l : List ℕ). over (set l at y) (suc at) q) (over-cons s at x (p ++ r))
-    ∙ ap (λ (l : List ℕ). over l (suc at) q) (set-before (set s at x) at (suc at) y (p ++ r) (omega arith))
-    ∙ ap (λ (l : List ℕ). over (over l (suc at) (p ++ r)) (suc at) q) (set-set s at x y)
-    ∙ over-again (set s at y) (suc at) p q r (omega arith)
-    ∙ sym (over-cons s at y (q ++ r))
+pub overwrite-again : (s : List ℕ) (at : ℕ) (p q r : List ℕ) → length p ≡ length q → overwrite (overwrite s at (p ++ r)) at q ≡ overwrite s at (q ++ r)
+overwrite-again s at [] [] r e = overwrite-nil (overwrite s at r) at
+overwrite-again s at [] (y ∷ q) r e = absurd (omega arith)
+overwrite-again s at (x ∷ p) [] r e = absurd (omega arith)
+overwrite-again s at (x ∷ p) (y ∷ q) r e =
+    overwrite-cons (overwrite s at (x ∷ p ++ r)) at y q
+    ∙ ap (λ (l : List ℕ). overwrite (set l at y) (suc at) q) (overwrite-cons s at x (p ++ r))
+    ∙ ap (λ (l : List ℕ). overwrite l (suc at) q) (set-before (set s at x) at (suc at) y (p ++ r) (omega arith))
+    ∙ ap (λ (l : List ℕ). overwrite (overwrite l (suc at) (p ++ r)) (suc at) q) (set-set s at x y)
+    ∙ overwrite-again (set s at y) (suc at) p q r (omega arith)
+    ∙ sym (overwrite-cons s at y (q ++ r))
 
 pub length-number-octets : (n x : ℕ) → length (numberOctets n x) ≡ n
 unfolding numberOctets
@@ -90,28 +89,28 @@ field-octets-append (w ∷ ws) vs (x ∷ xs) ys e =
     ∙ sym (append-assoc (numberOctets w x) (fieldOctets ws xs) (fieldOctets vs ys))
 
 -- fields that are written are their octets, written over what stood there
-pub fields-over : (ws s : List ℕ) (at o : ℕ) (xs : List ℕ) → withFields ws s at o xs ≡ over s (at + o) (fieldOctets ws xs)
+pub fields-overwrite : (ws s : List ℕ) (at o : ℕ) (xs : List ℕ) → withFields ws s at o xs ≡ overwrite s (at + o) (fieldOctets ws xs)
 unfolding withFields withNumber fieldOctets
-fields-over [] s at o xs = sym (over-nil s (at + o))
-fields-over (w ∷ ws) s at o [] = sym (over-nil s (at + o))
-fields-over (w ∷ ws) s at o (x ∷ xs) =
+fields-overwrite [] s at o xs = sym (overwrite-nil s (at + o))
+fields-overwrite (w ∷ ws) s at o [] = sym (overwrite-nil s (at + o))
+fields-overwrite (w ∷ ws) s at o (x ∷ xs) =
     let place : at + (o + w) ≡ at + o + length (numberOctets w x) = omega (arith, length-number-octets w x) in
-    fields-over ws (over s (at + o) (numberOctets w x)) at (o + w) xs
-    ∙ ap (λ (k : ℕ). over (over s (at + o) (numberOctets w x)) k (fieldOctets ws xs)) place
-    ∙ sym (over-append s (at + o) (numberOctets w x) (fieldOctets ws xs))
+    fields-overwrite ws (overwrite s (at + o) (numberOctets w x)) at (o + w) xs
+    ∙ ap (λ (k : ℕ). overwrite (overwrite s (at + o) (numberOctets w x)) k (fieldOctets ws xs)) place
+    ∙ sym (overwrite-append s (at + o) (numberOctets w x) (fieldOctets ws xs))
 
 -- a loop that writes octets, by what is left to write: g is the whole
-pub over-start : (s : List ℕ) (at : ℕ) (p : List ℕ) → over s (at + 0) (drop 0 p) ≡ over s at p
-over-start s at p = rw (add-zero at)
+pub overwrite-start : (s : List ℕ) (at : ℕ) (p : List ℕ) → overwrite s (at + 0) (drop 0 p) ≡ overwrite s at p
+overwrite-start s at p = rw (add-zero at)
 
-pub over-more : (s p g : List ℕ) (at j x : ℕ) → j < length p → x ≡ getD p j 0 → over s (at + j) (drop j p) ≡ g
-    → over (set s (at + j) x) (at + (j + 1)) (drop (j + 1) p) ≡ g
-over-more s p g at j x l e h =
+pub overwrite-more : (s p g : List ℕ) (at j x : ℕ) → j < length p → x ≡ getD p j 0 → overwrite s (at + j) (drop j p) ≡ g
+    → overwrite (set s (at + j) x) (at + (j + 1)) (drop (j + 1) p) ≡ g
+overwrite-more s p g at j x l e h =
     let place : at + (j + 1) ≡ suc (at + j) = omega arith in
-    rw (place, add-one, e) (rw (drop-cons p j 0 l, over-cons) at h)
+    rw (place, add-one, e) (rw (drop-cons p j 0 l, overwrite-cons) at h)
 
-pub over-ended : (s p g : List ℕ) (at j : ℕ) → length p ≤ j → over s (at + j) (drop j p) ≡ g → s ≡ g
-over-ended s p g at j l h = rw (drop-of-length-le p l, over-nil) at h
+pub overwrite-ended : (s p g : List ℕ) (at j : ℕ) → length p ≤ j → overwrite s (at + j) (drop j p) ≡ g → s ≡ g
+overwrite-ended s p g at j l h = rw (drop-of-length-le p l, overwrite-nil) at h
 
 -- ---- read from a longer list
 

@@ -1,4 +1,4 @@
--- Little-endian numbers in a list of octets, and runs of them: the fields of a layout. Assumes nothing.
+-- Little-endian numbers in a list of octets, and runs of them: the fields of a layout.
 use Prim.Native.Nat.{ℕ, zero, suc, _+_, _*_, _/_, _%_, _<_}
 use mathlib.Core.List.{List, [], _∷_, _++_}
 use lib.ListN.{getD, replicate}
@@ -15,11 +15,11 @@ numberOctets zero x = []
 numberOctets (suc n) x = x % 256 ∷ numberOctets n (x / 256)
 
 -- s with the octets p from place at on, and with x in the n octets there
-unfoldable pub over : List ℕ → ℕ → List ℕ → List ℕ
-over s at p = sets s at p
+unfoldable pub overwrite : List ℕ → ℕ → List ℕ → List ℕ
+overwrite s at p = sets s at p
 
 unfoldable pub withNumber : ℕ → List ℕ → ℕ → ℕ → List ℕ
-withNumber n s at x = over s at (numberOctets n x)
+withNumber n s at x = overwrite s at (numberOctets n x)
 
 -- the numbers in the fields of widths ws that stand side by side from offset o after place at
 -- (offsets apart from the place, so that those of a given layout are numerals)

@@ -3,7 +3,7 @@
 ghost use mathlib.Core.Path.{_≡_};
 ghost use Prim.Native.Nat.{_+_, _<_, _≤_};
 ghost use lib.ListN.{getD, length};
-ghost use Rattle.octets.specs.LittleEndian.{Octets, numberAt, over, total, withFields, withNumber, zeros};
+ghost use Rattle.octets.specs.LittleEndian.{Octets, numberAt, overwrite, total, withFields, withNumber, zeros};
 
 pub fn read_u8(s: &[u8], at: usize) -> u8
     requires { ⌜ at + 1 ≤ length (now s) ⌝ }
@@ -125,7 +125,7 @@ fn octet(s: &[u8], at: usize) -> u8
 pub fn write_octets(s: &mut [u8], at: usize, p: &[u8])
     requires { ⌜ at + length (now p) ≤ length (now s) ⌝ }
     ensures { λ _. ⌜ Octets (now (p .entry)) ⌝ }
-    ensures { λ _. ⌜ now (s .exit) ≡ over (now (s .entry)) at (now (p .entry)) ⌝ }
+    ensures { λ _. ⌜ now (s .exit) ≡ overwrite (now (s .entry)) at (now (p .entry)) ⌝ }
 {
     let mut j = 0;
     while j < p.len() {

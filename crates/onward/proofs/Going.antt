@@ -1,4 +1,4 @@
--- What goes on, case by case, as the code asks it. Assumes nothing.
+-- What goes on, case by case, as the code asks it.
 use Prim.Native.Nat.{ℕ, _+_, _-_, _/_, _%_, _<_, _≤_}
 use mathlib.Core.Path.{_≡_, refl, sym, ap, ap₂, _∙_}
 use mathlib.Core.Bool.{Bool, true, false, cond}
@@ -7,7 +7,7 @@ use mathlib.Core.Option.{Option, none}
 use lib.ListN.{length}
 use native.Mathlib.Omega.{arith}
 use borrow.Author.Tests.{lt-ltb, le-ltb}
-use Rattle.octets.specs.LittleEndian.{over}
+use Rattle.octets.specs.LittleEndian.{overwrite}
 use Rattle.table.specs.declared.address.Address.{Address}
 use Rattle.table.specs.declared.row.Head.{Head}
 use Rattle.table.specs.declared.search.NextHop.{NextHop}
@@ -28,7 +28,7 @@ use Rattle.element.proofs.Scans.{each-length}
 use Rattle.element.proofs.Sizes.{frame-length}
 use Rattle.rules.specs.declared.Arrival.{Arrival}
 use Rattle.rules.specs.Onward.{onward, sentTo, toAll, rannOnward, rrepOnward}
-use Rattle.rules.specs.Outcome.{Frame, frameOctets}
+use Rattle.rules.specs.Exit.{Frame, frameOctets}
 use Rattle.rules.proofs.FrameOctets.{no-frame, one-frame}
 use Rattle.calls.specs.declared.Emitted.{Emitted}
 use Rattle.calls.specs.Answers.{emitted}
@@ -41,8 +41,8 @@ module _ (frames : List Frame) (none-sent : frames ≡ []) where
   pub none-counted : (e : Emitted) → e ≡ emitted [] → e ≡ emitted frames
   none-counted e ee = ee ∙ ap emitted (sym none-sent)
 
-  pub none-written : (s : List ℕ) (at : ℕ) → s ≡ over s at (frameOctets frames)
-  unfolding over
+  pub none-written : (s : List ℕ) (at : ℕ) → s ≡ overwrite s at (frameOctets frames)
+  unfolding overwrite
   none-written s at = rw (none-sent, no-frame)
 
 -- frames that are one
@@ -50,7 +50,7 @@ module _ (frames : List Frame) (to : Address) (e : Element) (one-sent : frames �
   pub one-counted : (octets : ℕ) → octets ≡ 8 + lengthWith (kindOf e) (countOf e) → (em : Emitted) → em ≡ record { frames = 1; octets = octets } → em ≡ emitted frames
   one-counted octets size em eme = eme ∙ rw (one-sent, one-frame, size, frame-length)
 
-  pub one-written : (s v : List ℕ) (at : ℕ) → v ≡ over s at (writeFrame to e) → v ≡ over s at (frameOctets frames)
+  pub one-written : (s v : List ℕ) (at : ℕ) → v ≡ overwrite s at (writeFrame to e) → v ≡ overwrite s at (frameOctets frames)
   one-written s v at ve = rw (one-sent, one-frame) ve
 
 -- ---- a RANN
@@ -64,7 +64,7 @@ module _ (a : Arrival) (p : PathInfo) where
     pub announcement-none : (e : Emitted) → e ≡ emitted [] → e ≡ emitted (rannOnward a p)
     announcement-none = none-counted (rannOnward a p) announcement-stays
 
-    pub announcement-unwritten : (s : List ℕ) (at : ℕ) → s ≡ over s at (frameOctets (rannOnward a p))
+    pub announcement-unwritten : (s : List ℕ) (at : ℕ) → s ≡ overwrite s at (frameOctets (rannOnward a p))
     announcement-unwritten = none-written (rannOnward a p) announcement-stays
 
   module _ (left : 2 ≤ p .ttl) (q : PathInfo) (qe : q ≡ onward a p) where
@@ -75,7 +75,7 @@ module _ (a : Arrival) (p : PathInfo) where
     pub announcement-counted : (at end : ℕ) → end ≡ at + 29 → (em : Emitted) → em ≡ record { frames = 1; octets = end - at } → em ≡ emitted (rannOnward a p)
     announcement-counted at end size = one-counted (rannOnward a p) allOnes (rann q) announcement-goes (end - at) (omega (arith, size))
 
-    pub announcement-written : (s v : List ℕ) (at : ℕ) → v ≡ over s at (writeFrame allOnes (rann q)) → v ≡ over s at (frameOctets (rannOnward a p))
+    pub announcement-written : (s v : List ℕ) (at : ℕ) → v ≡ overwrite s at (writeFrame allOnes (rann q)) → v ≡ overwrite s at (frameOctets (rannOnward a p))
     announcement-written = one-written (rannOnward a p) allOnes (rann q) announcement-goes
 
 -- ---- a RREP
@@ -91,7 +91,7 @@ module _ (g : RrepFields) (part : List ℕ) (x : NextHop) where
     pub reply-none : (em : Emitted) → em ≡ emitted [] → em ≡ emitted sentReply
     reply-none = none-counted sentReply (sent-by Nobody e)
 
-    pub reply-unwritten : (s : List ℕ) (at : ℕ) → s ≡ over s at (frameOctets sentReply)
+    pub reply-unwritten : (s : List ℕ) (at : ℕ) → s ≡ overwrite s at (frameOctets sentReply)
     reply-unwritten = none-written sentReply (sent-by Nobody e)
 
   module _ (to : Address) (e : x ≡ To to) where
@@ -101,7 +101,7 @@ module _ (g : RrepFields) (part : List ℕ) (x : NextHop) where
         one-counted sentReply to (rrep g (numberedIn part)) (sent-by (To to) e) (end - at)
         (omega (arith, size, whole, each-length (numberedAt part) 0 (length part / 10)))
 
-    pub reply-written : (s v : List ℕ) (at : ℕ) → v ≡ over s at (writeFrame to (rrep g (numberedIn part))) → v ≡ over s at (frameOctets sentReply)
+    pub reply-written : (s v : List ℕ) (at : ℕ) → v ≡ overwrite s at (writeFrame to (rrep g (numberedIn part))) → v ≡ overwrite s at (frameOctets sentReply)
     reply-written = one-written sentReply to (rrep g (numberedIn part)) (sent-by (To to) e)
 
 pub reply-room : (at end k : ℕ) → end ≡ at + 40 + k → k ≤ 220 → end - at ≤ 1560
@@ -142,6 +142,6 @@ module _ (t : List ℕ) (a : Arrival) (f : RrepFields) (part : List ℕ) where
     pub reply-goes-counted : (em : Emitted) → em ≡ emitted (sentTo (rrep g dependents) (hopIn x)) → em ≡ emitted (rrepOnward t a f dependents)
     reply-goes-counted em eme = eme ∙ ap emitted replied-by
 
-    pub reply-goes-written : (s v : List ℕ) (at : ℕ) → v ≡ over s at (frameOctets (sentTo (rrep g dependents) (hopIn x)))
-        → v ≡ over s at (frameOctets (rrepOnward t a f dependents))
-    reply-goes-written s v at ve = ve ∙ ap (λ (l : List Frame). over s at (frameOctets l)) replied-by
+    pub reply-goes-written : (s v : List ℕ) (at : ℕ) → v ≡ overwrite s at (frameOctets (sentTo (rrep g dependents) (hopIn x)))
+        → v ≡ overwrite s at (frameOctets (rrepOnward t a f dependents))
+    reply-goes-written s v at ve = ve ∙ ap (λ (l : List Frame). overwrite s at (frameOctets l)) replied-by

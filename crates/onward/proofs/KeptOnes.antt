@@ -1,4 +1,4 @@
--- Which destinations are kept, case by case and one after another, as the code asks it. Assumes nothing.
+-- Which destinations are kept, case by case and one after another, as the code asks it.
 use Prim.Native.Nat.{ℕ, _+_, _*_, _/_, _<_, _≤_}
 use mathlib.Core.Path.{_≡_, refl, sym, ap, ap₂, _∙_}
 use mathlib.Core.Bool.{Bool, true, false, not, cond}
@@ -7,7 +7,7 @@ use mathlib.Core.Option.{Option, none, some}
 use lib.ListN.{length}
 use native.Mathlib.Omega.{arith}
 use borrow.Author.Tests.{eq-eqb, ne-eqb, not-true, not-false}
-use Rattle.octets.specs.LittleEndian.{over}
+use Rattle.octets.specs.LittleEndian.{overwrite}
 use Rattle.counters.specs.declared.SequenceNumber.{SequenceNumber}
 use Rattle.table.specs.declared.row.Head.{Head}
 use Rattle.table.specs.declared.row.Row.{Row}
@@ -81,8 +81,8 @@ module _ (t : List ℕ) (c : ℕ) (q : Target) where
       pub kept-place : (r : ℕ) → r ≡ at + 11 → r ≡ at + length (keptOctets t c q)
       kept-place r re = re ∙ ap (λ (m : ℕ). at + m) (sym (target-length x) ∙ ap length one-kept)
 
-      pub kept-written : (v : List ℕ) → v ≡ over s at (targetOctets x) → v ≡ over s at (keptOctets t c q)
-      kept-written v ve = ve ∙ ap (over s at) one-kept
+      pub kept-written : (v : List ℕ) → v ≡ overwrite s at (targetOctets x) → v ≡ overwrite s at (keptOctets t c q)
+      kept-written v ve = ve ∙ ap (overwrite s at) one-kept
 
     module _ (struck : k ≡ Struck) where
       none-kept : [] ≡ keptOctets t c q
@@ -92,7 +92,7 @@ module _ (t : List ℕ) (c : ℕ) (q : Target) where
       pub struck-place : at ≡ at + length (keptOctets t c q)
       struck-place = skipped-place s at (keptOctets t c q) none-kept
 
-      pub struck-written : s ≡ over s at (keptOctets t c q)
+      pub struck-written : s ≡ overwrite s at (keptOctets t c q)
       struck-written = skipped-written s at (keptOctets t c q) none-kept
 
   kept-short : length (keptOctets t c q) ≤ 11
@@ -124,7 +124,7 @@ module _ (t : List ℕ) (c : ℕ) (part out₀ : List ℕ) (at n i place : ℕ) 
   keeping-room l ne room same-length = omega (arith, so-far .few)
 
   pub keeping-more : i < n → (q : Target) → q ≡ targetAt part i → (place′ : ℕ) → place′ ≡ place + length (keptOctets t c q)
-      → (out′ : List ℕ) → out′ ≡ over out place (keptOctets t c q) → Keeping t c part out₀ at n (i + 1) place′ out′
+      → (out′ : List ℕ) → out′ ≡ overwrite out place (keptOctets t c q) → Keeping t c part out₀ at n (i + 1) place′ out′
   keeping-more l = listing-more (keptOctets t c) (targetAt part) n 11 out₀ at i place out so-far l (kept-short t c (targetAt part i))
 
 -- the octets of what is kept of each are those of all that are kept
@@ -145,8 +145,8 @@ module _ (t : List ℕ) (c : ℕ) (part out₀ : List ℕ) (at n : ℕ) (ne : n 
         listing-counted (keptOctets t c) (targetAt part) n 11 out₀ at i place out so-far l
         ∙ ap (λ (m : ℕ). at + m) (ap length kept-octets-among ∙ targets-length (keptAmong t c part))
 
-    pub all-written : out ≡ over out₀ at (flatMap targetOctets (keptAmong t c part))
-    all-written = listing-written (keptOctets t c) (targetAt part) n 11 out₀ at i place out so-far l ∙ ap (over out₀ at) kept-octets-among
+    pub all-written : out ≡ overwrite out₀ at (flatMap targetOctets (keptAmong t c part))
+    all-written = listing-written (keptOctets t c) (targetAt part) n 11 out₀ at i place out so-far l ∙ ap (overwrite out₀ at) kept-octets-among
 
 -- a kept destination has its address
 pub kept-address : (t : List ℕ) (c : ℕ) (q : Target) → All (λ (k : Target). k .address ≡ q .address) (keptOf t c q)
@@ -202,6 +202,6 @@ module _ (t : List ℕ) (a : Arrival) (p : PathInfo) where
   all-kept-are n [] = refl
   all-kept-are n (q ∷ targets) = ap₂ _++_ (kept-is n q) (all-kept-are (answered t a p n q .number) targets)
 
-  pub answered-among : (n : SequenceNumber) (part : List ℕ) → allAnswered t a p n (targetsIn part) .kept ≡ keptAmong t (a .clock) part
+  pub answered-contains : (n : SequenceNumber) (part : List ℕ) → allAnswered t a p n (targetsIn part) .kept ≡ keptAmong t (a .clock) part
   unfolding keptAmong
-  answered-among n part = all-kept-are n (targetsIn part)
+  answered-contains n part = all-kept-are n (targetsIn part)

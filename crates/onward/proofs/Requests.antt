@@ -1,4 +1,4 @@
--- A RREQ that goes on, case by case, as the code asks it. Assumes nothing.
+-- A RREQ that goes on, case by case, as the code asks it.
 use Prim.Native.Nat.{ℕ, _+_, _-_, _*_, _/_, _<_, _≤_}
 use mathlib.Core.Path.{_≡_, refl, sym, ap, subst, _∙_}
 use mathlib.Core.Bool.{Bool, true, false, not, cond}
@@ -7,7 +7,7 @@ use mathlib.Core.Option.{Option, none, some}
 use lib.ListN.{length}
 use native.Mathlib.Omega.{arith}
 use borrow.Author.Tests.{lt-ltb, le-ltb, ltb-false, not-true, not-false}
-use Rattle.octets.specs.LittleEndian.{over}
+use Rattle.octets.specs.LittleEndian.{overwrite}
 use Rattle.table.specs.declared.address.Address.{Address}
 use Rattle.table.specs.declared.search.NextHop.{NextHop}
 use Rattle.table.specs.declared.search.NextHop.the-variants.{To, Nobody}
@@ -25,7 +25,7 @@ use Rattle.element.proofs.Written.{started-last}
 use Rattle.rules.specs.declared.Arrival.{Arrival}
 use Rattle.element.specs.Flags.{unicast}
 use Rattle.rules.specs.Onward.{onward, sentTo, toAll, rreqOnward}
-use Rattle.rules.specs.Outcome.{Frame, frameOctets}
+use Rattle.rules.specs.Exit.{Frame, frameOctets}
 use Rattle.calls.specs.declared.Emitted.{Emitted}
 use Rattle.calls.specs.Answers.{emitted}
 use Rattle.onward.specs.Kept.{keptOf, keptAmong}
@@ -48,7 +48,7 @@ module _ (t : List ℕ) (c : ℕ) (p : PathInfo) (part : List ℕ) (b : Bool) (b
 -- ---- the kept destinations, and the start after them
 
 module _ (t : List ℕ) (c : ℕ) (part : List ℕ) (to : Address) (f : RreqFields) (out v : List ℕ) (at end : ℕ)
-    (ee : end ≡ at + 34 + 11 * length (keptAmong t c part)) (ve : v ≡ over out (at + 34) (flatMap targetOctets (keptAmong t c part))) where
+    (ee : end ≡ at + 34 + 11 * length (keptAmong t c part)) (ve : v ≡ overwrite out (at + 34) (flatMap targetOctets (keptAmong t c part))) where
   module _ (none-kept : end ≡ at + 34) where
     kept-nothing : keptAmong t c part ≡ []
     kept-nothing = by (keptAmong t c part) (omega (arith, ee, none-kept))
@@ -64,10 +64,10 @@ module _ (t : List ℕ) (c : ℕ) (part : List ℕ) (to : Address) (f : RreqFiel
     pub nothing-kept : (e : Emitted) → e ≡ emitted [] → e ≡ emitted (sentWith to f (keptAmong t c part))
     nothing-kept = none-counted (sentWith to f (keptAmong t c part)) sent-nothing
 
-    pub nothing-written : v ≡ over out at (frameOctets (sentWith to f (keptAmong t c part)))
-    unfolding over flatMap
+    pub nothing-written : v ≡ overwrite out at (frameOctets (sentWith to f (keptAmong t c part)))
+    unfolding overwrite flatMap
     nothing-written =
-        ve ∙ ap (λ (l : List Target). over out (at + 34) (flatMap targetOctets l)) kept-nothing ∙ none-written (sentWith to f (keptAmong t c part)) sent-nothing out at
+        ve ∙ ap (λ (l : List Target). overwrite out (at + 34) (flatMap targetOctets l)) kept-nothing ∙ none-written (sentWith to f (keptAmong t c part)) sent-nothing out at
 
   module _ (some-kept : end ≡ at + 34 → ⊥) where
     kept-some : 1 ≤ length (keptAmong t c part)
@@ -94,8 +94,8 @@ module _ (t : List ℕ) (c : ℕ) (part : List ℕ) (to : Address) (f : RreqFiel
     pub kept-counted : (em : Emitted) → em ≡ record { frames = 1; octets = end - at } → em ≡ emitted (sentWith to f (keptAmong t c part))
     kept-counted = one-counted (sentWith to f (keptAmong t c part)) to (rreq f (keptAmong t c part)) sent-one (end - at) (omega (arith, ee))
 
-    pub kept-sent : (w : List ℕ) → w ≡ over v at (frameStart to Rreq ((end - (at + 34)) / 11) (rreqNumbers f))
-        → w ≡ over out at (frameOctets (sentWith to f (keptAmong t c part)))
+    pub kept-sent : (w : List ℕ) → w ≡ overwrite v at (frameStart to Rreq ((end - (at + 34)) / 11) (rreqNumbers f))
+        → w ≡ overwrite out at (frameOctets (sentWith to f (keptAmong t c part)))
     kept-sent w we =
         one-written (sentWith to f (keptAmong t c part)) to (rreq f (keptAmong t c part)) sent-one out w at
         (started-last to out v w at (at + 34) (rreq f (keptAmong t c part)) ((end - (at + 34)) / 11) (omega (arith, ee)) refl ve we)
@@ -112,16 +112,16 @@ module _ (t : List ℕ) (c : ℕ) (f : RreqFields) (part : List ℕ) (x : NextHo
     pub request-none : (em : Emitted) → em ≡ emitted [] → em ≡ emitted (requestSent t c f part)
     request-none = none-counted (requestSent t c f part) (sent-by Nobody e)
 
-    pub request-unwritten : (s : List ℕ) (at : ℕ) → s ≡ over s at (frameOctets (requestSent t c f part))
+    pub request-unwritten : (s : List ℕ) (at : ℕ) → s ≡ overwrite s at (frameOctets (requestSent t c f part))
     request-unwritten = none-written (requestSent t c f part) (sent-by Nobody e)
 
   module _ (to : Address) (e : x ≡ To to) where
     pub request-one : (em : Emitted) → em ≡ emitted (sentWith to f (keptAmong t c part)) → em ≡ emitted (requestSent t c f part)
     request-one em eme = eme ∙ ap emitted (sym (sent-by (To to) e))
 
-    pub request-one-written : (s v : List ℕ) (at : ℕ) → v ≡ over s at (frameOctets (sentWith to f (keptAmong t c part)))
-        → v ≡ over s at (frameOctets (requestSent t c f part))
-    request-one-written s v at ve = ve ∙ ap (λ (l : List Frame). over s at (frameOctets l)) (sym (sent-by (To to) e))
+    pub request-one-written : (s v : List ℕ) (at : ℕ) → v ≡ overwrite s at (frameOctets (sentWith to f (keptAmong t c part)))
+        → v ≡ overwrite s at (frameOctets (requestSent t c f part))
+    request-one-written s v at ve = ve ∙ ap (λ (l : List Frame). overwrite s at (frameOctets l)) (sym (sent-by (To to) e))
 
 -- ---- the whole
 
@@ -135,7 +135,7 @@ module _ (t : List ℕ) (a : Arrival) (f : RreqFields) where
     pub request-low : (e : Emitted) → e ≡ emitted [] → e ≡ emitted (rreqOnward t a f kept)
     request-low = none-counted (rreqOnward t a f kept) (low-ttl low kept)
 
-    pub request-low-unwritten : (s : List ℕ) (at : ℕ) → s ≡ over s at (frameOctets (rreqOnward t a f kept))
+    pub request-low-unwritten : (s : List ℕ) (at : ℕ) → s ≡ overwrite s at (frameOctets (rreqOnward t a f kept))
     request-low-unwritten s at = none-written (rreqOnward t a f kept) (low-ttl low kept) s at
 
   -- to an address d for its first kept destination
@@ -192,5 +192,5 @@ module _ (t : List ℕ) (a : Arrival) (f : RreqFields) where
       pub request-counted : (em : Emitted) → em ≡ emitted (requestSent t (a .clock) g part) → em ≡ emitted (rreqOnward t a f kept)
       request-counted em eme = eme ∙ ap emitted requested-by
 
-      pub request-written : (s v : List ℕ) (at : ℕ) → v ≡ over s at (frameOctets (requestSent t (a .clock) g part)) → v ≡ over s at (frameOctets (rreqOnward t a f kept))
-      request-written s v at ve = ve ∙ ap (λ (l : List Frame). over s at (frameOctets l)) requested-by
+      pub request-written : (s v : List ℕ) (at : ℕ) → v ≡ overwrite s at (frameOctets (requestSent t (a .clock) g part)) → v ≡ overwrite s at (frameOctets (rreqOnward t a f kept))
+      request-written s v at ve = ve ∙ ap (λ (l : List Frame). overwrite s at (frameOctets l)) requested-by

@@ -1,5 +1,5 @@
 -- What is kept of a destination. For the code's own functions: `kept-is` says that it is that part of `answered`, whatever the
--- own number is. Assumes nothing.
+-- own number is.
 use Prim.Native.Nat.{ℕ}
 use mathlib.Core.Bool.{cond}
 use mathlib.Core.List.{List, [], _∷_, flatMap}

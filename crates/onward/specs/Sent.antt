@@ -1,5 +1,5 @@
 -- To whom an element goes on, and what is then sent. For the code's own functions: `reply-is` and `request-is` say that the
--- rules' frames are these. Assumes nothing.
+-- rules' frames are these.
 use Prim.Native.Nat.{ℕ, _/_}
 use mathlib.Core.Bool.{Bool, _&&_, cond}
 use mathlib.Core.List.{List, [], _∷_}
@@ -19,7 +19,7 @@ use Rattle.element.specs.Lists.{allOnes}
 use Rattle.rules.specs.declared.Arrival.{Arrival}
 use Rattle.element.specs.Flags.{unicast}
 use Rattle.rules.specs.Onward.{onward}
-use Rattle.rules.specs.Outcome.{Frame}
+use Rattle.rules.specs.Exit.{Frame}
 use Rattle.onward.specs.Kept.{keptAmong}
 
 -- ---- a RREP

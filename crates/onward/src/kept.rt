@@ -10,7 +10,7 @@ ghost use mathlib.Core.Path.{_≡_};
 ghost use mathlib.Core.List.{flatMap};
 ghost use Prim.Native.Nat.{_+_, _*_, _≤_};
 ghost use lib.ListN.{length};
-ghost use Rattle.octets.specs.LittleEndian.{over};
+ghost use Rattle.octets.specs.LittleEndian.{overwrite};
 ghost use Rattle.element.specs.Layout.{PartOf};
 ghost use Rattle.element.specs.declared.Kind.{Kind};
 ghost use Rattle.element.specs.Entries.{targetOctets};
@@ -48,7 +48,7 @@ fn write_if_kept(output: &mut [u8], at: usize, table: &[u8], clock: u64, q: Targ
     requires { ⌜ Sized (now table) ⌝ }
     requires { ⌜ at + 11 ≤ length (now output) ⌝ }
     ensures { λ r. ⌜ r ≡ at + length (keptOctets (now (table .entry)) clock q) ⌝ }
-    ensures { λ _. ⌜ now (output .exit) ≡ over (now (output .entry)) at (keptOctets (now (table .entry)) clock q) ⌝ }
+    ensures { λ _. ⌜ now (output .exit) ≡ overwrite (now (output .entry)) at (keptOctets (now (table .entry)) clock q) ⌝ }
 {
     match kept_of(table, clock, q) {
         Kept::As(k) => write::write_target(output, at, k),
@@ -62,7 +62,7 @@ pub fn write_kept(output: &mut [u8], at: usize, table: &[u8], clock: u64, part: 
     requires { ⌜ at + length (now part) ≤ length (now output) ⌝ }
     ensures { λ r. ⌜ r ≡ at + 11 * length (keptAmong (now (table .entry)) clock (now (part .entry))) ⌝ }
     ensures { λ _. ⌜ now (output .exit)
-        ≡ over (now (output .entry)) at (flatMap targetOctets (keptAmong (now (table .entry)) clock (now (part .entry)))) ⌝ }
+        ≡ overwrite (now (output .entry)) at (flatMap targetOctets (keptAmong (now (table .entry)) clock (now (part .entry)))) ⌝ }
 {
     let n = part.len() / list::TARGET;
     let mut place = at;

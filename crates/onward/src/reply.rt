@@ -11,13 +11,13 @@ ghost use mathlib.Core.Path.{_≡_};
 ghost use Prim.Native.Nat.{_+_, _<_, _≤_};
 ghost use lib.ListN.{length};
 ghost use Rattle.rules.specs.Learn.{Extends};
-ghost use Rattle.octets.specs.LittleEndian.{over};
+ghost use Rattle.octets.specs.LittleEndian.{overwrite};
 ghost use Rattle.element.specs.Layout.{PartOf};
 ghost use Rattle.element.specs.declared.Kind.{Kind};
 ghost use Rattle.element.specs.Entries.{numberedIn};
 ghost use Rattle.element.specs.Element.{rrep};
 ghost use Rattle.rules.specs.Onward.{rrepOnward, sentTo};
-ghost use Rattle.rules.specs.Outcome.{frameOctets};
+ghost use Rattle.rules.specs.Exit.{frameOctets};
 ghost use Rattle.calls.specs.Answers.{emitted};
 ghost use Rattle.onward.specs.Sent.{replyReceiver, rrepForward};
 ghost use Rattle.table.specs.Layout.{Sized};
@@ -50,7 +50,7 @@ fn send_to(output: &mut [u8], at: usize, receiver: NextHop, f: RrepFields, part:
     requires { ⌜ at + 260 ≤ length (now output) ⌝ }
     ensures { λ r. ⌜ r ≡ emitted (sentTo (rrep f (numberedIn (now (part .entry)))) (hopIn receiver)) ⌝ }
     ensures { λ _. ⌜ now (output .exit)
-        ≡ over (now (output .entry)) at (frameOctets (sentTo (rrep f (numberedIn (now (part .entry)))) (hopIn receiver))) ⌝ }
+        ≡ overwrite (now (output .entry)) at (frameOctets (sentTo (rrep f (numberedIn (now (part .entry)))) (hopIn receiver))) ⌝ }
 {
     let NextHop::To(next) = receiver else {
         return Emitted::nothing();
@@ -75,7 +75,8 @@ pub fn send_on(
     requires { ⌜ at + 260 ≤ length (now output) ⌝ }
     ensures { λ r. ⌜ r ≡ emitted (rrepOnward (now (table .entry)) a f (numberedIn (now (part .entry)))) ⌝ }
     ensures { λ _. ⌜ now (output .exit)
-        ≡ over (now (output .entry)) at (frameOctets (rrepOnward (now (table .entry)) a f (numberedIn (now (part .entry))))) ⌝ }
+        ≡ overwrite (now (output .entry)) at
+        (frameOctets (rrepOnward (now (table .entry)) a f (numberedIn (now (part .entry))))) ⌝ }
 {
     let receiver = receiver_of(table, a.clock, f.source.address);
     send_to(output, at, receiver, fields_onward(a, f), part)

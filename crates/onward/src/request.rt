@@ -15,11 +15,11 @@ ghost use mathlib.Core.Bool.{false};
 ghost use Prim.Native.Nat.{_+_, _<_, _≤_};
 ghost use lib.ListN.{length};
 ghost use Rattle.rules.specs.Learn.{Extends};
-ghost use Rattle.octets.specs.LittleEndian.{over};
+ghost use Rattle.octets.specs.LittleEndian.{overwrite};
 ghost use Rattle.element.specs.Layout.{PartOf};
 ghost use Rattle.element.specs.declared.Kind.{Kind};
 ghost use Rattle.rules.specs.Onward.{rreqOnward};
-ghost use Rattle.rules.specs.Outcome.{frameOctets};
+ghost use Rattle.rules.specs.Exit.{frameOctets};
 ghost use Rattle.calls.specs.Answers.{emitted};
 ghost use Rattle.onward.specs.Kept.{keptAmong};
 ghost use Rattle.onward.specs.Sent.{requestReceiver, requestSent, rreqForward, sentWith, unicastToSeveral};
@@ -64,7 +64,7 @@ fn send_kept(
     requires { ⌜ at + 254 ≤ length (now output) ⌝ }
     ensures { λ r. ⌜ r ≡ emitted (sentWith to f (keptAmong (now (table .entry)) clock (now (part .entry)))) ⌝ }
     ensures { λ _. ⌜ now (output .exit)
-        ≡ over (now (output .entry)) at
+        ≡ overwrite (now (output .entry)) at
         (frameOctets (sentWith to f (keptAmong (now (table .entry)) clock (now (part .entry))))) ⌝ }
 {
     let start = at + write::RREQ_START;
@@ -90,7 +90,7 @@ fn send(
     requires { ⌜ PartOf Kind.Rreq (now part) ⌝ }
     ensures { λ r. ⌜ r ≡ emitted (requestSent (now (table .entry)) clock f (now (part .entry))) ⌝ }
     ensures { λ _. ⌜ now (output .exit)
-        ≡ over (now (output .entry)) at (frameOctets (requestSent (now (table .entry)) clock f (now (part .entry)))) ⌝ }
+        ≡ overwrite (now (output .entry)) at (frameOctets (requestSent (now (table .entry)) clock f (now (part .entry)))) ⌝ }
 {
     match receiver_of(table, clock, f.path, part) {
         NextHop::To(to) => send_kept(output, at, to, f, table, clock, part),
@@ -115,7 +115,7 @@ pub fn send_on(
     ensures { λ r. ⌜ r ≡ emitted
         (rreqOnward (now (table .entry)) a f (keptAmong (now (table .entry)) (a .clock) (now (part .entry)))) ⌝ }
     ensures { λ _. ⌜ now (output .exit)
-        ≡ over (now (output .entry)) at
+        ≡ overwrite (now (output .entry)) at
         (frameOctets (rreqOnward (now (table .entry)) a f
         (keptAmong (now (table .entry)) (a .clock) (now (part .entry))))) ⌝ }
 {

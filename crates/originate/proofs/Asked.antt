@@ -1,4 +1,4 @@
--- Ask: its items looked through, its destinations written, and what it leaves, as the code asks it. Assumes nothing.
+-- Ask: its items looked through, its destinations written, and what it leaves, as the code asks it.
 use Prim.Native.Nat.{ℕ, _+_, _-_, _*_, _/_, _%_, _<_, _≤_}
 use mathlib.Core.Path.{_≡_, refl, sym, ap, _∙_}
 use mathlib.Core.Bool.{Bool, true, _&&_, and-eq-true-iff}
@@ -7,7 +7,7 @@ use lib.Dec.{eqb, leb}
 use lib.ListN.{length, length-map}
 use native.Mathlib.Nat.{sub-zero}
 use borrow.Author.Tests.{lt-ltb, le-ltb, leb-true, eq-eqb, ne-eqb, not-false}
-use Rattle.octets.specs.LittleEndian.{over}
+use Rattle.octets.specs.LittleEndian.{overwrite}
 use Rattle.table.specs.declared.address.Address.{Address}
 use Rattle.table.specs.declared.row.Head.{Head}
 use Rattle.table.specs.declared.row.Row.{Row}
@@ -21,13 +21,13 @@ use Rattle.element.specs.declared.Kind.the-variants.{Rreq}
 use Rattle.element.specs.declared.Target.{Target}
 use Rattle.element.specs.Element.{rreq, rreqNumbers}
 use Rattle.element.specs.Entries.{each, itemAt, itemsIn, targetOctets}
-use Rattle.element.specs.Lists.{allOnes, among}
+use Rattle.element.specs.Lists.{allOnes, contains}
 use Rattle.element.specs.Octets.{frameStart, writeFrame}
 use Rattle.element.proofs.Scans.{each-length}
 use Rattle.element.proofs.Written.{entries-more, target-length}
 use Rattle.rules.specs.Decision.{accepted, Check}
 use Rattle.rules.specs.Lists.{any}
-use Rattle.rules.specs.Outcome.{lend, Exit, atExit}
+use Rattle.rules.specs.Exit.{lend, Exit, atExit}
 use Rattle.rules.specs.Originate.{numberedHead, ownRequest, requested, itemsFit, hasHighFlags, knownNumber, askedFor, itemChecks, asking, ask}
 use Rattle.rules.proofs.AnyOf.{any-found, any-more}
 use Rattle.rules.proofs.Rulings.{listed, Passed, passed-check}
@@ -35,7 +35,7 @@ use Rattle.calls.specs.declared.Outcome.{Outcome}
 use Rattle.calls.specs.declared.Answer.{Answer}
 use Rattle.calls.specs.declared.Answer.the-variants.{Accepted, Refused}
 use Rattle.calls.specs.declared.Emitted.{Emitted}
-use Rattle.calls.specs.Answers.{answerTo, exits}
+use Rattle.calls.specs.Answers.{answerTo, exitOf}
 use Rattle.calls.proofs.Checks.{table-sized, output-long, answer-passed, passed-first, refusal, acceptance}
 use Rattle.originate.proofs.Originated.{request-finished, requested-exit}
 
@@ -76,15 +76,15 @@ asked-one-by-one t (x ∷ l) = ap (λ (m : List ℕ). askedOctets t x ++ m) (ask
 
 module _ (t s : List ℕ) (n : ℕ) where
   pub asked-start : (out : List ℕ) (at : ℕ)
-      → over out at (flatMap (askedOctets t) (each (itemAt s) 0 (n - 0))) ≡ over out at (flatMap targetOctets (map (askedFor t) (each (itemAt s) 0 n)))
-  asked-start out at = rw (sub-zero n) (ap (over out at) (sym (asked-one-by-one t (each (itemAt s) 0 n))))
+      → overwrite out at (flatMap (askedOctets t) (each (itemAt s) 0 (n - 0))) ≡ overwrite out at (flatMap targetOctets (map (askedFor t) (each (itemAt s) 0 n)))
+  asked-start out at = rw (sub-zero n) (ap (overwrite out at) (sym (asked-one-by-one t (each (itemAt s) 0 n))))
 
   pub asked-more : (out u g : List ℕ) (i at at′ : ℕ) → i < n → (x : Item) → x ≡ itemAt s i → (y : Target) → y ≡ askedFor t x
-      → u ≡ over out at (targetOctets y) → at′ ≡ at + 11 → over out at (flatMap (askedOctets t) (each (itemAt s) i (n - i))) ≡ g
-      → over u at′ (flatMap (askedOctets t) (each (itemAt s) (i + 1) (n - (i + 1)))) ≡ g
+      → u ≡ overwrite out at (targetOctets y) → at′ ≡ at + 11 → overwrite out at (flatMap (askedOctets t) (each (itemAt s) i (n - i))) ≡ g
+      → overwrite u at′ (flatMap (askedOctets t) (each (itemAt s) (i + 1) (n - (i + 1)))) ≡ g
   asked-more out u g i at at′ l x xe y ye ue ae =
       let same-target : y ≡ askedFor t (itemAt s i) = ye ∙ ap (askedFor t) xe in
-      entries-more (askedOctets t) (itemAt s) n out u g i at at′ l (ue ∙ ap (λ (z : Target). over out at (targetOctets z)) same-target)
+      entries-more (askedOctets t) (itemAt s) n out u g i at at′ l (ue ∙ ap (λ (z : Target). overwrite out at (targetOctets z)) same-target)
       (ae ∙ ap (λ (k : ℕ). at + k) (sym (target-length (askedFor t (itemAt s i)))))
 
 -- ---- what it leaves
@@ -93,24 +93,24 @@ asked-many : (t s : List ℕ) → length s / 7 ≡ length (map (askedFor t) (ite
 asked-many t s = sym (length-map (itemsIn s) (askedFor t) ∙ each-length (itemAt s) 0 (length s / 7))
 
 pub asked-written : (t s w output v : List ℕ) (h : Head) (lifetime : ℕ)
-    → w ≡ over output 0 (frameStart allOnes Rreq (length s / 7) (rreqNumbers (ownRequest h 0 lifetime)))
-    → (at : ℕ) → at ≡ 34 → v ≡ over w at (flatMap targetOctets (map (askedFor t) (itemsIn s)))
-    → v ≡ over output 0 (writeFrame allOnes (rreq (ownRequest h 0 lifetime) (map (askedFor t) (itemsIn s))))
+    → w ≡ overwrite output 0 (frameStart allOnes Rreq (length s / 7) (rreqNumbers (ownRequest h 0 lifetime)))
+    → (at : ℕ) → at ≡ 34 → v ≡ overwrite w at (flatMap targetOctets (map (askedFor t) (itemsIn s)))
+    → v ≡ overwrite output 0 (writeFrame allOnes (rreq (ownRequest h 0 lifetime) (map (askedFor t) (itemsIn s))))
 asked-written t s w output v h lifetime = request-finished w output v h 0 lifetime (map (askedFor t) (itemsIn s)) (length s / 7) (asked-many t s)
 
 module _ (t s output u v : List ℕ) (octets : ℕ) (size : octets ≡ 34 + 11 * (length s / 7)) where
   pub asked-exit : (lifetime : ℕ) (h₀ h : Head) → h₀ ≡ headAt t → h ≡ numberedHead true h₀
-      → v ≡ over output 0 (writeFrame allOnes (rreq (ownRequest h 0 lifetime) (map (askedFor t) (itemsIn s)))) → u ≡ putHead t h
+      → v ≡ overwrite output 0 (writeFrame allOnes (rreq (ownRequest h 0 lifetime) (map (askedFor t) (itemsIn s)))) → u ≡ putHead t h
       → (em : Emitted) → em ≡ record { frames = 1; octets = octets }
-      → exits (Outcome.Accepted em) (lend u) v ≡ atExit (lend t) output (accepted (requested (lend t) 0 lifetime (map (askedFor t) (itemsIn s))))
+      → exitOf (Outcome.Accepted em) (lend u) v ≡ atExit (lend t) output (accepted (requested (lend t) 0 lifetime (map (askedFor t) (itemsIn s))))
   asked-exit lifetime h₀ h e₀ he ve ue =
       requested-exit t output u v 0 lifetime h₀ h e₀ he ue (map (askedFor t) (itemsIn s)) (length s / 7) (asked-many t s) ve octets size
 
 -- ---- decided by the check
 
 -- the own address by the head that was read
-pub own-named : (t : List ℕ) (h : Head) → h ≡ headAt t → (l : List Address) (b : Bool) → b ≡ among (h .own) l → (v : Bool) → b ≡ v → among (own t) l ≡ v
-own-named t h he l b be v bv = ap (λ (k : Head). among (k .own) l) (sym he) ∙ sym be ∙ bv
+pub own-named : (t : List ℕ) (h : Head) → h ≡ headAt t → (l : List Address) (b : Bool) → b ≡ contains l (h .own) → (v : Bool) → b ≡ v → contains l (own t) ≡ v
+own-named t h he l b be v bv = ap (λ (k : Head). contains l (k .own)) (sym he) ∙ sym be ∙ bv
 
 -- those of the items stand between others
 pub items-passed : (s : List ℕ) (a : Answer) → a ≡ answerTo (itemChecks s) → (checks : List Check) → a ≡ Accepted → (r : Answer) → r ≡ answerTo checks
@@ -143,7 +143,7 @@ module _ (t output s : List ℕ) (lifetime : ℕ) (a : Answer) (ae : a ≡ answe
     pub items-few : length s ≤ 140
     items-few = leb-true (length s) 140 (items-fit .1)
 
-  pub ask-refused : (n : ℕ) → a ≡ Refused n → exits (Outcome.Refused n) (lend t) output ≡ atExit (lend t) output (ask (lend t) (length output) lifetime s)
+  pub ask-refused : (n : ℕ) → a ≡ Refused n → exitOf (Outcome.Refused n) (lend t) output ≡ atExit (lend t) output (ask (lend t) (length output) lifetime s)
   unfolding ask
   ask-refused = refusal (lend t) output (asking (lend t) (length output) lifetime s) a ae
 

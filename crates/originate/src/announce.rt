@@ -11,16 +11,17 @@ ghost use mathlib.Core.Path.{_≡_};
 ghost use Prim.Native.Nat.{_≤_};
 ghost use lib.ListN.{length};
 ghost use Rattle.rules.specs.Decision.{accepted};
-ghost use Rattle.rules.specs.Outcome.{atExit, lend, leastOutput};
-ghost use Rattle.rules.specs.Originate.{announce, announced};
-ghost use Rattle.calls.specs.Answers.{exits};
+ghost use Rattle.rules.specs.Exit.{atExit, lend, leastOutput};
+ghost use Rattle.rules.specs.Exits.{announceExit};
+ghost use Rattle.rules.specs.Originate.{announced};
+ghost use Rattle.calls.specs.Answers.{exitOf};
 ghost use Rattle.table.specs.Layout.{Sized};
 
 // The table and the frame of an announcement that is not refused.
 fn send(table: &mut [u8], output: &mut [u8], flags: u8, lifetime: u32) -> Outcome
     requires { ⌜ Sized (now table) ⌝ }
     requires { ⌜ leastOutput ≤ length (now output) ⌝ }
-    ensures { λ r. ⌜ exits r (lend (now (table .exit))) (now (output .exit))
+    ensures { λ r. ⌜ exitOf r (lend (now (table .exit))) (now (output .exit))
         ≡ atExit (lend (now (table .entry))) (now (output .entry))
         (accepted (announced (lend (now (table .entry))) flags lifetime)) ⌝ }
 {
@@ -32,9 +33,8 @@ fn send(table: &mut [u8], output: &mut [u8], flags: u8, lifetime: u32) -> Outcom
 }
 
 pub fn announce(table: &mut [u8], output: &mut [u8], flags: u8, lifetime: u32) -> Outcome
-    ensures { λ r. ⌜ exits r (lend (now (table .exit))) (now (output .exit))
-        ≡ atExit (lend (now (table .entry))) (now (output .entry))
-        (announce (lend (now (table .entry))) (length (now (output .entry))) flags lifetime) ⌝ }
+    ensures { λ r. ⌜ exitOf r (lend (now (table .exit))) (now (output .exit))
+        ≡ announceExit (lend (now (table .entry))) (now (output .entry)) flags lifetime ⌝ }
 {
     match common::check(table, output, 1 < flags, lifetime) {
         Answer::Accepted => send(table, output, flags, lifetime),

@@ -19,7 +19,7 @@ ghost use mathlib.Core.Path.{_≡_};
 ghost use mathlib.Core.List.{flatMap, map};
 ghost use Prim.Native.Nat.{_+_, _*_, _/_, _≤_};
 ghost use lib.ListN.{length};
-ghost use Rattle.octets.specs.LittleEndian.{over};
+ghost use Rattle.octets.specs.LittleEndian.{overwrite};
 ghost use Rattle.table.specs.Table.{rowFor};
 ghost use Rattle.table.specs.Layout.{Sized};
 ghost use Rattle.element.specs.Element.{rreq};
@@ -28,9 +28,9 @@ ghost use Rattle.element.specs.Lists.{allOnes};
 ghost use Rattle.element.specs.Octets.{writeFrame};
 ghost use Rattle.rules.specs.Decision.{accepted};
 ghost use Rattle.rules.specs.Lists.{any};
-ghost use Rattle.rules.specs.Outcome.{atExit, lend, leastOutput};
+ghost use Rattle.rules.specs.Exit.{atExit, lend, leastOutput};
+ghost use Rattle.rules.specs.Exits.{askExit};
 ghost use Rattle.rules.specs.Originate.{
-  ask,
   askedFor,
   asking,
   hasHighFlags,
@@ -40,7 +40,7 @@ ghost use Rattle.rules.specs.Originate.{
   ownRequest,
   requested,
 };
-ghost use Rattle.calls.specs.Answers.{answerTo, exits};
+ghost use Rattle.calls.specs.Answers.{answerTo, exitOf};
 
 // 7 octets an item, 1 to 20 items.
 fn is_item_list(items: &[u8]) -> bool
@@ -73,7 +73,7 @@ fn check_items(items: &[u8]) -> Answer
     if list::has_forbidden(items, ListKind::Items) {
         return Answer::Refused(refusals::BAD_ADDRESS);
     }
-    if list::has_twice(items, ListKind::Items) | has_high_flags(items) {
+    if list::has_duplicate(items, ListKind::Items) | has_high_flags(items) {
         return Answer::Refused(refusals::BAD_LIST);
     }
     Answer::Accepted
@@ -98,7 +98,7 @@ fn check(table: &[u8], output: &[u8], lifetime: u32, items: &[u8]) -> Answer
     if !legal::is_table(table) {
         return Answer::Refused(refusals::NOT_A_TABLE);
     }
-    if list::is_among(items, ListKind::Items, row::read_head(table).own) {
+    if list::contains(items, ListKind::Items, row::read_head(table).own) {
         return Answer::Refused(refusals::ABOUT_ITSELF);
     }
     Answer::Accepted
@@ -138,7 +138,7 @@ fn write_targets(output: &mut [u8], at: usize, table: &[u8], items: &[u8]) -> us
     requires { ⌜ at + 11 * (length (now items) / 7) ≤ length (now output) ⌝ }
     ensures { λ r. ⌜ r ≡ at + 11 * (length (now (items .entry)) / 7) ⌝ }
     ensures { λ _. ⌜ now (output .exit)
-        ≡ over (now (output .entry)) at
+        ≡ overwrite (now (output .entry)) at
         (flatMap targetOctets (map (askedFor (now (table .entry))) (itemsIn (now (items .entry))))) ⌝ }
 {
     let n = items.len() / list::ITEM;
@@ -159,7 +159,7 @@ fn write_request(output: &mut [u8], head: Head, lifetime: u32, table: &[u8], ite
     requires { ⌜ length (now items) ≤ 140 ⌝ }
     ensures { λ r. ⌜ r ≡ 34 + 11 * (length (now (items .entry)) / 7) ⌝ }
     ensures { λ _. ⌜ now (output .exit)
-        ≡ over (now (output .entry)) 0
+        ≡ overwrite (now (output .entry)) 0
         (writeFrame allOnes (rreq (ownRequest head 0 lifetime)
         (map (askedFor (now (table .entry))) (itemsIn (now (items .entry)))))) ⌝ }
 {
@@ -173,7 +173,7 @@ fn send(table: &mut [u8], output: &mut [u8], lifetime: u32, items: &[u8]) -> Out
     requires { ⌜ leastOutput ≤ length (now output) ⌝ }
     requires { ⌜ 7 ≤ length (now items) ⌝ }
     requires { ⌜ length (now items) ≤ 140 ⌝ }
-    ensures { λ r. ⌜ exits r (lend (now (table .exit))) (now (output .exit))
+    ensures { λ r. ⌜ exitOf r (lend (now (table .exit))) (now (output .exit))
         ≡ atExit (lend (now (table .entry))) (now (output .entry))
         (accepted (requested (lend (now (table .entry))) 0 lifetime
         (map (askedFor (now (table .entry))) (itemsIn (now (items .entry)))))) ⌝ }
@@ -185,9 +185,8 @@ fn send(table: &mut [u8], output: &mut [u8], lifetime: u32, items: &[u8]) -> Out
 }
 
 pub fn ask(table: &mut [u8], output: &mut [u8], lifetime: u32, items: &[u8]) -> Outcome
-    ensures { λ r. ⌜ exits r (lend (now (table .exit))) (now (output .exit))
-        ≡ atExit (lend (now (table .entry))) (now (output .entry))
-        (ask (lend (now (table .entry))) (length (now (output .entry))) lifetime (now (items .entry))) ⌝ }
+    ensures { λ r. ⌜ exitOf r (lend (now (table .exit))) (now (output .exit))
+        ≡ askExit (lend (now (table .entry))) (now (output .entry)) lifetime (now (items .entry)) ⌝ }
 {
     match check(table, output, lifetime, items) {
         Answer::Accepted => send(table, output, lifetime, items),

@@ -15,7 +15,7 @@ use table::row::Head;
 ghost use mathlib.Core.Path.{_≡_};
 ghost use Prim.Native.Nat.{_≤_};
 ghost use lib.ListN.{length};
-ghost use Rattle.octets.specs.LittleEndian.{over};
+ghost use Rattle.octets.specs.LittleEndian.{overwrite};
 ghost use Rattle.element.specs.declared.Kind.{Kind};
 ghost use Rattle.element.specs.Element.{rreqNumbers};
 ghost use Rattle.element.specs.Lists.{allOnes};
@@ -80,7 +80,7 @@ pub fn start_request(output: &mut [u8], head: Head, flags: u8, lifetime: u32, n:
     requires { ⌜ 34 ≤ length (now output) ⌝ }
     ensures { λ r. ⌜ r ≡ 34 ⌝ }
     ensures { λ _. ⌜ now (output .exit)
-        ≡ over (now (output .entry)) 0 (frameStart allOnes Kind.Rreq n (rreqNumbers (ownRequest head flags lifetime))) ⌝ }
+        ≡ overwrite (now (output .entry)) 0 (frameStart allOnes Kind.Rreq n (rreqNumbers (ownRequest head flags lifetime))) ⌝ }
 {
     let request = head.request;
     let path = own_path(head, flags, lifetime);

@@ -14,9 +14,10 @@ ghost use mathlib.Core.List.{[], _∷_};
 ghost use Prim.Native.Nat.{_≤_};
 ghost use lib.ListN.{length};
 ghost use Rattle.rules.specs.Decision.{accepted};
-ghost use Rattle.rules.specs.Outcome.{atExit, lend, leastOutput};
-ghost use Rattle.rules.specs.Originate.{allWithDOAndRF, isRootFlags, requested, rootRequest};
-ghost use Rattle.calls.specs.Answers.{exits};
+ghost use Rattle.rules.specs.Exit.{atExit, lend, leastOutput};
+ghost use Rattle.rules.specs.Exits.{rootRequestExit};
+ghost use Rattle.rules.specs.Originate.{allWithDOAndRF, isRootFlags, requested};
+ghost use Rattle.calls.specs.Answers.{exitOf};
 ghost use Rattle.table.specs.Layout.{Sized};
 
 // Portal and reply wanted may be set, unicast and the reserved bits may not.
@@ -30,7 +31,7 @@ fn is_root_flags(flags: u8) -> bool
 fn send(table: &mut [u8], output: &mut [u8], flags: u8, lifetime: u32) -> Outcome
     requires { ⌜ Sized (now table) ⌝ }
     requires { ⌜ leastOutput ≤ length (now output) ⌝ }
-    ensures { λ r. ⌜ exits r (lend (now (table .exit))) (now (output .exit))
+    ensures { λ r. ⌜ exitOf r (lend (now (table .exit))) (now (output .exit))
         ≡ atExit (lend (now (table .entry))) (now (output .entry))
         (accepted (requested (lend (now (table .entry))) flags lifetime (allWithDOAndRF ∷ []))) ⌝ }
 {
@@ -47,9 +48,8 @@ fn send(table: &mut [u8], output: &mut [u8], flags: u8, lifetime: u32) -> Outcom
 }
 
 pub fn root_request(table: &mut [u8], output: &mut [u8], flags: u8, lifetime: u32) -> Outcome
-    ensures { λ r. ⌜ exits r (lend (now (table .exit))) (now (output .exit))
-        ≡ atExit (lend (now (table .entry))) (now (output .entry))
-        (rootRequest (lend (now (table .entry))) (length (now (output .entry))) flags lifetime) ⌝ }
+    ensures { λ r. ⌜ exitOf r (lend (now (table .exit))) (now (output .exit))
+        ≡ rootRequestExit (lend (now (table .entry))) (now (output .entry)) flags lifetime ⌝ }
 {
     match common::check(table, output, !is_root_flags(flags), lifetime) {
         Answer::Accepted => send(table, output, flags, lifetime),

@@ -1,11 +1,11 @@
--- The numbers of an element: those of its fixed part, and then those of its entries. Assumes nothing.
+-- The numbers of an element: those of its fixed part, and then those of its entries.
 use Prim.Native.Nat.{ℕ, _/_}
 use mathlib.Core.Path.{_≡_, refl, sym, ap, ap₂, _∙_}
 use mathlib.Core.List.{List, [], _∷_, flatMap}
 use lib.ListN.{length}
 use native.Mathlib.Nat.{zero-add}
-use Rattle.octets.specs.LittleEndian.{over}
-use Rattle.octets.proofs.OctetLists.{over-append}
+use Rattle.octets.specs.LittleEndian.{overwrite}
+use Rattle.octets.proofs.OctetLists.{overwrite-append}
 use Rattle.element.specs.declared.Kind.the-variants.{Rann, Rreq, Rrep, Rerr}
 use Rattle.element.specs.declared.PathInfo.{PathInfo}
 use Rattle.element.specs.declared.RreqFields.{RreqFields}
@@ -20,40 +20,40 @@ use Rattle.element.proofs.Scans.{each-length}
 use Rattle.element.proofs.Readings.{announcement-element, request-element, reply-element, error-element}
 use Rattle.probe.specs.Probes.{entryNumbers, elementNumbers, readNumbers}
 
-numbers-put : (e : Element) (s t u ys : List ℕ) → ys ≡ fixedNumbers (kindOf e) (countOf e) (fieldNumbers e) → t ≡ over s 0 ys → u ≡ over t (length ys) (entryNumbers e)
-    → u ≡ over s 0 (elementNumbers e)
+numbers-put : (e : Element) (s t u ys : List ℕ) → ys ≡ fixedNumbers (kindOf e) (countOf e) (fieldNumbers e) → t ≡ overwrite s 0 ys → u ≡ overwrite t (length ys) (entryNumbers e)
+    → u ≡ overwrite s 0 (elementNumbers e)
 unfolding elementNumbers
 numbers-put e s t u ys ye te ue =
     let fixed : List ℕ = fixedNumbers (kindOf e) (countOf e) (fieldNumbers e) in
-    ue ∙ ap₂ (λ (l : List ℕ) (k : ℕ). over l k (entryNumbers e)) (te ∙ ap (over s 0) ye) (ap length ye ∙ sym (zero-add (length fixed)))
-    ∙ sym (over-append s 0 fixed (entryNumbers e))
+    ue ∙ ap₂ (λ (l : List ℕ) (k : ℕ). overwrite l k (entryNumbers e)) (te ∙ ap (overwrite s 0) ye) (ap length ye ∙ sym (zero-add (length fixed)))
+    ∙ sym (overwrite-append s 0 fixed (entryNumbers e))
 
-module _ (s t ys : List ℕ) (te : t ≡ over s 0 ys) where
-  pub rann-put : (p : PathInfo) → ys ≡ fixedNumbers Rann 0 (rannNumbers p) → t ≡ over s 0 (elementNumbers (rann p))
-  unfolding over
+module _ (s t ys : List ℕ) (te : t ≡ overwrite s 0 ys) where
+  pub rann-put : (p : PathInfo) → ys ≡ fixedNumbers Rann 0 (rannNumbers p) → t ≡ overwrite s 0 (elementNumbers (rann p))
+  unfolding overwrite
   rann-put p ye = numbers-put (rann p) s t t ys ye te refl
 
   module _ (u part : List ℕ) (n : ℕ) where
     pub rreq-put : (f : RreqFields) → n ≡ length part / 11 → ys ≡ fixedNumbers Rreq n (rreqNumbers f)
-        → u ≡ over t 11 (flatMap targetNumbers (targetsIn part)) → u ≡ over s 0 (elementNumbers (rreq f (targetsIn part)))
+        → u ≡ overwrite t 11 (flatMap targetNumbers (targetsIn part)) → u ≡ overwrite s 0 (elementNumbers (rreq f (targetsIn part)))
     rreq-put f ne ye ue =
         let many = ne ∙ sym (each-length (targetAt part) 0 (length part / 11)) in
         numbers-put (rreq f (targetsIn part)) s t u ys (ye ∙ ap (λ (m : ℕ). fixedNumbers Rreq m (rreqNumbers f)) many) te
-        (ue ∙ ap (λ (k : ℕ). over t k (flatMap targetNumbers (targetsIn part))) (sym (ap length ye)))
+        (ue ∙ ap (λ (k : ℕ). overwrite t k (flatMap targetNumbers (targetsIn part))) (sym (ap length ye)))
 
     pub rrep-put : (f : RrepFields) → n ≡ length part / 10 → ys ≡ fixedNumbers Rrep n (rrepNumbers f)
-        → u ≡ over t 12 (flatMap numberedNumbers (numberedIn part)) → u ≡ over s 0 (elementNumbers (rrep f (numberedIn part)))
+        → u ≡ overwrite t 12 (flatMap numberedNumbers (numberedIn part)) → u ≡ overwrite s 0 (elementNumbers (rrep f (numberedIn part)))
     rrep-put f ne ye ue =
         let many = ne ∙ sym (each-length (numberedAt part) 0 (length part / 10)) in
         numbers-put (rrep f (numberedIn part)) s t u ys (ye ∙ ap (λ (m : ℕ). fixedNumbers Rrep m (rrepNumbers f)) many) te
-        (ue ∙ ap (λ (k : ℕ). over t k (flatMap numberedNumbers (numberedIn part))) (sym (ap length ye)))
+        (ue ∙ ap (λ (k : ℕ). overwrite t k (flatMap numberedNumbers (numberedIn part))) (sym (ap length ye)))
 
     pub rerr-put : (f : RerrFields) → n ≡ length part / 10 → ys ≡ fixedNumbers Rerr n (rerrNumbers f)
-        → u ≡ over t 4 (flatMap lostNumbers (lostIn part)) → u ≡ over s 0 (elementNumbers (rerr f (lostIn part)))
+        → u ≡ overwrite t 4 (flatMap lostNumbers (lostIn part)) → u ≡ overwrite s 0 (elementNumbers (rerr f (lostIn part)))
     rerr-put f ne ye ue =
         let many = ne ∙ sym (each-length (lostAt part) 0 (length part / 10)) in
         numbers-put (rerr f (lostIn part)) s t u ys (ye ∙ ap (λ (m : ℕ). fixedNumbers Rerr m (rerrNumbers f)) many) te
-        (ue ∙ ap (λ (k : ℕ). over t k (flatMap lostNumbers (lostIn part))) (sym (ap length ye)))
+        (ue ∙ ap (λ (k : ℕ). overwrite t k (flatMap lostNumbers (lostIn part))) (sym (ap length ye)))
 
 -- ---- by the reader's answer
 
@@ -63,22 +63,22 @@ module _ (s numbers : List ℕ) (r : Reading) (re : r ≡ reading s) where
   read-refused n e = rw (← re, e) refl
 
   module _ (a : ℕ) (ae : a ≡ 0) (u : List ℕ) where
-    pub read-rann : (p : PathInfo) → r ≡ Announcement p → u ≡ over numbers 0 (elementNumbers (rann p)) → record { answer = a; memory = u } ≡ readNumbers s numbers
+    pub read-rann : (p : PathInfo) → r ≡ Announcement p → u ≡ overwrite numbers 0 (elementNumbers (rann p)) → record { answer = a; memory = u } ≡ readNumbers s numbers
     unfolding readNumbers
     read-rann p e ue = rw (ae, ue, ← re, e, announcement-element s r re p e) refl
 
     module _ (part : List ℕ) (pe : part ≡ listPart s) where
-      pub read-rreq : (f : RreqFields) → r ≡ Request f → u ≡ over numbers 0 (elementNumbers (rreq f (targetsIn part)))
+      pub read-rreq : (f : RreqFields) → r ≡ Request f → u ≡ overwrite numbers 0 (elementNumbers (rreq f (targetsIn part)))
           → record { answer = a; memory = u } ≡ readNumbers s numbers
       unfolding readNumbers
       read-rreq f e ue = rw (ae, ue, ← re, e, request-element s r re f e part pe) refl
 
-      pub read-rrep : (f : RrepFields) → r ≡ Reply f → u ≡ over numbers 0 (elementNumbers (rrep f (numberedIn part)))
+      pub read-rrep : (f : RrepFields) → r ≡ Reply f → u ≡ overwrite numbers 0 (elementNumbers (rrep f (numberedIn part)))
           → record { answer = a; memory = u } ≡ readNumbers s numbers
       unfolding readNumbers
       read-rrep f e ue = rw (ae, ue, ← re, e, reply-element s r re f e part pe) refl
 
-      pub read-rerr : (f : RerrFields) → r ≡ Error f → u ≡ over numbers 0 (elementNumbers (rerr f (lostIn part)))
+      pub read-rerr : (f : RerrFields) → r ≡ Error f → u ≡ overwrite numbers 0 (elementNumbers (rerr f (lostIn part)))
           → record { answer = a; memory = u } ≡ readNumbers s numbers
       unfolding readNumbers
       read-rerr f e ue = rw (ae, ue, ← re, e, error-element s r re f e part pe) refl

@@ -1,4 +1,4 @@
--- Frames that fit and frames that do not, and the faults of a list. Assumes nothing.
+-- Frames that fit and frames that do not, and the faults of a list.
 use Prim.Native.Nat.{ℕ, _+_, _-_, _/_, _%_, _<_, _≤_}
 use mathlib.Core.Path.{_≡_, refl, sym, _∙_}
 use mathlib.Core.Bool.{Bool, true, false, not, cond}
@@ -7,7 +7,7 @@ use lib.Dec.{leb}
 use lib.ListN.{length}
 use native.Mathlib.Omega.{arith}
 use borrow.Author.Tests.{leb-true, leb-false, le-leb, lt-leb, not-true, not-false}
-use Rattle.octets.specs.LittleEndian.{over}
+use Rattle.octets.specs.LittleEndian.{overwrite}
 use Rattle.table.specs.declared.address.Address.{Address}
 use Rattle.element.specs.declared.Kind.the-variants.{Rreq, Rrep, Rerr}
 use Rattle.element.specs.declared.list.ListKind.{ListKind}
@@ -22,7 +22,7 @@ use Rattle.element.specs.Element.{rann, rreq, rrep, rerr}
 use Rattle.element.specs.Entries.{lostAt, lostIn, numberedAt, numberedIn, targetAt, targetsIn}
 use Rattle.element.specs.Layout.{PartOf}
 use Rattle.element.specs.Octets.{reading, listPart, writeFrame}
-use Rattle.element.specs.Lists.{addressesIn, among, anyForbidden, onesBesideOthers, twice}
+use Rattle.element.specs.Lists.{addressesIn, contains, anyForbidden, onesBesideOthers, hasDuplicate}
 use Rattle.element.proofs.Scans.{each-length}
 use Rattle.element.proofs.Sizes.{frame-length}
 use Rattle.element.proofs.Readings.{announcement-element, request-element, reply-element, error-element}
@@ -50,7 +50,7 @@ module _ (out : List ℕ) (at size : ℕ) where
       unfolding written
       no-room no-b = rw (pe, ← be, not-true b no-b) refl
 
-      pub wrote : not b ≡ false → (u : List ℕ) → u ≡ over out at p → record { answer = 0; memory = u } ≡ written out at p
+      pub wrote : not b ≡ false → (u : List ℕ) → u ≡ overwrite out at p → record { answer = 0; memory = u } ≡ written out at p
       unfolding written
       wrote yes-b u ue = rw (pe, ← be, not-false b yes-b, ue) refl
 
@@ -109,7 +109,7 @@ module _ (s out : List ℕ) (to : Address) (at : ℕ) (r : Reading) (re : r ≡ 
 -- ---- faults
 
 module _ (k : ListKind) (a : Address) (l : List Address) where
-  pub faults-summed : (w x y z : ℕ) (c d e f : Bool) → c ≡ anyForbidden k l → d ≡ twice l → e ≡ onesBesideOthers l → f ≡ among a l
+  pub faults-summed : (w x y z : ℕ) (c d e f : Bool) → c ≡ anyForbidden k l → d ≡ hasDuplicate l → e ≡ onesBesideOthers l → f ≡ contains l a
       → w ≡ cond c 1 0 → x ≡ cond d 2 0 → y ≡ cond e 4 0 → z ≡ cond f 8 0 → w + x + y + z ≡ faults k a l
   faults-summed w x y z c d e f ce de ee fe we xe ye ze = rw (we, xe, ye, ze, ce, de, ee, fe) refl
 

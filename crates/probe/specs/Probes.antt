@@ -1,10 +1,10 @@
--- What the entries for tests answer and leave in the memory that they are lent. Assumes nothing.
+-- What the entries for tests answer and leave in the memory that they are lent.
 use Prim.Native.Nat.{ℕ, _+_}
 use mathlib.Core.Bool.{cond}
 use mathlib.Core.List.{List, [], _++_, flatMap}
 use lib.Dec.{leb}
 use lib.ListN.{length}
-use Rattle.octets.specs.LittleEndian.{over}
+use Rattle.octets.specs.LittleEndian.{overwrite}
 use Rattle.table.specs.declared.address.Address.{Address}
 use Rattle.element.specs.declared.list.ListKind.{ListKind}
 use Rattle.element.specs.declared.list.ListKind.the-variants.{Targets, Dependents, LostDestinations}
@@ -24,7 +24,7 @@ use Rattle.element.specs.Element.{
   targetNumbers,
 }
 use Rattle.element.specs.Octets.{fixedNumbers, readElement, reading, listPart, writeFrame}
-use Rattle.element.specs.Lists.{addressesIn, among, anyForbidden, onesBesideOthers, twice}
+use Rattle.element.specs.Lists.{addressesIn, contains, anyForbidden, onesBesideOthers, hasDuplicate}
 
 pub record Probed : Type 0 where
   pub answer : ℕ
@@ -52,14 +52,15 @@ elementNumbers e = fixedNumbers (kindOf e) (countOf e) (fieldNumbers e) ++ entry
 
 unfoldable pub readNumbers : List ℕ → List ℕ → Probed
 readNumbers s numbers =
-    unlessRefused (reading s) numbers (record { answer = 0; memory = over numbers 0 (elementNumbers (readElement s)) })
+    unlessRefused (reading s) numbers (record { answer = 0; memory = overwrite numbers 0 (elementNumbers (readElement s)) })
 
 -- ---- an element written again
 
 -- octets written from place at on, or 2 if they do not fit in there (a call asks of its output at once what it may need)
 unfoldable pub written : List ℕ → ℕ → List ℕ → Probed
 written out at p =
-    cond (leb (at + length p) (length out)) (record { answer = 0; memory = over out at p }) (record { answer = 2; memory = out })
+    cond (leb (at + length p) (length out)) (record { answer = 0; memory = overwrite out at p })
+    (record { answer = 2; memory = out })
 
 unfoldable pub writtenAgain : List ℕ → Address → List ℕ → ℕ → Probed
 writtenAgain s to out at = unlessRefused (reading s) out (written out at (writeFrame to (readElement s)))
@@ -68,7 +69,7 @@ writtenAgain s to out at = unlessRefused (reading s) out (written out at (writeF
 -- 8 the given address among them
 
 abbrev pub faults : ListKind → Address → List Address → ℕ
-faults k a l = cond (anyForbidden k l) 1 0 + cond (twice l) 2 0 + cond (onesBesideOthers l) 4 0 + cond (among a l) 8 0
+faults k a l = cond (anyForbidden k l) 1 0 + cond (hasDuplicate l) 2 0 + cond (onesBesideOthers l) 4 0 + cond (contains l a) 8 0
 
 abbrev pub faultsRead : Reading → List ℕ → Address → ℕ
 faultsRead (Announcement p) part a = faults Dependents a (addressesIn Dependents part)

@@ -12,7 +12,7 @@ ghost use mathlib.Core.List.{flatMap};
 ghost use Prim.Native.Nat.{_+_, _≤_};
 ghost use lib.Dec.{leb};
 ghost use lib.ListN.{length};
-ghost use Rattle.octets.specs.LittleEndian.{over};
+ghost use Rattle.octets.specs.LittleEndian.{overwrite};
 ghost use Rattle.element.specs.Element.{rann, rerr, rrep, rreq};
 ghost use Rattle.element.specs.Entries.{lostIn, lostOctets, numberedIn, targetOctets, targetsIn};
 ghost use Rattle.element.specs.Layout.{PartOf};
@@ -32,7 +32,7 @@ fn has_room(out: &[u8], at: usize, size: usize) -> bool
 
 fn write_targets(out: &mut [u8], at: usize, part: &[u8])
     requires { ⌜ at + length (now part) ≤ length (now out) ⌝ }
-    ensures { λ _. ⌜ now (out .exit) ≡ over (now (out .entry)) at (flatMap targetOctets (targetsIn (now (part .entry)))) ⌝ }
+    ensures { λ _. ⌜ now (out .exit) ≡ overwrite (now (out .entry)) at (flatMap targetOctets (targetsIn (now (part .entry)))) ⌝ }
 {
     let n = part.len() / list::TARGET;
     let mut place = at;
@@ -45,7 +45,7 @@ fn write_targets(out: &mut [u8], at: usize, part: &[u8])
 
 fn write_losses(out: &mut [u8], at: usize, part: &[u8])
     requires { ⌜ at + length (now part) ≤ length (now out) ⌝ }
-    ensures { λ _. ⌜ now (out .exit) ≡ over (now (out .entry)) at (flatMap lostOctets (lostIn (now (part .entry)))) ⌝ }
+    ensures { λ _. ⌜ now (out .exit) ≡ overwrite (now (out .entry)) at (flatMap lostOctets (lostIn (now (part .entry)))) ⌝ }
 {
     let n = part.len() / list::LOST;
     let mut place = at;

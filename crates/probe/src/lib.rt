@@ -72,9 +72,9 @@ fn faults_of(part: &[u8], kind: ListKind, address: Address) -> u32
     ensures { λ r. ⌜ r ≡ faults kind address (addressesIn kind (now (part .entry))) ⌝ }
 {
     value_if(list::has_forbidden(part, kind), 1)
-        + value_if(list::has_twice(part, kind), 2)
+        + value_if(list::has_duplicate(part, kind), 2)
         + value_if(list::has_ones_beside_others(part, kind), 4)
-        + value_if(list::is_among(part, kind, address), 8)
+        + value_if(list::contains(part, kind, address), 8)
 }
 
 // What is wrong with the addresses of the list, as a sum: 1 one that may not be a destination, 2 one that stands twice, 4

@@ -10,7 +10,7 @@ ghost use mathlib.Core.Path.{_≡_};
 ghost use mathlib.Core.List.{flatMap};
 ghost use Prim.Native.Nat.{_+_, _*_, _/_, _≤_};
 ghost use lib.ListN.{length};
-ghost use Rattle.octets.specs.LittleEndian.{over};
+ghost use Rattle.octets.specs.LittleEndian.{overwrite};
 ghost use Rattle.element.specs.Element.{lostNumbers, numberedNumbers, rann, rerr, rrep, rreq, targetNumbers};
 ghost use Rattle.element.specs.Entries.{lostIn, numberedIn, targetsIn};
 ghost use Rattle.element.specs.Layout.{PartOf};
@@ -19,7 +19,7 @@ ghost use Rattle.probe.specs.Probes.{elementNumbers};
 
 fn put(numbers: &mut [u64], at: usize, values: &[u64])
     requires { ⌜ at + length (now values) ≤ length (now numbers) ⌝ }
-    ensures { λ _. ⌜ now (numbers .exit) ≡ over (now (numbers .entry)) at (now (values .entry)) ⌝ }
+    ensures { λ _. ⌜ now (numbers .exit) ≡ overwrite (now (numbers .entry)) at (now (values .entry)) ⌝ }
 {
     let mut j = 0;
     while j < values.len() {
@@ -31,7 +31,7 @@ fn put(numbers: &mut [u64], at: usize, values: &[u64])
 fn put_targets(numbers: &mut [u64], at: usize, part: &[u8])
     requires { ⌜ at + 3 * (length (now part) / 11) ≤ length (now numbers) ⌝ }
     ensures { λ _. ⌜ now (numbers .exit)
-        ≡ over (now (numbers .entry)) at (flatMap targetNumbers (targetsIn (now (part .entry)))) ⌝ }
+        ≡ overwrite (now (numbers .entry)) at (flatMap targetNumbers (targetsIn (now (part .entry)))) ⌝ }
 {
     let n = part.len() / list::TARGET;
     let mut place = at;
@@ -48,7 +48,7 @@ fn put_targets(numbers: &mut [u64], at: usize, part: &[u8])
 fn put_dependents(numbers: &mut [u64], at: usize, part: &[u8])
     requires { ⌜ at + 2 * (length (now part) / 10) ≤ length (now numbers) ⌝ }
     ensures { λ _. ⌜ now (numbers .exit)
-        ≡ over (now (numbers .entry)) at (flatMap numberedNumbers (numberedIn (now (part .entry)))) ⌝ }
+        ≡ overwrite (now (numbers .entry)) at (flatMap numberedNumbers (numberedIn (now (part .entry)))) ⌝ }
 {
     let n = part.len() / list::DEPENDENT;
     let mut place = at;
@@ -64,7 +64,8 @@ fn put_dependents(numbers: &mut [u64], at: usize, part: &[u8])
 
 fn put_losses(numbers: &mut [u64], at: usize, part: &[u8])
     requires { ⌜ at + 2 * (length (now part) / 10) ≤ length (now numbers) ⌝ }
-    ensures { λ _. ⌜ now (numbers .exit) ≡ over (now (numbers .entry)) at (flatMap lostNumbers (lostIn (now (part .entry)))) ⌝ }
+    ensures { λ _. ⌜ now (numbers .exit)
+        ≡ overwrite (now (numbers .entry)) at (flatMap lostNumbers (lostIn (now (part .entry)))) ⌝ }
 {
     let n = part.len() / list::LOST;
     let mut place = at;
@@ -81,7 +82,7 @@ fn put_losses(numbers: &mut [u64], at: usize, part: &[u8])
 pub fn put_rann(numbers: &mut [u64], path: PathInfo) -> u32
     requires { ⌜ 9 ≤ length (now numbers) ⌝ }
     ensures { λ r. ⌜ r ≡ 0 ⌝ }
-    ensures { λ _. ⌜ now (numbers .exit) ≡ over (now (numbers .entry)) 0 (elementNumbers (rann path)) ⌝ }
+    ensures { λ _. ⌜ now (numbers .exit) ≡ overwrite (now (numbers .entry)) 0 (elementNumbers (rann path)) ⌝ }
 {
     let values = write::rann_numbers(path);
     put(numbers, 0, &values);
@@ -93,7 +94,7 @@ pub fn put_rreq(numbers: &mut [u64], f: RreqFields, part: &[u8]) -> u32
     requires { ⌜ 71 ≤ length (now numbers) ⌝ }
     ensures { λ r. ⌜ r ≡ 0 ⌝ }
     ensures { λ _. ⌜ now (numbers .exit)
-        ≡ over (now (numbers .entry)) 0 (elementNumbers (rreq f (targetsIn (now (part .entry))))) ⌝ }
+        ≡ overwrite (now (numbers .entry)) 0 (elementNumbers (rreq f (targetsIn (now (part .entry))))) ⌝ }
 {
     let values = write::rreq_numbers(f, list::entries_in(part, ListKind::Targets));
     put(numbers, 0, &values);
@@ -106,7 +107,7 @@ pub fn put_rrep(numbers: &mut [u64], f: RrepFields, part: &[u8]) -> u32
     requires { ⌜ 71 ≤ length (now numbers) ⌝ }
     ensures { λ r. ⌜ r ≡ 0 ⌝ }
     ensures { λ _. ⌜ now (numbers .exit)
-        ≡ over (now (numbers .entry)) 0 (elementNumbers (rrep f (numberedIn (now (part .entry))))) ⌝ }
+        ≡ overwrite (now (numbers .entry)) 0 (elementNumbers (rrep f (numberedIn (now (part .entry))))) ⌝ }
 {
     let values = write::rrep_numbers(f, list::entries_in(part, ListKind::Dependents));
     put(numbers, 0, &values);
@@ -119,7 +120,7 @@ pub fn put_rerr(numbers: &mut [u64], f: RerrFields, part: &[u8]) -> u32
     requires { ⌜ 71 ≤ length (now numbers) ⌝ }
     ensures { λ r. ⌜ r ≡ 0 ⌝ }
     ensures { λ _. ⌜ now (numbers .exit)
-        ≡ over (now (numbers .entry)) 0 (elementNumbers (rerr f (lostIn (now (part .entry))))) ⌝ }
+        ≡ overwrite (now (numbers .entry)) 0 (elementNumbers (rerr f (lostIn (now (part .entry))))) ⌝ }
 {
     let values = write::rerr_numbers(f, list::entries_in(part, ListKind::LostDestinations));
     put(numbers, 0, &values);

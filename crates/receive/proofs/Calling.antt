@@ -1,4 +1,4 @@
--- Receive by its first checks, by what is read, and by type, as the code asks it. Assumes nothing.
+-- Receive by its first checks, by what is read, and by type, as the code asks it.
 use Prim.Native.Nat.{ℕ, _≤_}
 use mathlib.Core.Path.{_≡_, refl, sym, ap, _∙_}
 use mathlib.Core.Bool.{Bool, true, false, cond, false≢true}
@@ -18,20 +18,20 @@ use Rattle.element.specs.Octets.{wrongLength, otherId, misfit, readElement, fix
 use Rattle.element.proofs.Readings.{announcement-element, request-element, reply-element, error-element}
 use Rattle.rules.specs.declared.Arrival.{Arrival}
 use Rattle.rules.specs.Decision.{refused, decide}
-use Rattle.rules.specs.Outcome.{lend, Exit, atExit}
+use Rattle.rules.specs.Exit.{lend, Exit, atExit}
 use Rattle.rules.specs.Receive.{arrivalChecks, octetChecks, judging, readingOctets, receiving, receive}
 use Rattle.rules.proofs.Rulings.{listed, passed-check}
 use Rattle.calls.specs.declared.Outcome.{Outcome}
 use Rattle.calls.specs.declared.Answer.{Answer}
 use Rattle.calls.specs.declared.Answer.the-variants.{Accepted, Refused}
-use Rattle.calls.specs.Answers.{answerTo, exits}
+use Rattle.calls.specs.Answers.{answerTo, exitOf}
 use Rattle.calls.proofs.Checks.{answer-passed, part-refused, part-decided, refusal, table-sized, output-long}
 use Rattle.table.specs.Layout.{headOctets, Sized}
 
 -- ---- the first checks
 
 module _ (t output : List ℕ) (a : Arrival) (r : Answer) (re : r ≡ answerTo (arrivalChecks t (length output) a)) where
-  pub arrival-refused : (s : List ℕ) (n : ℕ) → r ≡ Refused n → exits (Outcome.Refused n) (lend t) output ≡ atExit (lend t) output (receive (lend t) (length output) a s)
+  pub arrival-refused : (s : List ℕ) (n : ℕ) → r ≡ Refused n → exitOf (Outcome.Refused n) (lend t) output ≡ atExit (lend t) output (receive (lend t) (length output) a s)
   unfolding receive
   arrival-refused s n e =
       refusal (lend t) output (receiving (lend t) (length output) a s) (Refused n)
@@ -77,7 +77,7 @@ module _ (t : List ℕ) (a : Arrival) (s : List ℕ) (r : Reading) (re : r ≡ r
       by false false true h = cc
       by false false false h = absurd (never-unread (readElement s) n h)
 
-  pub read-refused : (output : List ℕ) (n : ℕ) → r ≡ Unread n → exits (Outcome.Refused n) (lend t) output ≡ atExit (lend t) output (decide (readingOctets (lend t) a s))
+  pub read-refused : (output : List ℕ) (n : ℕ) → r ≡ Unread n → exitOf (Outcome.Refused n) (lend t) output ≡ atExit (lend t) output (decide (readingOctets (lend t) a s))
   unfolding atExit
   read-refused output n e = ap (atExit (lend t) output) (unread n e)
 

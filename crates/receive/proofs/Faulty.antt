@@ -1,4 +1,4 @@
--- What is wrong with a RREQ's destinations, as the code asks it. Assumes nothing.
+-- What is wrong with a RREQ's destinations, as the code asks it.
 use Prim.Native.Nat.{ℕ}
 use mathlib.Core.Path.{_≡_, sym, ap, ap₂, _∙_}
 use mathlib.Core.Bool.{Bool, true, false, not, _&&_, _||_}
@@ -12,7 +12,7 @@ use Rattle.element.specs.declared.RreqFields.{RreqFields}
 use Rattle.element.specs.declared.list.ListKind.the-variants.{Targets}
 use Rattle.element.specs.Element.{rreq}
 use Rattle.element.specs.Entries.{entriesIn, targetsIn}
-use Rattle.element.specs.Lists.{addressesIn, anyForbidden, allOnes, among, twice, onesBesideOthers}
+use Rattle.element.specs.Lists.{addressesIn, anyForbidden, allOnes, contains, hasDuplicate, onesBesideOthers}
 use Rattle.element.proofs.Scans.{addresses-many, target-addresses}
 use Rattle.element.specs.Flags.{unicast}
 use Rattle.rules.specs.Receive.{hasBadAddress, hasBadList, severalOrAll}
@@ -26,7 +26,7 @@ module _ (p : PathInfo) (u : Bool) (ue : u ≡ unicast p) where
   is-unicast e m s me = me ∙ ap (λ (b : Bool). b && s) (sym (not-false u e) ∙ ue)
 
 module _ (part : List ℕ) where
-  pub several-is : (n : ℕ) → n ≡ entriesIn Targets part → (o : Bool) → o ≡ among allOnes (addressesIn Targets part)
+  pub several-is : (n : ℕ) → n ≡ entriesIn Targets part → (o : Bool) → o ≡ contains (addressesIn Targets part) allOnes
       → (ltb 1 n || o) ≡ severalOrAll (addressesIn Targets part)
   unfolding severalOrAll
   several-is n ne o oe = ap₂ (λ (k : ℕ) (b : Bool). ltb 1 k || b) (ne ∙ sym (addresses-many Targets part)) oe
@@ -38,24 +38,24 @@ module _ (part : List ℕ) where
     bad-address-is b be x xe = ap₂ (λ (c d : Bool). not c || d) be (xe ∙ ap (anyForbidden Targets) (sym (target-addresses part)))
 
     listFaults : List Address → Bool
-    listFaults l = twice l || onesBesideOthers l || among (f .path .subject) l || (unicast (f .path) && severalOrAll l)
+    listFaults l = hasDuplicate l || onesBesideOthers l || contains l (f .path .subject) || (unicast (f .path) && severalOrAll l)
 
     bad-list : listFaults (addressesIn Targets part) ≡ hasBadList (rreq f (targetsIn part))
     unfolding hasBadList listFaults
     bad-list = ap listFaults (sym (target-addresses part))
 
     -- the first fault decides
-    module _ (a : Bool) (ae : a ≡ twice (addressesIn Targets part)) where
-      pub named-twice : a ≡ true → true ≡ hasBadList (rreq f (targetsIn part))
+    module _ (a : Bool) (ae : a ≡ hasDuplicate (addressesIn Targets part)) where
+      pub named-duplicate : a ≡ true → true ≡ hasBadList (rreq f (targetsIn part))
       unfolding listFaults
-      named-twice e = rw (sym ae ∙ e) at bad-list
+      named-duplicate e = rw (sym ae ∙ e) at bad-list
 
       module _ (no-a : a ≡ false) (b : Bool) (be : b ≡ onesBesideOthers (addressesIn Targets part)) where
         pub ones-beside : b ≡ true → true ≡ hasBadList (rreq f (targetsIn part))
         unfolding listFaults
         ones-beside e = rw (sym ae ∙ no-a, sym be ∙ e) at bad-list
 
-        module _ (no-b : b ≡ false) (c : Bool) (ce : c ≡ among (f .path .subject) (addressesIn Targets part)) where
+        module _ (no-b : b ≡ false) (c : Bool) (ce : c ≡ contains (addressesIn Targets part) (f .path .subject)) where
           pub originator-named : c ≡ true → true ≡ hasBadList (rreq f (targetsIn part))
           unfolding listFaults
           originator-named e = rw (sym ae ∙ no-a, sym be ∙ no-b, sym ce ∙ e) at bad-list

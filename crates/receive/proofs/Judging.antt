@@ -1,4 +1,4 @@
--- An element that was read: the parts of its checks together, and what its answer says. Assumes nothing.
+-- An element that was read: the parts of its checks together, and what its answer says.
 use Prim.Native.Nat.{ℕ, _+_, _/_, _<_, _≤_}
 use mathlib.Core.Path.{_≡_, refl, sym, ap, _∙_}
 use mathlib.Core.Bool.{Bool, true, false, _&&_, _||_}
@@ -8,7 +8,7 @@ use lib.Dec.{eqb, ltb}
 use lib.ListN.{length}
 use native.Mathlib.Omega.{arith}
 use borrow.Author.Tests.{ltb-false, eqb-false, not-false}
-use Rattle.rules.specs.Learn.{Extends, maxMetric, metricHere, mostHops}
+use Rattle.rules.specs.Learn.{Extends, maxMetric, metricHere, maxHops}
 use Rattle.table.specs.declared.address.Address.{Address}
 use Rattle.element.specs.declared.PathInfo.{PathInfo}
 use Rattle.element.specs.declared.NumberedAddress.{NumberedAddress}
@@ -18,20 +18,20 @@ use Rattle.element.specs.declared.RerrFields.{RerrFields}
 use Rattle.element.specs.declared.list.ListKind.the-variants.{Targets, LostDestinations}
 use Rattle.element.specs.Element.{Element, rann, rreq, rrep, rerr}
 use Rattle.element.specs.Entries.{lostIn, numberedIn, targetsIn}
-use Rattle.element.specs.Lists.{addressesIn, allOnes, anyForbidden, among, twice, onesBesideOthers}
+use Rattle.element.specs.Lists.{addressesIn, allOnes, anyForbidden, contains, hasDuplicate, onesBesideOthers}
 use Rattle.element.proofs.Scans.{addresses-many, target-addresses, lost-addresses}
 use Rattle.rules.specs.declared.Arrival.{Arrival}
 use Rattle.rules.specs.Decision.{Check, decide}
 use Rattle.rules.specs.Errors.{matches}
 use Rattle.element.specs.Flags.{unicast}
-use Rattle.rules.specs.Lists.{any, has}
-use Rattle.rules.specs.Outcome.{lend, atExit}
+use Rattle.rules.specs.Lists.{any, isSomeAnd}
+use Rattle.rules.specs.Exit.{lend, atExit}
 use Rattle.rules.specs.Receive.{pathOf, targetAddresses, hasBadAddress, hasBadList, severalOrAll, isLowTtlReply, fieldChecks, matchesNothing, judging}
 use Rattle.rules.proofs.Rulings.{listed, Passed, passed-check}
 use Rattle.calls.specs.declared.Outcome.{Outcome}
 use Rattle.calls.specs.declared.Answer.{Answer}
 use Rattle.calls.specs.declared.Answer.the-variants.{Accepted, Refused}
-use Rattle.calls.specs.Answers.{answerTo, exits}
+use Rattle.calls.specs.Answers.{answerTo, exitOf}
 use Rattle.calls.proofs.Checks.{answer-passed, refused-first, passed-first, refusal}
 use Rattle.onward.specs.Sent.{unicastToSeveral}
 use Rattle.receive.specs.declared.faults.Faults.{Faults}
@@ -72,7 +72,7 @@ module _ (x : Faults) (a : Arrival) (p : PathInfo) (b : Answer)
     pub fields-extend : p .hops .0 < 256 → Extends a p
     unfolding listed
     fields-extend l =
-        let other = eqb-false (p .hops .0) mostHops (passed-check 12 ofFields good-fields) in
+        let other = eqb-false (p .hops .0) maxHops (passed-check 12 ofFields good-fields) in
         record { metric = ltb-false maxMetric (metricHere a p .0) (passed-check 13 ofFields good-fields); hops = omega (arith, l, other) }
 
 -- a RREP's dependents play no part
@@ -86,7 +86,7 @@ module _ (f : RerrFields) (part : List ℕ) (b v : Bool) where
   unfolding hasBadAddress
   error-address be bv = rw (lost-addresses part) (sym be ∙ bv)
 
-  pub error-list : b ≡ twice (addressesIn LostDestinations part) → b ≡ v → hasBadList (rerr f (lostIn part)) ≡ v
+  pub error-list : b ≡ hasDuplicate (addressesIn LostDestinations part) → b ≡ v → hasBadList (rerr f (lostIn part)) ≡ v
   unfolding hasBadList
   error-list be bv = rw (lost-addresses part) (sym be ∙ bv)
 
@@ -99,9 +99,9 @@ none-applied t a e r re ok = answer-passed (judging (lend t) a e .checks) (sym o
 module _ (t : List ℕ) (a : Arrival) (e : Element) (p : PathInfo) (r : Answer) (re : r ≡ answerTo (judging (lend t) a e .checks)) where
   -- a refusal learns nothing
   pub path-refused : (u : List ℕ) → u ≡ learntIf r a p t → (output : List ℕ) (n : ℕ) → r ≡ Refused n
-      → exits (Outcome.Refused n) (lend u) output ≡ atExit (lend t) output (decide (judging (lend t) a e))
+      → exitOf (Outcome.Refused n) (lend u) output ≡ atExit (lend t) output (decide (judging (lend t) a e))
   path-refused u ue output n q =
-      ap (λ (v : List ℕ). exits (Outcome.Refused n) (lend v) output) (nothing-learnt a p t u r ue n q)
+      ap (λ (v : List ℕ). exitOf (Outcome.Refused n) (lend v) output) (nothing-learnt a p t u r ue n q)
       ∙ refusal (lend t) output (judging (lend t) a e) r re n q
 
   module _ (ok : r ≡ Accepted) where
@@ -110,13 +110,13 @@ module _ (t : List ℕ) (a : Arrival) (e : Element) (p : PathInfo) (r : Answer) 
 
     module _ (pe : pathOf e ≡ some p) where
       -- a test of the path that did not apply
-      of-path : (test : PathInfo → Bool) → has test (pathOf e) ≡ false → test p ≡ false
-      of-path test passes = ap (has test) (sym pe) ∙ passes
+      of-path : (test : PathInfo → Bool) → isSomeAnd test (pathOf e) ≡ false → test p ≡ false
+      of-path test passes = ap (isSomeAnd test) (sym pe) ∙ passes
 
       pub path-extends : p .hops .0 < 256 → Extends a p
       unfolding listed
       path-extends l =
-          let other = eqb-false (p .hops .0) mostHops (of-path (λ q. eqb (q .hops .0) mostHops) (passed-check 12 (judging (lend t) a e .checks) path-passed)) in
+          let other = eqb-false (p .hops .0) maxHops (of-path (λ q. eqb (q .hops .0) maxHops) (passed-check 12 (judging (lend t) a e .checks) path-passed)) in
           record {
             metric = ltb-false maxMetric (metricHere a p .0)
                 (of-path (λ q. ltb maxMetric (metricHere a q .0)) (passed-check 13 (judging (lend t) a e .checks) path-passed));
@@ -140,8 +140,8 @@ module _ (t : List ℕ) (a : Arrival) (r : Answer) (ok : r ≡ Accepted) where
       let many : length addresses ≡ length part / 11 =
       ap length (target-addresses part) ∙ addresses-many Targets part in
       ap (λ (n : ℕ). unicast (f .path) && ltb 1 n) (sym many)
-      ∙ by (unicast (f .path)) (ltb 1 (length addresses)) (among allOnes addresses)
-      (twice addresses || onesBesideOthers addresses || among (f .path .subject) addresses) good
+      ∙ by (unicast (f .path)) (ltb 1 (length addresses)) (contains addresses allOnes)
+      (hasDuplicate addresses || onesBesideOthers addresses || contains addresses (f .path .subject)) good
     where
       by : (u m o b : Bool) → (b || (u && (m || o))) ≡ false → (u && m) ≡ false
       by false m o b e = refl

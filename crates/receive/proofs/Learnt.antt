@@ -1,4 +1,4 @@
--- The checks of a path's rows with what is learnt where they accept. Assumes nothing.
+-- The checks of a path's rows with what is learnt where they accept.
 use Prim.Native.Nat.{ℕ}
 use mathlib.Core.Path.{_≡_, refl, ap, _∙_}
 use mathlib.Core.List.{List}

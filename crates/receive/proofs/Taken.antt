@@ -1,11 +1,11 @@
--- What an accepted element leaves, type by type, as the code asks it. Assumes nothing.
+-- What an accepted element leaves, type by type, as the code asks it.
 use Prim.Native.Nat.{ℕ, _+_, _-_, _*_, _/_, _≤_}
 use mathlib.Core.Path.{_≡_, sym, ap, ap₂, _∙_}
 use mathlib.Core.List.{List, [], _∷_, _++_}
 use lib.ListN.{length, length-append}
 use native.Mathlib.Omega.{arith}
-use Rattle.octets.specs.LittleEndian.{over}
-use Rattle.octets.proofs.OctetLists.{over-append}
+use Rattle.octets.specs.LittleEndian.{overwrite}
+use Rattle.octets.proofs.OctetLists.{overwrite-append}
 use Rattle.counters.specs.declared.SequenceNumber.{SequenceNumber}
 use Rattle.table.specs.declared.row.Head.{Head}
 use Rattle.table.specs.Layout.{headAt, putHead}
@@ -26,9 +26,9 @@ use Rattle.rules.specs.Decision.{accepted, decide}
 use Rattle.rules.specs.Destinations.{Answered, allAnswered}
 use Rattle.rules.specs.Errors.{matches, isMatch, erred}
 use Rattle.rules.specs.Learn.{learnt}
-use Rattle.rules.specs.Lists.{those}
+use Rattle.rules.specs.Lists.{filter}
 use Rattle.rules.specs.Onward.{toAll, rannOnward, rreqOnward, rrepOnward}
-use Rattle.rules.specs.Outcome.{lend, Frame, frameOctets, underHead, Exit, atExit}
+use Rattle.rules.specs.Exit.{lend, Frame, frameOctets, underHead, Exit, atExit}
 use Rattle.rules.specs.Receive.{rannReceived, rrepReceived, rreqReceived, rerrReceived, received, judging}
 use Rattle.rules.proofs.Emitting.{Emits, rreq-emitted}
 use Rattle.rules.proofs.FrameOctets.{no-frame, one-frame, frames-append}
@@ -36,13 +36,13 @@ use Rattle.calls.specs.declared.Outcome.{Outcome}
 use Rattle.calls.specs.declared.Answer.{Answer}
 use Rattle.calls.specs.declared.Answer.the-variants.{Accepted}
 use Rattle.calls.specs.declared.Emitted.{Emitted}
-use Rattle.calls.specs.Answers.{answerTo, emitted, exits}
+use Rattle.calls.specs.Answers.{answerTo, emitted, exitOf}
 use Rattle.calls.proofs.Checks.{accepted-exit, acceptance}
 use Rattle.calls.proofs.Neighbours.{head-under, same-number}
 use Rattle.destinations.specs.declared.replies.Replied.{Replied}
 use Rattle.onward.specs.Kept.{keptAmong}
 use Rattle.destinations.specs.Replies.{repliedFrom}
-use Rattle.onward.proofs.KeptOnes.{answered-among, kept-few}
+use Rattle.onward.proofs.KeptOnes.{answered-contains, kept-few}
 use Rattle.destinations.proofs.Replying.{replies-long}
 use Rattle.receive.specs.declared.request.Sent.{Sent}
 use Rattle.receive.specs.Checks.{learntIf}
@@ -53,29 +53,29 @@ module _ (t output : List ℕ) (a : Arrival) (h : Head) (he : h ≡ headAt t) wh
   -- ---- a RANN and a RREP
 
   rann-exit : (p : PathInfo) (u : List ℕ) → u ≡ learnt a p t → (e : Emitted) → e ≡ emitted (rannOnward a p)
-      → (v : List ℕ) → v ≡ over output 0 (frameOctets (rannOnward a p))
-      → (w : List ℕ) → w ≡ putHead u (headWith (h .number) (h .request) (a .clock) h) → exits (Outcome.Accepted e) (lend w) v ≡ atExit (lend t) output (accepted (received (lend t) a (rann p)))
+      → (v : List ℕ) → v ≡ overwrite output 0 (frameOctets (rannOnward a p))
+      → (w : List ℕ) → w ≡ putHead u (headWith (h .number) (h .request) (a .clock) h) → exitOf (Outcome.Accepted e) (lend w) v ≡ atExit (lend t) output (accepted (received (lend t) a (rann p)))
   unfolding received rannReceived
   rann-exit p u ue e ee v ve w we = accepted-exit (lend t) output (received (lend t) a (rann p)) (lend w) v e (ap lend (same-number t (a .clock) h he u (learnt a p t) w ue we)) ve ee
 
   rrep-exit : (f : RrepFields) (part u : List ℕ) → u ≡ learnt a (f .path) t → (e : Emitted) → e ≡ emitted (rrepOnward u a f (numberedIn part))
-      → (v : List ℕ) → v ≡ over output 0 (frameOctets (rrepOnward u a f (numberedIn part)))
+      → (v : List ℕ) → v ≡ overwrite output 0 (frameOctets (rrepOnward u a f (numberedIn part)))
       → (w : List ℕ) → w ≡ putHead u (headWith (h .number) (h .request) (a .clock) h)
-      → exits (Outcome.Accepted e) (lend w) v ≡ atExit (lend t) output (accepted (received (lend t) a (rrep f (numberedIn part))))
+      → exitOf (Outcome.Accepted e) (lend w) v ≡ atExit (lend t) output (accepted (received (lend t) a (rrep f (numberedIn part))))
   unfolding received rrepReceived
   rrep-exit f part u ue e ee v ve w we =
       accepted-exit (lend t) output (received (lend t) a (rrep f (numberedIn part))) (lend w) v e (ap lend (same-number t (a .clock) h he u (learnt a (f .path) t) w ue we))
-      (ve ∙ ap (λ (x : List ℕ). over output 0 (frameOctets (rrepOnward x a f (numberedIn part)))) ue)
+      (ve ∙ ap (λ (x : List ℕ). overwrite output 0 (frameOctets (rrepOnward x a f (numberedIn part)))) ue)
       (ee ∙ ap (λ (x : List ℕ). emitted (rrepOnward x a f (numberedIn part))) ue)
 
   -- ---- a RERR
 
   pub rerr-exit : (f : RerrFields) (part u : List ℕ) → u ≡ changeWhere (isMatch (a .clock) (a .transmitter) (lostIn part)) (erred (lostIn part)) t
-      → (octets : ℕ) → octets ≡ length (frameOctets (toAll (rerr f (those (matches t (a .clock) (a .transmitter)) (lostIn part)))))
+      → (octets : ℕ) → octets ≡ length (frameOctets (toAll (rerr f (filter (matches t (a .clock) (a .transmitter)) (lostIn part)))))
       → (e : Emitted) → e ≡ record { frames = 1; octets = octets }
-      → (v : List ℕ) → v ≡ over output 0 (frameOctets (toAll (rerr f (those (matches t (a .clock) (a .transmitter)) (lostIn part)))))
+      → (v : List ℕ) → v ≡ overwrite output 0 (frameOctets (toAll (rerr f (filter (matches t (a .clock) (a .transmitter)) (lostIn part)))))
       → (w : List ℕ) → w ≡ putHead u (headWith (h .number) (h .request) (a .clock) h)
-      → exits (Outcome.Accepted e) (lend w) v ≡ atExit (lend t) output (accepted (received (lend t) a (rerr f (lostIn part))))
+      → exitOf (Outcome.Accepted e) (lend w) v ≡ atExit (lend t) output (accepted (received (lend t) a (rerr f (lostIn part))))
   unfolding received rerrReceived
   rerr-exit f part u ue octets oe e ee v ve w we =
       accepted-exit (lend t) output (received (lend t) a (rerr f (lostIn part))) (lend w) v e (ap lend (same-number t (a .clock) h he u _ w ue we)) ve
@@ -85,9 +85,9 @@ module _ (t output : List ℕ) (a : Arrival) (h : Head) (he : h ≡ headAt t) wh
 
   rreq-exit : (f : RreqFields) (part u : List ℕ) → u ≡ learnt a (f .path) t
       → (s : Sent) → s ≡ sentFor u a f (allAnswered u a (f .path) (h .number) (targetsIn part))
-      → (v : List ℕ) → v ≡ over output 0 (frameOctets (framesAfter u a f (allAnswered u a (f .path) (h .number) (targetsIn part))))
+      → (v : List ℕ) → v ≡ overwrite output 0 (frameOctets (framesAfter u a f (allAnswered u a (f .path) (h .number) (targetsIn part))))
       → (w : List ℕ) → w ≡ putHead u (headWith (s .number) (h .request) (a .clock) h)
-      → exits (Outcome.Accepted (s .emitted)) (lend w) v ≡ atExit (lend t) output (accepted (received (lend t) a (rreq f (targetsIn part))))
+      → exitOf (Outcome.Accepted (s .emitted)) (lend w) v ≡ atExit (lend t) output (accepted (received (lend t) a (rreq f (targetsIn part))))
   unfolding received rreqReceived framesAfter
   rreq-exit f part u ue s se v ve w we =
       let done : List ℕ → SequenceNumber → Answered = λ x n. allAnswered x a (f .path) n (targetsIn part) in
@@ -96,7 +96,7 @@ module _ (t output : List ℕ) (a : Arrival) (h : Head) (he : h ≡ headAt t) wh
       se ∙ ap₂ (λ (x : List ℕ) (n : SequenceNumber). sentFor x a f (done x n)) ue own-number in
       accepted-exit (lend t) output (received (lend t) a (rreq f (targetsIn part))) (lend w) v (s .emitted)
       (ap lend (head-under t u (s .number) (a .clock) h he w we ∙ ap₂ (λ (x : List ℕ) (k : Sent). underHead t (k .number) (a .clock) x) ue so))
-      (ve ∙ ap₂ (λ (x : List ℕ) (n : SequenceNumber). over output 0 (frameOctets (framesAfter x a f (done x n)))) ue own-number)
+      (ve ∙ ap₂ (λ (x : List ℕ) (n : SequenceNumber). overwrite output 0 (frameOctets (framesAfter x a f (done x n)))) ue own-number)
       (ap (λ (k : Sent). k .emitted) so)
 
 -- ---- as a RANN, a RREP and a RREQ are received: by their checks, which learn where they accept
@@ -115,9 +115,9 @@ module _ (t output : List ℕ) (a : Arrival) (e : Element) (p : PathInfo) (r : A
 
 pub rann-received : (t output : List ℕ) (a : Arrival) (p : PathInfo) (r : Answer) → r ≡ answerTo (judging (lend t) a (rann p) .checks) → r ≡ Accepted
     → (u : List ℕ) → u ≡ learntIf r a p t → (h : Head) → h ≡ headAt u
-    → (e : Emitted) → e ≡ emitted (rannOnward a p) → (v : List ℕ) → v ≡ over output 0 (frameOctets (rannOnward a p))
+    → (e : Emitted) → e ≡ emitted (rannOnward a p) → (v : List ℕ) → v ≡ overwrite output 0 (frameOctets (rannOnward a p))
     → (w : List ℕ) → w ≡ putHead u (headWith (h .number) (h .request) (a .clock) h)
-    → exits (Outcome.Accepted e) (lend w) v ≡ atExit (lend t) output (decide (judging (lend t) a (rann p)))
+    → exitOf (Outcome.Accepted e) (lend w) v ≡ atExit (lend t) output (decide (judging (lend t) a (rann p)))
 rann-received t output a p r re ok u ue h he e ee v ve w we =
     let got = is-learnt t output a (rann p) p r re ok u ue in
     judged-so t output a (rann p) p r re ok u ue _
@@ -126,9 +126,9 @@ rann-received t output a p r re ok u ue h he e ee v ve w we =
 pub rrep-received : (t output : List ℕ) (a : Arrival) (f : RrepFields) (part : List ℕ) (r : Answer) → r ≡ answerTo (judging (lend t) a (rrep f (numberedIn part)) .checks) → r ≡ Accepted
     → (u : List ℕ) → u ≡ learntIf r a (f .path) t → (h : Head) → h ≡ headAt u
     → (e : Emitted) → e ≡ emitted (rrepOnward u a f (numberedIn part))
-    → (v : List ℕ) → v ≡ over output 0 (frameOctets (rrepOnward u a f (numberedIn part)))
+    → (v : List ℕ) → v ≡ overwrite output 0 (frameOctets (rrepOnward u a f (numberedIn part)))
     → (w : List ℕ) → w ≡ putHead u (headWith (h .number) (h .request) (a .clock) h)
-    → exits (Outcome.Accepted e) (lend w) v ≡ atExit (lend t) output (decide (judging (lend t) a (rrep f (numberedIn part))))
+    → exitOf (Outcome.Accepted e) (lend w) v ≡ atExit (lend t) output (decide (judging (lend t) a (rrep f (numberedIn part))))
 rrep-received t output a f part r re ok u ue h he e ee v ve w we =
     let got = is-learnt t output a (rrep f (numberedIn part)) (f .path) r re ok u ue in
     judged-so t output a (rrep f (numberedIn part)) (f .path) r re ok u ue _
@@ -137,9 +137,9 @@ rrep-received t output a f part r re ok u ue h he e ee v ve w we =
 pub rreq-received : (t output : List ℕ) (a : Arrival) (f : RreqFields) (part : List ℕ) (r : Answer) → r ≡ answerTo (judging (lend t) a (rreq f (targetsIn part)) .checks) → r ≡ Accepted
     → (u : List ℕ) → u ≡ learntIf r a (f .path) t → (h : Head) → h ≡ headAt u
     → (s : Sent) → s ≡ sentFor u a f (allAnswered u a (f .path) (h .number) (targetsIn part))
-    → (v : List ℕ) → v ≡ over output 0 (frameOctets (framesAfter u a f (allAnswered u a (f .path) (h .number) (targetsIn part))))
+    → (v : List ℕ) → v ≡ overwrite output 0 (frameOctets (framesAfter u a f (allAnswered u a (f .path) (h .number) (targetsIn part))))
     → (w : List ℕ) → w ≡ putHead u (headWith (s .number) (h .request) (a .clock) h)
-    → exits (Outcome.Accepted (s .emitted)) (lend w) v ≡ atExit (lend t) output (decide (judging (lend t) a (rreq f (targetsIn part))))
+    → exitOf (Outcome.Accepted (s .emitted)) (lend w) v ≡ atExit (lend t) output (decide (judging (lend t) a (rreq f (targetsIn part))))
 rreq-received t output a f part r re ok u ue h he s se v ve w we =
     let got = is-learnt t output a (rreq f (targetsIn part)) (f .path) r re ok u ue in
     judged-so t output a (rreq f (targetsIn part)) (f .path) r re ok u ue _
@@ -155,7 +155,7 @@ module _ (u : List ℕ) (a : Arrival) (f : RreqFields) (n : SequenceNumber) (par
   kept = keptAmong u (a .clock) part
 
   all-kept : x .kept ≡ kept
-  all-kept = answered-among u a (f .path) n part
+  all-kept = answered-contains u a (f .path) n part
 
   pub replies-few : length part ≤ 220 → replied .frames ≤ 20
   replies-few l =
@@ -219,11 +219,11 @@ module _ (u : List ℕ) (a : Arrival) (f : RreqFields) (n : SequenceNumber) (par
         ) in
         se ∙ rw (many, long, ap (λ (k : Replied). k .number) re)
 
-    pub answer-written : (out w v : List ℕ) → w ≡ over out at (frameOctets (x .replies)) → v ≡ over w (replied .place) (frameOctets (rreqOnward u a f kept))
-        → v ≡ over out at (frameOctets (framesAfter u a f x))
+    pub answer-written : (out w v : List ℕ) → w ≡ overwrite out at (frameOctets (x .replies)) → v ≡ overwrite w (replied .place) (frameOctets (rreqOnward u a f kept))
+        → v ≡ overwrite out at (frameOctets (framesAfter u a f x))
     unfolding framesAfter
     answer-written out w v we ve =
-        ve ∙ ap₂ (λ (l : List ℕ) (k : ℕ). over l k (frameOctets (rreqOnward u a f kept))) we (ap (λ (k : Replied). k .place) re)
-        ∙ sym (over-append out at (frameOctets (x .replies)) (frameOctets (rreqOnward u a f kept)))
-        ∙ ap (over out at) (sym (frames-append (x .replies) (rreqOnward u a f kept)))
-        ∙ ap (λ (k : List Target). over out at (frameOctets (x .replies ++ rreqOnward u a f k))) (sym all-kept)
+        ve ∙ ap₂ (λ (l : List ℕ) (k : ℕ). overwrite l k (frameOctets (rreqOnward u a f kept))) we (ap (λ (k : Replied). k .place) re)
+        ∙ sym (overwrite-append out at (frameOctets (x .replies)) (frameOctets (rreqOnward u a f kept)))
+        ∙ ap (overwrite out at) (sym (frames-append (x .replies) (rreqOnward u a f kept)))
+        ∙ ap (λ (k : List Target). overwrite out at (frameOctets (x .replies ++ rreqOnward u a f k))) (sym all-kept)

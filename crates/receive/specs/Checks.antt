@@ -1,5 +1,5 @@
 -- The checks of `judging` as the code's own functions go through them: of a RANN, a RREQ or a RREP by its faults and its path,
--- of a RERR by its list part. Assumes nothing.
+-- of a RERR by its list part.
 use Prim.Native.Nat.{ℕ}
 use mathlib.Core.Bool.{false, not}
 use mathlib.Core.List.{List, _++_}

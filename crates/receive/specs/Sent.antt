@@ -1,12 +1,11 @@
 -- What a RREQ is answered with, while it is written. For the code's own functions: the frames are those of `rreqReceived`.
--- Assumes nothing.
 use Prim.Native.Nat.{ℕ, _+_, _-_}
 use mathlib.Core.List.{List, _++_}
 use Rattle.element.specs.declared.RreqFields.{RreqFields}
 use Rattle.rules.specs.declared.Arrival.{Arrival}
 use Rattle.rules.specs.Destinations.{Answered}
 use Rattle.rules.specs.Onward.{rreqOnward}
-use Rattle.rules.specs.Outcome.{Frame}
+use Rattle.rules.specs.Exit.{Frame}
 use Rattle.calls.specs.declared.Emitted.{Emitted}
 use Rattle.calls.specs.Answers.{emitted}
 use Rattle.destinations.specs.declared.replies.Replied.{Replied}

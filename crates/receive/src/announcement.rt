@@ -14,9 +14,9 @@ ghost use lib.ListN.{length};
 ghost use Rattle.table.specs.Row.{maxClock};
 ghost use Rattle.element.specs.Element.{rann};
 ghost use Rattle.rules.specs.Decision.{decide};
-ghost use Rattle.rules.specs.Outcome.{atExit, lend, leastOutput};
+ghost use Rattle.rules.specs.Exit.{atExit, lend, leastOutput};
 ghost use Rattle.rules.specs.Receive.{judging};
-ghost use Rattle.calls.specs.Answers.{answerTo, exits};
+ghost use Rattle.calls.specs.Answers.{answerTo, exitOf};
 ghost use Rattle.receive.specs.Checks.{learntIf};
 ghost use Rattle.table.specs.Layout.{Sized};
 
@@ -42,7 +42,7 @@ pub fn receive(table: &mut [u8], output: &mut [u8], a: Arrival, p: PathInfo) -> 
     requires { ⌜ Sized (now table) ⌝ }
     requires { ⌜ leastOutput ≤ length (now output) ⌝ }
     requires { ⌜ a .clock ≤ maxClock ⌝ }
-    ensures { λ r. ⌜ exits r (lend (now (table .exit))) (now (output .exit))
+    ensures { λ r. ⌜ exitOf r (lend (now (table .exit))) (now (output .exit))
         ≡ atExit (lend (now (table .entry))) (now (output .entry)) (decide (judging (lend (now (table .entry))) a (rann p))) ⌝ }
 {
     if let Answer::Refused(n) = check_and_learn(table, a, p) {

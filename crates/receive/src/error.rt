@@ -19,9 +19,9 @@ ghost use Rattle.element.specs.Entries.{lostIn};
 ghost use Rattle.element.specs.Layout.{PartOf};
 ghost use Rattle.element.specs.declared.Kind.{Kind};
 ghost use Rattle.rules.specs.Decision.{accepted, decide};
-ghost use Rattle.rules.specs.Outcome.{atExit, lend, leastOutput};
+ghost use Rattle.rules.specs.Exit.{atExit, lend, leastOutput};
 ghost use Rattle.rules.specs.Receive.{judging, received};
-ghost use Rattle.calls.specs.Answers.{answerTo, exits};
+ghost use Rattle.calls.specs.Answers.{answerTo, exitOf};
 ghost use Rattle.receive.specs.Checks.{errorStateChecks};
 ghost use Rattle.table.specs.Layout.{Sized};
 
@@ -47,7 +47,7 @@ fn check(table: &[u8], a: Arrival, f: RerrFields, part: &[u8]) -> Answer
     if list::has_forbidden(part, ListKind::LostDestinations) {
         return Answer::Refused(refusals::BAD_ADDRESS);
     }
-    if list::has_twice(part, ListKind::LostDestinations) {
+    if list::has_duplicate(part, ListKind::LostDestinations) {
         return Answer::Refused(refusals::BAD_LIST);
     }
     check_state(table, a, part)
@@ -58,7 +58,7 @@ fn take(table: &mut [u8], output: &mut [u8], a: Arrival, f: RerrFields, part: &[
     requires { ⌜ Sized (now table) ⌝ }
     requires { ⌜ leastOutput ≤ length (now output) ⌝ }
     requires { ⌜ PartOf Kind.Rerr (now part) ⌝ }
-    ensures { λ r. ⌜ exits r (lend (now (table .exit))) (now (output .exit))
+    ensures { λ r. ⌜ exitOf r (lend (now (table .exit))) (now (output .exit))
         ≡ atExit (lend (now (table .entry))) (now (output .entry))
         (accepted (received (lend (now (table .entry))) a (rerr f (lostIn (now (part .entry)))))) ⌝ }
 {
@@ -79,7 +79,7 @@ pub fn receive(
     requires { ⌜ Sized (now table) ⌝ }
     requires { ⌜ leastOutput ≤ length (now output) ⌝ }
     requires { ⌜ PartOf Kind.Rerr (now part) ⌝ }
-    ensures { λ r. ⌜ exits r (lend (now (table .exit))) (now (output .exit))
+    ensures { λ r. ⌜ exitOf r (lend (now (table .exit))) (now (output .exit))
         ≡ atExit (lend (now (table .entry))) (now (output .entry))
         (decide (judging (lend (now (table .entry))) a (rerr f (lostIn (now (part .entry)))))) ⌝ }
 {

@@ -48,7 +48,7 @@ fn is_several_or_all(part: &[u8]) -> bool
     ensures { λ r. ⌜ r ≡ severalOrAll (addressesIn ListKind.Targets (now (part .entry))) ⌝ }
 {
     (1 < list::entries_in(part, ListKind::Targets))
-        | list::is_among(part, ListKind::Targets, Address(list::ALL_ONES))
+        | list::contains(part, ListKind::Targets, Address(list::ALL_ONES))
 }
 
 // A unicast RREQ with several or all ones. Most RREQs are not unicast, and their list is not looked through for it.
@@ -65,13 +65,13 @@ fn is_unicast_to_several(p: PathInfo, part: &[u8]) -> bool
 fn rreq_has_bad_list(f: RreqFields, part: &[u8]) -> bool
     ensures { λ r. ⌜ r ≡ hasBadList (rreq f (targetsIn (now (part .entry)))) ⌝ }
 {
-    if list::has_twice(part, ListKind::Targets) {
+    if list::has_duplicate(part, ListKind::Targets) {
         return true;
     }
     if list::has_ones_beside_others(part, ListKind::Targets) {
         return true;
     }
-    if list::is_among(part, ListKind::Targets, f.path.subject) {
+    if list::contains(part, ListKind::Targets, f.path.subject) {
         return true;
     }
     is_unicast_to_several(f.path, part)

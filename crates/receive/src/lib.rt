@@ -17,9 +17,10 @@ ghost use Prim.Native.Nat.{_≤_};
 ghost use lib.ListN.{length};
 ghost use Rattle.table.specs.Row.{maxClock};
 ghost use Rattle.rules.specs.Decision.{decide};
-ghost use Rattle.rules.specs.Outcome.{atExit, lend, leastOutput};
-ghost use Rattle.rules.specs.Receive.{arrivalChecks, readingOctets, receive};
-ghost use Rattle.calls.specs.Answers.{answerTo, exits};
+ghost use Rattle.rules.specs.Exit.{atExit, lend, leastOutput};
+ghost use Rattle.rules.specs.Exits.{receiveExit};
+ghost use Rattle.rules.specs.Receive.{arrivalChecks, readingOctets};
+ghost use Rattle.calls.specs.Answers.{answerTo, exitOf};
 ghost use Rattle.table.specs.Layout.{Sized};
 
 // The refusals 1 to 5.
@@ -40,7 +41,7 @@ fn receive_element(table: &mut [u8], output: &mut [u8], a: Arrival, element: &[u
     requires { ⌜ Sized (now table) ⌝ }
     requires { ⌜ leastOutput ≤ length (now output) ⌝ }
     requires { ⌜ a .clock ≤ maxClock ⌝ }
-    ensures { λ r. ⌜ exits r (lend (now (table .exit))) (now (output .exit))
+    ensures { λ r. ⌜ exitOf r (lend (now (table .exit))) (now (output .exit))
         ≡ atExit (lend (now (table .entry))) (now (output .entry))
         (decide (readingOctets (lend (now (table .entry))) a (now (element .entry)))) ⌝ }
 {
@@ -54,9 +55,8 @@ fn receive_element(table: &mut [u8], output: &mut [u8], a: Arrival, element: &[u
 }
 
 pub fn receive(table: &mut [u8], output: &mut [u8], a: Arrival, element: &[u8]) -> Outcome
-    ensures { λ r. ⌜ exits r (lend (now (table .exit))) (now (output .exit))
-        ≡ atExit (lend (now (table .entry))) (now (output .entry))
-        (receive (lend (now (table .entry))) (length (now (output .entry))) a (now (element .entry))) ⌝ }
+    ensures { λ r. ⌜ exitOf r (lend (now (table .exit))) (now (output .exit))
+        ≡ receiveExit (lend (now (table .entry))) (now (output .entry)) a (now (element .entry)) ⌝ }
 {
     match check_arrival(table, output, a) {
         Answer::Accepted => receive_element(table, output, a, element),

@@ -17,9 +17,9 @@ ghost use Rattle.element.specs.declared.Kind.{Kind};
 ghost use Rattle.element.specs.Element.{rrep};
 ghost use Rattle.element.specs.Entries.{numberedIn};
 ghost use Rattle.rules.specs.Decision.{decide};
-ghost use Rattle.rules.specs.Outcome.{atExit, lend, leastOutput};
+ghost use Rattle.rules.specs.Exit.{atExit, lend, leastOutput};
 ghost use Rattle.rules.specs.Receive.{judging};
-ghost use Rattle.calls.specs.Answers.{answerTo, exits};
+ghost use Rattle.calls.specs.Answers.{answerTo, exitOf};
 ghost use Rattle.receive.specs.Checks.{learntIf};
 ghost use Rattle.table.specs.Layout.{Sized};
 
@@ -48,7 +48,7 @@ pub fn receive(
     requires { ⌜ leastOutput ≤ length (now output) ⌝ }
     requires { ⌜ a .clock ≤ maxClock ⌝ }
     requires { ⌜ PartOf Kind.Rrep (now part) ⌝ }
-    ensures { λ r. ⌜ exits r (lend (now (table .exit))) (now (output .exit))
+    ensures { λ r. ⌜ exitOf r (lend (now (table .exit))) (now (output .exit))
         ≡ atExit (lend (now (table .entry))) (now (output .entry))
         (decide (judging (lend (now (table .entry))) a (rrep f (numberedIn (now (part .entry)))))) ⌝ }
 {

@@ -18,16 +18,16 @@ ghost use Prim.Native.Nat.{_+_, _<_, _≤_};
 ghost use lib.ListN.{length};
 ghost use Rattle.table.specs.Row.{maxClock};
 ghost use Rattle.rules.specs.Learn.{Extends};
-ghost use Rattle.octets.specs.LittleEndian.{over};
+ghost use Rattle.octets.specs.LittleEndian.{overwrite};
 ghost use Rattle.element.specs.Layout.{PartOf};
 ghost use Rattle.element.specs.declared.Kind.{Kind};
 ghost use Rattle.element.specs.Element.{rreq};
 ghost use Rattle.element.specs.Entries.{targetsIn};
 ghost use Rattle.rules.specs.Decision.{decide};
 ghost use Rattle.rules.specs.Destinations.{allAnswered};
-ghost use Rattle.rules.specs.Outcome.{atExit, frameOctets, lend, leastOutput};
+ghost use Rattle.rules.specs.Exit.{atExit, frameOctets, lend, leastOutput};
 ghost use Rattle.rules.specs.Receive.{judging};
-ghost use Rattle.calls.specs.Answers.{answerTo, exits};
+ghost use Rattle.calls.specs.Answers.{answerTo, exitOf};
 ghost use Rattle.receive.specs.Checks.{learntIf};
 ghost use Rattle.onward.specs.Sent.{unicastToSeveral};
 ghost use Rattle.receive.specs.Sent.{framesAfter, sentFor, together};
@@ -87,7 +87,7 @@ fn answer(
     ensures { λ r. ⌜ r ≡ sentFor (now (table .entry)) a f
         (allAnswered (now (table .entry)) a (f .path) number (targetsIn (now (part .entry)))) ⌝ }
     ensures { λ _. ⌜ now (output .exit)
-        ≡ over (now (output .entry)) at
+        ≡ overwrite (now (output .entry)) at
         (frameOctets (framesAfter (now (table .entry)) a f
         (allAnswered (now (table .entry)) a (f .path) number (targetsIn (now (part .entry)))))) ⌝ }
 {
@@ -108,7 +108,7 @@ pub fn receive(
     requires { ⌜ leastOutput ≤ length (now output) ⌝ }
     requires { ⌜ a .clock ≤ maxClock ⌝ }
     requires { ⌜ PartOf Kind.Rreq (now part) ⌝ }
-    ensures { λ r. ⌜ exits r (lend (now (table .exit))) (now (output .exit))
+    ensures { λ r. ⌜ exitOf r (lend (now (table .exit))) (now (output .exit))
         ≡ atExit (lend (now (table .entry))) (now (output .entry))
         (decide (judging (lend (now (table .entry))) a (rreq f (targetsIn (now (part .entry)))))) ⌝ }
 {

@@ -1,4 +1,4 @@
--- What the checks tell of an element that is accepted. Assumes nothing.
+-- What the checks tell of an element that is accepted.
 use Prim.Native.Nat.{ℕ, _-_, _^_, _<_, _≤_}
 use mathlib.Core.Path.{_≡_, refl, sym, ap, subst, _∙_}
 use mathlib.Core.Bool.{Bool, true, false, not, _||_}
@@ -20,9 +20,9 @@ use Rattle.element.specs.Octets.{readElement}
 use Rattle.element.specs.Lists.{anyForbidden}
 use Rattle.element.proofs.ReadBack.{Fits, read-fits}
 use Rattle.rules.specs.Decision.{Check}
-use Rattle.rules.specs.Lists.{has}
+use Rattle.rules.specs.Lists.{isSomeAnd}
 use Rattle.rules.specs.declared.Arrival.{Arrival}
-use Rattle.rules.specs.Outcome.{Lent}
+use Rattle.rules.specs.Exit.{Lent}
 use Rattle.rules.specs.Learn.{metricHere}
 use Rattle.rules.specs.Receive.{pathOf, targetAddresses, hasBadAddress, isStale, matchesNothing, rowsNeeded, receiving}
 use Rattle.rules.proofs.Rulings.{listed, Passed, passed-check}
@@ -79,8 +79,8 @@ unfolding isOther
 other-of a x i n = rw (i, n)
 
 -- a test of an element's path that does not apply
-path-test : (test : PathInfo → Bool) (e : Element) → has test (pathOf e) ≡ false → (p : PathInfo) → pathOf e ≡ some p → test p ≡ false
-path-test test e h p is = ap (has test) (sym is) ∙ h
+path-test : (test : PathInfo → Bool) (e : Element) → isSomeAnd test (pathOf e) ≡ false → (p : PathInfo) → pathOf e ≡ some p → test p ≡ false
+path-test test e h p is = ap (isSomeAnd test) (sym is) ∙ h
 
 module _ (l : Lent) (room : ℕ) (a : Arrival) (s : List ℕ) (octets : Octets (l .table)) (transmitter-fits : a .transmitter .0 < 256 ^ 6)
     (s-octets : Octets s) (h : Passed (receiving l room a s .checks)) where

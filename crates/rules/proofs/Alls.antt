@@ -1,4 +1,4 @@
--- A property of every entry of a list, through the operations on lists. Assumes nothing.
+-- A property of every entry of a list, through the operations on lists.
 use Prim.Native.Nat.{ℕ, zero, suc, _+_, _<_, _≤_}
 use mathlib.Core.Path.{_≡_}
 use mathlib.Core.Bool.{Bool, true, false, _||_, cond}
@@ -6,7 +6,7 @@ use mathlib.Core.List.{List, [], _∷_, _++_, map, flatMap}
 use lib.ListN.{length, take, drop, length-append}
 use native.Mathlib.Omega.{arith}
 use Rattle.element.specs.Entries.{each, All}
-use Rattle.rules.specs.Lists.{any, those}
+use Rattle.rules.specs.Lists.{any, filter}
 use Rattle.rules.proofs.Branches.{cond-cases}
 
 module _ {A : Type 0} (P : A → Type 0) where
@@ -46,11 +46,11 @@ module _ {A : Type 0} (P : A → Type 0) where
   all-drop (suc n) [] h = tt
   all-drop (suc n) (x ∷ l) h = all-drop n l (h .1)
 
-  pub all-those : (p : A → Bool) (l : List A) → All P l → All P (those p l)
-  unfolding All those
-  all-those p [] h = tt
-  all-those p (x ∷ l) h =
-      let rest : All P (those p l) = all-those p l (h .1) in
+  pub all-filter : (p : A → Bool) (l : List A) → All P l → All P (filter p l)
+  unfolding All filter
+  all-filter p [] h = tt
+  all-filter p (x ∷ l) h =
+      let rest : All P (filter p l) = all-filter p l (h .1) in
       cond-cases (All P) (p x) (λ _. (h .0, rest)) (λ _. rest)
 
 module _ {A B : Type 0} (Q : B → Type 0) where
@@ -73,18 +73,18 @@ flat-fewer f one (x ∷ l) = omega (arith, length-append (f x) (flatMap f l), on
 -- ---- how many pass a test
 
 module _ {A : Type 0} (p : A → Bool) where
-  pub those-fewer : (l : List A) → length (those p l) ≤ length l
-  unfolding those
-  those-fewer [] = omega arith
-  those-fewer (x ∷ l) =
-      let rest = those-fewer l in
+  pub filter-fewer : (l : List A) → length (filter p l) ≤ length l
+  unfolding filter
+  filter-fewer [] = omega arith
+  filter-fewer (x ∷ l) =
+      let rest = filter-fewer l in
       cond-cases (λ (k : List A). length k ≤ length (x ∷ l)) (p x) (λ _. omega arith) (λ _. omega arith)
 
-  pub those-some : (l : List A) → any p l ≡ true → 1 ≤ length (those p l)
-  unfolding those any
-  those-some [] e = let z : _≡_ {A = ℕ} 0 1 = cc in absurd (omega arith)
-  those-some (x ∷ l) e = by (p x) e (those-some l)
+  pub filter-some : (l : List A) → any p l ≡ true → 1 ≤ length (filter p l)
+  unfolding filter any
+  filter-some [] e = let z : _≡_ {A = ℕ} 0 1 = cc in absurd (omega arith)
+  filter-some (x ∷ l) e = by (p x) e (filter-some l)
     where
-      by : (b : Bool) → (b || any p l) ≡ true → (any p l ≡ true → 1 ≤ length (those p l)) → 1 ≤ length (cond b (x ∷ those p l) (those p l))
+      by : (b : Bool) → (b || any p l) ≡ true → (any p l ≡ true → 1 ≤ length (filter p l)) → 1 ≤ length (cond b (x ∷ filter p l) (filter p l))
       by true e rest = omega arith
       by false e rest = rest e

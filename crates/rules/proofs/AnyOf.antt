@@ -1,4 +1,4 @@
--- Whether some entry passes a test, by a loop that ends at the first: g is what the whole list gives. Assumes nothing.
+-- Whether some entry passes a test, by a loop that ends at the first: g is what the whole list gives.
 use Prim.Native.Nat.{ℕ, _+_, _-_, _<_, _≤_}
 use mathlib.Core.Path.{_≡_, refl, sym, ap, _∙_}
 use mathlib.Core.Bool.{Bool, true, false}

@@ -1,6 +1,5 @@
 -- No call makes a row worse: while numbers stay inside a window of 2^31, a row of known number stays as good as it was.
 -- `path-no-worse`, `link-no-worse`, `break-falls` and `error-falls` are all that loop freedom asks of the rules' numbers.
--- Assumes nothing.
 use Prim.Native.Nat.{ℕ, _-_, _^_, _<_, _≤_}
 use mathlib.Core.Path.{_≡_, refl, ap}
 use mathlib.Core.Bool.{true, false}

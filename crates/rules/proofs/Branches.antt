@@ -1,4 +1,4 @@
--- What holds of a branch, from what holds in each case. Assumes nothing.
+-- What holds of a branch, from what holds in each case.
 use mathlib.Core.Path.{_≡_, refl}
 use mathlib.Core.Bool.{Bool, true, false, cond}
 

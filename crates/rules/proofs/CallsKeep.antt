@@ -1,4 +1,4 @@
--- Every accepted call leaves a table, and emits elements that fit their octets. Assumes nothing.
+-- Every accepted call leaves a table, and emits elements that fit their octets.
 use Prim.Native.Nat.{ℕ, _-_, _*_, _/_, _%_, _^_, _<_, _≤_}
 use mathlib.Core.Path.{_≡_, refl, _∙_}
 use mathlib.Core.Bool.{Bool, true, false, not, _&&_, and-eq-true-iff, true≢false}
@@ -39,8 +39,8 @@ use Rattle.element.proofs.Scans.{each-length}
 use Rattle.element.proofs.ListParts.{FitsTarget, FitsLost}
 use Rattle.element.proofs.ReadBack.{Fits, all-each}
 use Rattle.rules.specs.Decision.{Check, accepted}
-use Rattle.rules.specs.Lists.{any, those}
-use Rattle.rules.specs.Outcome.{Frame, Lent, Effect}
+use Rattle.rules.specs.Lists.{any, filter}
+use Rattle.rules.specs.Exit.{Frame, Lent, Effect}
 use Rattle.rules.specs.declared.Arrival.{Arrival}
 use Rattle.rules.specs.Learn.{learnt}
 use Rattle.rules.specs.Destinations.{Answered, allAnswered}
@@ -49,10 +49,10 @@ use Rattle.rules.specs.Errors.{matches, brokenEntries}
 use Rattle.rules.specs.Receive.{matchesNothing, rannReceived, rrepReceived, rreqReceived, rerrReceived, received, receiving, receive}
 use Rattle.rules.specs.Originate.{numberedHead, ownPath, announced, requested, itemsFit, knownNumber, askedFor, asking, ask, announcing, announce, isRootFlags, allWithDOAndRF, requestingAsRoot, rootRequest}
 use Rattle.rules.specs.Break.{brokenOff, breaking, breakNeighbour}
-use Rattle.rules.specs.Calls.{Call, receives, makes, asks, announces, requestsAsRoot, breaks, outcome, OperandsFit}
+use Rattle.rules.specs.Calls.{Call, receives, makes, asks, announces, requestsAsRoot, breaks, decision, OperandsFit}
 use Rattle.rules.proofs.Rulings.{listed, passed, passed-check}
 use Rattle.rules.proofs.Branches.{cond-cases}
-use Rattle.rules.proofs.Alls.{all-append, all-map, all-those, those-fewer, those-some}
+use Rattle.rules.proofs.Alls.{all-append, all-map, all-filter, filter-fewer, filter-some}
 use Rattle.rules.proofs.Tables.{Whole, whole, Keeps, Leaves, own-fits, number-fits, request-fits, clock-small, head-leaves}
 use Rattle.rules.proofs.Learning.{PathFits, Heard, learnt-keeps}
 use Rattle.rules.proofs.Falling.{next-fits, through-acts, break-keeps, error-keeps}
@@ -118,9 +118,9 @@ module _ (l : Lent) (a : Arrival) where
       record {
         leaves = at-clock (rerr f destinations) ok _
             (error-keeps (a .clock) (a .transmitter) destinations (ok .fits .entries) (l .table) (ok .whole)) (number (l .table)) (number-fits (l .table) (ok .whole));
-        frames = to-all-emitted Fits (rerr f (those test destinations))
-            (rerr-fits f (those test destinations) (ok .fits .fields .0) (all-those FitsLost test destinations (ok .fits .entries))
-            (those-some test destinations (not-false (any test destinations) (ok .matched))) (omega (arith, few, those-fewer test destinations))) .each;
+        frames = to-all-emitted Fits (rerr f (filter test destinations))
+            (rerr-fits f (filter test destinations) (ok .fits .fields .0) (all-filter FitsLost test destinations (ok .fits .entries))
+            (filter-some test destinations (not-false (any test destinations) (ok .matched))) (omega (arith, few, filter-fewer test destinations))) .each;
       }
 
   received-kept : (e : Element) → Accepted (l .table) a e → Kept (l .table) (received l a e)
@@ -268,8 +268,8 @@ module _ (l : Lent) (octets : Octets (l .table)) (room : ℕ) where
         frames = errors-fit (brokenEntries (isThrough c neighbour) (l .table)) (entries-fit (l .table) octets (isThrough c neighbour));
       })
 
-  pub call-kept : (call : Call) → OperandsFit call → (e : Effect) → outcome l room call ≡ accepted e → Kept (l .table) e
-  unfolding outcome
+  pub call-kept : (call : Call) → OperandsFit call → (e : Effect) → decision l room call ≡ accepted e → Kept (l .table) e
+  unfolding decision
   call-kept (receives a s) fit e is = receive-kept a s (fit .0) (fit .1) e is
   call-kept (makes (asks lifetime items)) fit e is = ask-kept lifetime items (fit .0) (fit .1) e is
   call-kept (makes (announces flags lifetime)) fit e is = announce-kept flags lifetime fit e is

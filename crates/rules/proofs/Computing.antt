@@ -1,7 +1,7 @@
 -- What unfolds for a call on given octets to compute: to unfold `computing` is to unfold all that its line names. With it a
--- statement about a worked example is `refl`. Assumes nothing.
+-- statement about a worked example is `refl`.
 use mathlib.Core.List.{flatMap}
-use Rattle.octets.specs.LittleEndian.{numberOctets, numberAt, over, withNumber, fieldsAt, withFields, fieldOctets}
+use Rattle.octets.specs.LittleEndian.{numberOctets, numberAt, overwrite, withNumber, fieldsAt, withFields, fieldOctets}
 use Rattle.counters.specs.Numbers.{stepped, wrapped, newer, older}
 use Rattle.counters.specs.Numbering.{advancedFor}
 use Rattle.table.specs.Address.{individual}
@@ -12,10 +12,10 @@ use Rattle.table.specs.Table.{vacant, holds, findRow, rowFor, activeNext, freeR
 use Rattle.element.specs.Layout.{known, kindWith, fits}
 use Rattle.element.specs.Entries.{each, lostAt, lostOctets, numberedAt, numberedOctets, targetAt, targetOctets, itemAt}
 use Rattle.element.specs.Octets.{wrongLength, otherId, misfit, readAs, readElement, fixedOctets, writeElement, writeFrame}
-use Rattle.element.specs.Lists.{addressesFrom, allowed, anyForbidden, among, twice, onesBesideOthers}
-use Rattle.rules.specs.Lists.{any, all, those}
+use Rattle.element.specs.Lists.{addressesFrom, allowed, anyForbidden, contains, hasDuplicate, onesBesideOthers}
+use Rattle.rules.specs.Lists.{any, all, filter}
 use Rattle.element.specs.Flags.{bit, withDO}
-use Rattle.rules.specs.Outcome.{frameOctets, atExit}
+use Rattle.rules.specs.Exit.{frameOctets, atExit}
 use Rattle.rules.specs.Fresh.{makeFresh}
 use Rattle.rules.specs.Forget.{forget}
 use Rattle.rules.specs.NextHop.{nextHop}
@@ -26,19 +26,19 @@ use Rattle.rules.specs.Errors.{isLostBy, matches, numberBeside, isMatch,
 use Rattle.rules.specs.Receive.{hasBadAddress, severalOrAll, hasBadList, isLowTtlReply, isStaleFor, isStale, matchesNothing, rowsNeeded, rannReceived, rrepReceived, rreqReceived, rerrReceived, received, receive}
 use Rattle.rules.specs.Originate.{numberedHead, ownPath, announced, requested, itemsFit, knownNumber, askedFor, ask, announce, isRootFlags, rootRequest}
 use Rattle.rules.specs.Break.{brokenOff, breakNeighbour}
-use Rattle.rules.specs.Calls.{outcome}
+use Rattle.rules.specs.Calls.{decision}
 use Rattle.rules.specs.Walk.{tableAt, sideBySide, hasLaterClock, rowOfPoint, leadsTo, follow, walk}
 use Rattle.rules.proofs.Rulings.{listed}
 
 unfoldable pub computing : Unit {0}
-unfolding flatMap numberOctets numberAt over withNumber fieldsAt withFields fieldOctets
+unfolding flatMap numberOctets numberAt overwrite withNumber fieldsAt withFields fieldOctets
     stepped advancedFor wrapped newer older
     individual sized headAt putHead allZero rowAt putRow headWith headOk isFree isUnnumbered isOther statusOk boundsOk isHeld rowOk
     active renewed numbered invalidated raised first count every vacant holds findRow rowFor activeNext freeRows firstFree alone
     isTable fresh placeFor store freed changeBelow changeWhere
     known kindWith fits each lostAt lostOctets numberedAt numberedOctets targetAt targetOctets itemAt wrongLength otherId misfit
-    readAs readElement fixedOctets writeElement writeFrame addressesFrom allowed anyForbidden among twice onesBesideOthers
-    any all those bit withDO frameOctets atExit makeFresh forget nextHop
+    readAs readElement fixedOctets writeElement writeFrame addressesFrom allowed anyForbidden contains onesBesideOthers hasDuplicate
+    any all filter bit withDO frameOctets atExit makeFresh forget nextHop
     expiryOf subjectRow transmitterRow takesLink subjectLearnt transmitterLearnt learnt
     reply answeredNumber answersFor forOneself forAllOnes forAnother answered allAnswered
     onward rannOnward rreqOnward rrepOnward
@@ -46,5 +46,5 @@ unfolding flatMap numberOctets numberAt over withNumber fieldsAt withFields fiel
     hasBadAddress severalOrAll hasBadList isLowTtlReply isStaleFor isStale matchesNothing rowsNeeded
     rannReceived rrepReceived rreqReceived rerrReceived received listed receive
     numberedHead ownPath announced requested itemsFit knownNumber askedFor ask announce isRootFlags rootRequest
-    brokenOff breakNeighbour outcome tableAt sideBySide hasLaterClock rowOfPoint leadsTo follow walk
+    brokenOff breakNeighbour decision tableAt sideBySide hasLaterClock rowOfPoint leadsTo follow walk
 computing = tt

@@ -1,5 +1,5 @@
 -- The frames that calls emit, whatever is asked of their elements: it holds of all of them if it holds of each kind, and there
--- are at most so many. Assumes nothing.
+-- are at most so many.
 use Prim.Native.Nat.{ℕ, _+_, _/_, _<_, _≤_}
 use mathlib.Core.Path.{_≡_, refl}
 use mathlib.Core.Bool.{true, not, _&&_, and-eq-true-iff}
@@ -26,7 +26,7 @@ use Rattle.element.specs.Entries.{All}
 use Rattle.element.specs.Lists.{allOnes}
 use Rattle.element.proofs.Scans.{each-length}
 use Rattle.element.specs.Flags.{replyWanted, unicast, hasDO}
-use Rattle.rules.specs.Outcome.{Frame}
+use Rattle.rules.specs.Exit.{Frame}
 use Rattle.rules.specs.declared.Arrival.{Arrival}
 use Rattle.rules.specs.Destinations.{Answered, ownReply, rowReply, answeredNumber, answersFor, forOneself, forAllOnes, forAnother, answered, allAnswered}
 use Rattle.rules.specs.Onward.{onward, sentTo, toAll, ifTtlLeft, rannOnward, rreqOnward, rrepOnward}

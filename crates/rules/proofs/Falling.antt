@@ -1,4 +1,4 @@
--- A break and a received error: every row stays held, and the table stays one. Assumes nothing.
+-- A break and a received error: every row stays held, and the table stays one.
 use Prim.Native.Nat.{ℕ, _^_, _<_}
 use mathlib.Core.Path.{_≡_, refl, sym, ap, subst, _∙_}
 use mathlib.Core.Bool.{Bool, true, false, and-eq-true-iff}
@@ -21,7 +21,7 @@ use Rattle.table.proofs.HeldRows.{Held, held-says, held-is, invalid-fits, raise
 use Rattle.element.specs.declared.LostDestination.{LostDestination}
 use Rattle.element.specs.Entries.{All}
 use Rattle.element.proofs.ListParts.{FitsLost}
-use Rattle.rules.specs.Lists.{isThere}
+use Rattle.rules.specs.Lists.{isSome}
 use Rattle.rules.specs.Errors.{isLostBy, numberBeside, isMatch, erredWith, erred, broken}
 use Rattle.rules.proofs.Branches.{cond-cases}
 use Rattle.rules.proofs.Tables.{Whole, Keeps}
@@ -129,7 +129,7 @@ module _ (c : ℕ) (transmitter : Address) (named : List LostDestination) (fit :
   match-is : (r : Row) → isMatch c transmitter named r ≡ true → (active c r ≡ true) × (eqb (r .known) 1 ≡ true)
   unfolding isMatch isLostBy
   match-is r e =
-      let lost = and-eq-true-iff (isLostBy c transmitter r) (isThere (numberBeside (r .destination) named)) .0 e .0 in
+      let lost = and-eq-true-iff (isLostBy c transmitter r) (isSome (numberBeside (r .destination) named)) .0 e .0 in
       let both = and-eq-true-iff (isThrough c transmitter r) (eqb (r .known) 1) .0 lost in
       (through-acts c transmitter r (both .0), both .1)
 

@@ -1,9 +1,9 @@
--- Frames as octets, one after another. Assumes nothing.
+-- Frames as octets, one after another.
 use mathlib.Core.Path.{_≡_, refl}
 use mathlib.Core.List.{List, [], _∷_, _++_, append-nil, flatMap}
 use Rattle.element.specs.Octets.{writeFrame}
 use Rattle.element.proofs.Listing.{listed-append}
-use Rattle.rules.specs.Outcome.{Frame, frameOctets}
+use Rattle.rules.specs.Exit.{Frame, frameOctets}
 
 pub no-frame : frameOctets [] ≡ []
 unfolding frameOctets flatMap

@@ -1,4 +1,4 @@
--- A walk counts no more hops than there are points. Assumes nothing.
+-- A walk counts no more hops than there are points.
 use Prim.Native.Nat.{ℕ, zero, suc, _+_, _≤_}
 use mathlib.Core.Path.{_≡_, ap}
 use mathlib.Core.List.{List}

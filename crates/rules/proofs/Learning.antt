@@ -1,5 +1,4 @@
 -- Steps 1 and 2 of receiving a RREQ, RREP or RANN: what they make of the row of a destination, and that the table stays one.
--- Assumes nothing.
 use Prim.Native.Nat.{ℕ, _+_, _-_, _^_, _<_, _≤_}
 use mathlib.Core.Path.{_≡_, refl, sym, ap, subst, _∙_}
 use mathlib.Core.Bool.{Bool, true, false, _&&_, _||_}

@@ -1,6 +1,6 @@
 -- 'Each match as in refusal 26': for a destination that a RERR names, the row that is changed is that of a match, and by the
 -- number beside it. The rules say which destinations match (`matches`) and which rows are changed (`isMatch`, `erred`) in two
--- definitions; where no destination stands twice they agree. Assumes nothing.
+-- definitions; where no destination stands twice they agree.
 use mathlib.Core.Path.{_≡_, refl, sym, ap, _∙_}
 use mathlib.Core.Bool.{Bool, true, false, _||_, and-true}
 use mathlib.Core.List.{List, [], _∷_}
@@ -15,7 +15,7 @@ use Rattle.table.specs.Table.{rowFor}
 use Rattle.table.proofs.Lookup.{row-destination}
 use Rattle.element.specs.declared.LostDestination.{LostDestination}
 use Rattle.element.specs.Entries.{All}
-use Rattle.element.specs.Lists.{among, twice}
+use Rattle.element.specs.Lists.{contains, hasDuplicate}
 use Rattle.rules.specs.Errors.{isLostBy, matches, numberBeside, isMatch, erredWith, erred}
 use Rattle.rules.specs.Receive.{lostAddresses}
 use Rattle.rules.proofs.Alls.{all-implies}
@@ -31,12 +31,12 @@ second-fails true false e = refl
 second-fails true true e = e
 
 -- an address that is not among those of a list is none of them
-apart : (d : Address) (named : List LostDestination) → among d (lostAddresses named) ≡ false → All (λ (m : LostDestination). same (m .address) d ≡ false) named
-unfolding among All
+apart : (d : Address) (named : List LostDestination) → contains (lostAddresses named) d ≡ false → All (λ (m : LostDestination). same (m .address) d ≡ false) named
+unfolding contains All
 apart d [] e = tt
 apart d (m ∷ named) e = (
-  first-fails (same (m .address) d) (among d (lostAddresses named)) e,
-  apart d named (second-fails (same (m .address) d) (among d (lostAddresses named)) e),
+  first-fails (same (m .address) d) (contains (lostAddresses named) d) e,
+  apart d named (second-fails (same (m .address) d) (contains (lostAddresses named) d) e),
 )
 
 -- the number beside a destination that is named once
@@ -51,13 +51,13 @@ module _ (m : LostDestination) (named : List LostDestination) where
     beside-others l (others .1) (rest .1),
   )
 
-beside-each : (named : List LostDestination) → twice (lostAddresses named) ≡ false
+beside-each : (named : List LostDestination) → hasDuplicate (lostAddresses named) ≡ false
     → All (λ (m : LostDestination). numberBeside (m .address) named ≡ some (m .number)) named
-unfolding All numberBeside twice
+unfolding All numberBeside hasDuplicate
 beside-each [] e = tt
 beside-each (m ∷ named) e =
-    let once = first-fails (among (m .address) (lostAddresses named)) (twice (lostAddresses named)) e in
-    let rest = beside-each named (second-fails (among (m .address) (lostAddresses named)) (twice (lostAddresses named)) e) in
+    let once = first-fails (contains (lostAddresses named) (m .address)) (hasDuplicate (lostAddresses named)) e in
+    let rest = beside-each named (second-fails (contains (lostAddresses named) (m .address)) (hasDuplicate (lostAddresses named)) e) in
     (rw (eq-eqb (m .address .0) (m .address .0) refl), beside-others m named named (apart (m .address) named once) rest)
 
 -- the row of a destination that is named, with the number beside it
@@ -79,7 +79,7 @@ pub record AsMatched (t : List ℕ) (c : ℕ) (transmitter : Address) (named : L
   pub test : (r : Row) → rowFor t (m .address) ≡ some r → isMatch c transmitter named r ≡ matches t c transmitter m
   pub change : (r : Row) → rowFor t (m .address) ≡ some r → erred named r ≡ erredWith (some (m .number)) r
 
-pub matched-alike : (t : List ℕ) (c : ℕ) (transmitter : Address) (named : List LostDestination) → twice (lostAddresses named) ≡ false
+pub matched-alike : (t : List ℕ) (c : ℕ) (transmitter : Address) (named : List LostDestination) → hasDuplicate (lostAddresses named) ≡ false
     → All (AsMatched t c transmitter named) named
 matched-alike t c transmitter named e =
     all-implies (λ (m : LostDestination). numberBeside (m .address) named ≡ some (m .number)) (AsMatched t c transmitter named)

@@ -1,4 +1,4 @@
--- The frames of an accepted call take at most 1,560 octets: an output that passes refusal 2 has room for them. Assumes nothing.
+-- The frames of an accepted call take at most 1,560 octets: an output that passes refusal 2 has room for them.
 use Prim.Native.Nat.{ℕ, _+_, _*_, _≤_}
 use mathlib.Core.Path.{_≡_, refl, ap, subst}
 use mathlib.Core.Bool.{Bool, true, and-eq-true-iff}
@@ -26,7 +26,7 @@ use Rattle.element.proofs.Scans.{each-length}
 use Rattle.element.proofs.Sizes.{frame-length}
 use Rattle.element.proofs.ReadBack.{Fits}
 use Rattle.rules.specs.Decision.{accepted}
-use Rattle.rules.specs.Outcome.{Frame, Lent, Effect, frameOctets}
+use Rattle.rules.specs.Exit.{Frame, Lent, Effect, frameOctets}
 use Rattle.rules.specs.declared.Arrival.{Arrival}
 use Rattle.rules.specs.Learn.{learnt}
 use Rattle.rules.specs.Destinations.{Answered, reply, allAnswered}
@@ -36,7 +36,7 @@ use Rattle.rules.specs.Errors.{brokenEntry, brokenEntries}
 use Rattle.rules.specs.Receive.{rannReceived, rrepReceived, rreqReceived, rerrReceived, received, receiving, receive}
 use Rattle.rules.specs.Originate.{announced, requested, asking, ask, announcing, announce, requestingAsRoot, rootRequest}
 use Rattle.rules.specs.Break.{brokenOff, breaking, breakNeighbour}
-use Rattle.rules.specs.Calls.{Call, receives, makes, asks, announces, requestsAsRoot, breaks, outcome, OperandsFit}
+use Rattle.rules.specs.Calls.{Call, receives, makes, asks, announces, requestsAsRoot, breaks, decision, OperandsFit}
 use Rattle.rules.proofs.Branches.{cond-cases}
 use Rattle.rules.proofs.Rulings.{listed, passed, passed-check}
 use Rattle.rules.proofs.Alls.{all-after, all-implies, flat-fewer}
@@ -137,13 +137,13 @@ module _ (l : Lent) (octets : Octets (l .table)) (room : ℕ) where
       )
 
   -- no more frames than the outcome of its ruling has
-  call-few : (n : ℕ) → n ≤ 6 → (call : Call) → OperandsFit call → (e e′ : Effect) → outcome l room call ≡ accepted e → e′ ≡ e → length (e′ .frames) ≤ n
+  call-few : (n : ℕ) → n ≤ 6 → (call : Call) → OperandsFit call → (e e′ : Effect) → decision l room call ≡ accepted e → e′ ≡ e → length (e′ .frames) ≤ n
       → length (frameOctets (e .frames)) ≤ 1560
   call-few n six call fit e e′ is same-effect few =
       few-frames n six (e .frames) (subst (λ (x : Effect). length (x .frames) ≤ n) same-effect few) (call-kept l octets room call fit e is .frames)
 
-  pub call-room : (call : Call) → OperandsFit call → (e : Effect) → outcome l room call ≡ accepted e → length (frameOctets (e .frames)) ≤ 1560
-  unfolding listed outcome receive ask announce rootRequest breakNeighbour announced requested brokenOff
+  pub call-room : (call : Call) → OperandsFit call → (e : Effect) → decision l room call ≡ accepted e → length (frameOctets (e .frames)) ≤ 1560
+  unfolding listed decision receive ask announce rootRequest breakNeighbour announced requested brokenOff
   call-room (receives a s) fit e is =
       let p = passed (receiving l room a s) e is in
       let frames = call-kept l octets room (receives a s) fit e is .frames in

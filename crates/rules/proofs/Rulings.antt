@@ -1,4 +1,4 @@
--- What holds of a call that was accepted: no check applied. Assumes nothing.
+-- What holds of a call that was accepted: no check applied.
 use mathlib.Core.Path.{_≡_, refl}
 use mathlib.Core.Bool.{Bool, true, false, cond}
 use mathlib.Core.List.{List, [], _∷_}

@@ -1,4 +1,4 @@
--- Every element that a call emits fits its octets and has as many entries as it may have. Assumes nothing.
+-- Every element that a call emits fits its octets and has as many entries as it may have.
 use Prim.Native.Nat.{ℕ, _+_, _-_, _*_, _/_, _^_, _<_, _≤_}
 use mathlib.Core.Path.{_≡_, refl}
 use mathlib.Core.Bool.{Bool, true}
@@ -35,7 +35,7 @@ use Rattle.element.specs.Entries.{each, All}
 use Rattle.element.proofs.ListParts.{FitsTarget, FitsNumbered, FitsLost}
 use Rattle.element.proofs.ReadBack.{Fits, all-each}
 use Rattle.element.specs.Flags.{replyWanted, hasRF, withDO}
-use Rattle.rules.specs.Outcome.{Frame}
+use Rattle.rules.specs.Exit.{Frame}
 use Rattle.rules.specs.declared.Arrival.{Arrival}
 use Rattle.rules.specs.Learn.{metricHere}
 use Rattle.rules.specs.Destinations.{Answered, rowReply, reply, answeredNumber, answersFor, forOneself, forAllOnes, forAnother, answered, allAnswered, keptAfterReply}

@@ -1,4 +1,4 @@
--- A fresh table, and a table after a destination is forgotten, pass refusal 21. (`CallsKeep` has the other calls.) Assumes nothing.
+-- A fresh table, and a table after a destination is forgotten, pass refusal 21. (`CallsKeep` has the other calls.)
 use Prim.Native.Nat.{ℕ, _^_, _<_}
 use mathlib.Core.Path.{_≡_, refl}
 use mathlib.Core.Bool.{true}

@@ -1,4 +1,4 @@
--- Report a broken neighbour. Assumes nothing.
+-- Report a broken neighbour.
 use Prim.Native.Nat.{ℕ}
 use mathlib.Core.Bool.{Bool}
 use mathlib.Core.List.{List}
@@ -7,7 +7,7 @@ use Rattle.table.specs.declared.row.Row.{Row}
 use Rattle.table.specs.Table.{number, changeWhere}
 use Rattle.rules.specs.Decision.{Decision, Ruling, decide, accept, _>>_}
 use Rattle.rules.specs.Checks.{operandChecks, stateChecks}
-use Rattle.rules.specs.Outcome.{Lent, withTable, Effect, underHead}
+use Rattle.rules.specs.Exit.{Lent, withTable, Effect, underHead}
 use Rattle.table.specs.Row.{isThrough}
 use Rattle.rules.specs.Errors.{broken, brokenEntries, errorsFor}
 

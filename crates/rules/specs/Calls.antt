@@ -1,10 +1,10 @@
--- The calls that may write a table and an output, in one definition. Assumes nothing.
+-- The calls that may write a table and an output, in one definition.
 use Prim.Native.Nat.{ℕ, _^_, _<_}
 use mathlib.Core.List.{List}
 use Rattle.octets.specs.LittleEndian.{Octets}
 use Rattle.table.specs.declared.address.Address.{Address}
 use Rattle.rules.specs.Decision.{Decision}
-use Rattle.rules.specs.Outcome.{Lent, Effect}
+use Rattle.rules.specs.Exit.{Lent, Effect}
 use Rattle.rules.specs.declared.Arrival.{Arrival}
 use Rattle.rules.specs.Receive.{receive}
 use Rattle.rules.specs.Originate.{ask, announce, rootRequest}
@@ -23,12 +23,12 @@ pub data Call : Type 0 where
   makes : OwnCall → Call
 
 -- what the call comes to, of what it is lent and an output of `room` octets
-unfoldable pub outcome : Lent → ℕ → Call → Decision Effect
-outcome l room (receives a s) = receive l room a s
-outcome l room (makes (asks lifetime items)) = ask l room lifetime items
-outcome l room (makes (announces flags lifetime)) = announce l room flags lifetime
-outcome l room (makes (requestsAsRoot flags lifetime)) = rootRequest l room flags lifetime
-outcome l room (makes (breaks c neighbour)) = breakNeighbour l room c neighbour
+unfoldable pub decision : Lent → ℕ → Call → Decision Effect
+decision l room (receives a s) = receive l room a s
+decision l room (makes (asks lifetime items)) = ask l room lifetime items
+decision l room (makes (announces flags lifetime)) = announce l room flags lifetime
+decision l room (makes (requestsAsRoot flags lifetime)) = rootRequest l room flags lifetime
+decision l room (makes (breaks c neighbour)) = breakNeighbour l room c neighbour
 
 -- What C's types say of the operands, as far as it is needed: an octet is below 256, an address has six octets and a
 -- lifetime 32 bits.

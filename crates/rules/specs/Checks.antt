@@ -1,8 +1,8 @@
--- Checks that several calls have in common. Assumes nothing.
+-- Checks that several calls have in common.
 use Prim.Native.Nat.{ℕ}
 use mathlib.Core.Bool.{not}
 use mathlib.Core.List.{List}
-use Rattle.rules.specs.Outcome.{leastOutput}
+use Rattle.rules.specs.Exit.{leastOutput}
 use Rattle.table.specs.Row.{maxClock}
 use Rattle.table.specs.declared.address.Address.{Address}
 use Rattle.table.specs.Address.{individual, same}

@@ -1,4 +1,4 @@
--- What a call comes to: a refusal by its number, or what it makes of what it was lent. Assumes nothing.
+-- What a call comes to: a refusal by its number, or what it makes of what it was lent.
 use Prim.Native.Nat.{ℕ}
 use mathlib.Core.Bool.{Bool, cond}
 use mathlib.Core.List.{List, [], _∷_, _++_}
@@ -19,7 +19,7 @@ pub record Ruling (A : Type 0) : Type 0 where
   pub otherwise : A
 
 -- A ruling is written as a `do` block: a line `refuse n when test` for each check, or the name of several, and `accept` with
--- the outcome.
+-- what it then does.
 infix 6 refuse_when_
 abbrev pub refuse_when_ : ℕ → Bool → List Check
 refuse_when_ n b = record { number = n; applies = b } ∷ []
@@ -51,14 +51,3 @@ judged (k ∷ checks) a = cond (k .applies) (refused (k .number)) (judged checks
 
 abbrev pub decide : {A : Type 0} → Ruling A → Decision A
 decide r = judged (r .checks) (r .otherwise)
-
--- ---- what a call answers and leaves, of a call that may change the table and writes no frame
-
-pub record Left : Type 0 where
-  pub answer : ℕ
-  pub table : List ℕ
-
--- an acceptance answers 0; a refusal answers its number and leaves the table t as it was
-abbrev pub left : List ℕ → Decision (List ℕ) → Left
-left t (refused n) = record { answer = n; table = t }
-left t (accepted u) = record { answer = 0; table = u }

@@ -1,4 +1,4 @@
--- 'RREQ then takes its destinations in order': replies, and which destinations are kept. Assumes nothing.
+-- 'RREQ then takes its destinations in order': replies, and which destinations are kept.
 use Prim.Native.Nat.{ℕ}
 use mathlib.Core.Bool.{Bool, not, _&&_, cond}
 use mathlib.Core.List.{List, [], _∷_, _++_}
@@ -19,7 +19,7 @@ use Rattle.element.specs.declared.RrepFields.{RrepFields}
 use Rattle.element.specs.Element.{rrep}
 use Rattle.element.specs.Lists.{allOnes}
 use Rattle.element.specs.Flags.{replyWanted, hasDO, hasRF, withDO}
-use Rattle.rules.specs.Outcome.{Frame, initialTtl}
+use Rattle.rules.specs.Exit.{Frame, initialTtl}
 use Rattle.rules.specs.declared.Arrival.{Arrival}
 
 -- what destinations come to: the own number, the replies, and the destinations that are kept

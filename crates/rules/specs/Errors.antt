@@ -1,4 +1,4 @@
--- 'Errors and breaks': which rows are lost, what becomes of them, and the errors that name them. Assumes nothing.
+-- 'Errors and breaks': which rows are lost, what becomes of them, and the errors that name them.
 use Prim.Native.Nat.{ℕ, _+_, _-_, _*_, _/_}
 use mathlib.Core.Bool.{Bool, _&&_, cond}
 use mathlib.Core.List.{List, [], _∷_, flatMap}
@@ -20,8 +20,8 @@ use Rattle.element.specs.Element.{rerr}
 use Rattle.element.specs.Layout.{most}
 use Rattle.element.specs.Entries.{each}
 use Rattle.element.specs.Lists.{allOnes}
-use Rattle.rules.specs.Lists.{has, isThere}
-use Rattle.rules.specs.Outcome.{Frame}
+use Rattle.rules.specs.Lists.{isSomeAnd, isSome}
+use Rattle.rules.specs.Exit.{Frame}
 
 -- ---- a received RERR
 
@@ -31,7 +31,7 @@ isLostBy c transmitter r = isThrough c transmitter r && eqb (r .known) 1
 
 -- a match as in refusal 26: a destination that the RERR names, with such a row
 unfoldable pub matches : List ℕ → ℕ → Address → LostDestination → Bool
-matches t c transmitter m = has (isLostBy c transmitter) (rowFor t (m .address))
+matches t c transmitter m = isSomeAnd (isLostBy c transmitter) (rowFor t (m .address))
 
 -- the number beside a destination that is named
 unfoldable pub numberBeside : Address → List LostDestination → Option SequenceNumber
@@ -40,7 +40,7 @@ numberBeside d (m ∷ named) = cond (same (m .address) d) (some (m .number)) (nu
 
 -- the row of a match: such a row, whose destination the RERR names
 unfoldable pub isMatch : ℕ → Address → List LostDestination → Row → Bool
-isMatch c transmitter named r = isLostBy c transmitter r && isThere (numberBeside (r .destination) named)
+isMatch c transmitter named r = isLostBy c transmitter r && isSome (numberBeside (r .destination) named)
 
 -- a match is invalidated; if the received number is newer, the row takes it and metric 4,294,967,295
 unfoldable pub erredWith : Option SequenceNumber → Row → Row

@@ -1,4 +1,4 @@
--- Forget a destination. Assumes nothing.
+-- Forget a destination.
 use Prim.Native.Nat.{ℕ}
 use mathlib.Core.Bool.{not}
 use mathlib.Core.List.{List}
@@ -7,7 +7,7 @@ use Rattle.table.specs.Address.{individual}
 use Rattle.table.specs.Layout.{sized}
 use Rattle.table.specs.Table.{isTable, rowFor, freed}
 use Rattle.rules.specs.Decision.{Decision, Ruling, decide, refuse_when_, accept, _>>_}
-use Rattle.rules.specs.Lists.{isThere}
+use Rattle.rules.specs.Lists.{isSome}
 
 -- forgetting frees a row for use
 abbrev pub forgetting : List ℕ → Address → Ruling (List ℕ)
@@ -15,7 +15,7 @@ forgetting t destination = do
   refuse 1 when not (sized t)
   refuse 9 when not (individual destination)
   refuse 21 when not (isTable t)
-  refuse 29 when not (isThere (rowFor t destination))
+  refuse 29 when not (isSome (rowFor t destination))
   accept (freed t destination)
 
 unfoldable pub forget : List ℕ → Address → Decision (List ℕ)

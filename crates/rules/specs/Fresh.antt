@@ -1,4 +1,4 @@
--- Make a fresh table. Assumes nothing.
+-- Make a fresh table.
 use Prim.Native.Nat.{ℕ}
 use mathlib.Core.Bool.{not}
 use mathlib.Core.List.{List}

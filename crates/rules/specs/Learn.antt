@@ -1,5 +1,5 @@
 -- 'Receiving RREQ, RREP, RANN', steps 1 and 2: what a point learns of the subject (the originator; in a RREP the destination)
--- and of the transmitter. Assumes nothing.
+-- and of the transmitter.
 use Prim.Native.Nat.{ℕ, _+_, _-_, _^_, _<_, _≤_}
 use mathlib.Core.Bool.{Bool, true, _&&_, _||_, cond}
 use mathlib.Core.List.{List}
@@ -22,17 +22,18 @@ metricHere a p = record { 0 = p .metric .0 + a .link .0 }
 abbrev pub hopsHere : PathInfo → HopCount
 hopsHere p = record { 0 = p .hops .0 + 1 }
 
--- the largest metric of a path that is taken, and the hop count with which none is
+-- the largest metric of a path that is taken
 abbrev pub maxMetric : ℕ
 maxMetric = 2 ^ 32 - 2
 
-abbrev pub mostHops : ℕ
-mostHops = 255
+-- the largest hop count that a row can have; an element that has it already is refused (12)
+abbrev pub maxHops : ℕ
+maxHops = 255
 
 -- what functions know of a path that refusals 12 and 13 let through: it can be a link longer
 pub record Extends (a : Arrival) (p : PathInfo) : Type 0 where
   pub metric : metricHere a p .0 ≤ maxMetric
-  pub hops : p .hops .0 < mostHops
+  pub hops : p .hops .0 < maxHops
 
 -- a row that is to be made, with number unknown
 abbrev pub newRow : Address → Row

@@ -1,7 +1,7 @@
 pub mod Decision
 pub mod Checks
 pub mod Lists
-pub mod Outcome
+pub mod Exit
 pub mod Fresh
 pub mod Forget
 pub mod NextHop
@@ -14,3 +14,4 @@ pub mod Originate
 pub mod Break
 pub mod Calls
 pub mod Walk
+pub mod Exits

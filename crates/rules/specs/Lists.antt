@@ -1,4 +1,4 @@
--- Tests over a list, and of what may be absent. Assumes nothing.
+-- Tests over a list, and of what may be absent.
 use mathlib.Core.Bool.{Bool, true, false, _&&_, _||_, cond}
 use mathlib.Core.List.{List, [], _∷_}
 use mathlib.Core.Option.{Option, none, some}
@@ -15,16 +15,16 @@ module _ {A : Type 0} where
   all p (x ∷ xs) = p x && all p xs
 
   -- the entries that pass the test, in order
-  unfoldable pub those : (A → Bool) → List A → List A
-  those p [] = []
-  those p (x ∷ xs) = cond (p x) (x ∷ those p xs) (those p xs)
+  unfoldable pub filter : (A → Bool) → List A → List A
+  filter p [] = []
+  filter p (x ∷ xs) = cond (p x) (x ∷ filter p xs) (filter p xs)
 
   -- there is one
-  abbrev pub isThere : Option A → Bool
-  isThere none = false
-  isThere (some x) = true
+  abbrev pub isSome : Option A → Bool
+  isSome none = false
+  isSome (some x) = true
 
   -- it is there and passes the test
-  abbrev pub has : (A → Bool) → Option A → Bool
-  has p none = false
-  has p (some x) = p x
+  abbrev pub isSomeAnd : (A → Bool) → Option A → Bool
+  isSomeAnd p none = false
+  isSomeAnd p (some x) = p x

@@ -1,4 +1,4 @@
--- Find a next hop. Assumes nothing.
+-- Find a next hop.
 use Prim.Native.Nat.{ℕ, _-_, _^_}
 use mathlib.Core.Bool.{not}
 use mathlib.Core.List.{List}
@@ -8,7 +8,7 @@ use Rattle.table.specs.declared.address.Address.{Address}
 use Rattle.table.specs.Address.{individual}
 use Rattle.table.specs.Layout.{sized}
 use Rattle.table.specs.Table.{clock, isTable, rowFor, activeNext}
-use Rattle.rules.specs.Lists.{isThere}
+use Rattle.rules.specs.Lists.{isSome}
 use Rattle.rules.specs.Decision.{Decision, Ruling, decide, refuse_when_, _above_, _below_, accept, _>>_}
 
 abbrev pub findingNextHop : List ℕ → ℕ → Address → Ruling Address
@@ -20,7 +20,7 @@ findingNextHop t c destination =
       refuse 21 when not (isTable t)
       refuse 22 when c below clock t
       -- 28. no active row
-      refuse 28 when not (isThere next)
+      refuse 28 when not (isSome next)
       accept (Option·getD next (record { 0 = 0 }))
 
 unfoldable pub nextHop : List ℕ → ℕ → Address → Decision Address

@@ -1,4 +1,4 @@
--- What goes on, and to whom. Assumes nothing.
+-- What goes on, and to whom.
 use Prim.Native.Nat.{ℕ, _-_}
 use mathlib.Core.Bool.{cond}
 use mathlib.Core.List.{List, [], _∷_}
@@ -16,7 +16,7 @@ use Rattle.element.specs.declared.RrepFields.{RrepFields}
 use Rattle.element.specs.Element.{Element, rann, rreq, rrep}
 use Rattle.element.specs.Lists.{allOnes}
 use Rattle.element.specs.Flags.{unicast}
-use Rattle.rules.specs.Outcome.{Frame}
+use Rattle.rules.specs.Exit.{Frame}
 use Rattle.rules.specs.declared.Arrival.{Arrival}
 use Rattle.rules.specs.Learn.{metricHere, hopsHere}
 

@@ -1,5 +1,4 @@
 -- 'Originating': ask, announce and root request. Each takes the next own number; hop count 0, TTL 31, metric 0, to all ones.
--- Assumes nothing.
 use Prim.Native.Nat.{ℕ, _%_}
 use mathlib.Core.Bool.{Bool, true, false, not, _&&_, _||_, cond}
 use mathlib.Core.List.{List, [], _∷_, map}
@@ -21,11 +20,11 @@ use Rattle.element.specs.declared.Target.{Target}
 use Rattle.element.specs.declared.list.ListKind.the-variants.{Items}
 use Rattle.element.specs.Element.{rann, rreq}
 use Rattle.element.specs.Entries.{itemsIn}
-use Rattle.element.specs.Lists.{addressesIn, allOnes, anyForbidden, among, twice}
+use Rattle.element.specs.Lists.{addressesIn, allOnes, anyForbidden, contains, hasDuplicate}
 use Rattle.rules.specs.Decision.{Decision, Check, Ruling, decide, refuse_when_, _then_, _above_, accept, _>>_}
 use Rattle.rules.specs.Checks.{bufferChecks}
 use Rattle.rules.specs.Lists.{any}
-use Rattle.rules.specs.Outcome.{Lent, withTable, Effect, initialTtl}
+use Rattle.rules.specs.Exit.{Lent, withTable, Effect, initialTtl}
 use Rattle.rules.specs.Onward.{toAll}
 
 -- ---- what all three have in common
@@ -87,7 +86,7 @@ unfoldable pub itemChecks : List ℕ → List Check
 itemChecks items =
     refuse 8 when not (itemsFit items)
     then refuse 9 when anyForbidden Items (addressesIn Items items)
-    then refuse 10 when twice (addressesIn Items items) || any hasHighFlags (itemsIn items)
+    then refuse 10 when hasDuplicate (addressesIn Items items) || any hasHighFlags (itemsIn items)
 
 unfoldable pub asking : Lent → ℕ → ℕ → List ℕ → Ruling Effect
 asking l room lifetime items = do
@@ -97,7 +96,7 @@ asking l room lifetime items = do
   itemChecks items
   refuse 11 when eqb lifetime 0
   refuse 21 when not (isTable (l .table))
-  refuse 24 when among (own (l .table)) (addressesIn Items items)
+  refuse 24 when contains (addressesIn Items items) (own (l .table))
   accept (requested l 0 lifetime (map (askedFor (l .table)) (itemsIn items)))
 
 unfoldable pub ask : Lent → ℕ → ℕ → List ℕ → Decision Effect

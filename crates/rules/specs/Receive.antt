@@ -1,4 +1,4 @@
--- Receive an element. Assumes nothing.
+-- Receive an element.
 use Prim.Native.Nat.{ℕ, _+_, _-_, _^_}
 use mathlib.Core.Bool.{Bool, false, not, _&&_, _||_, cond}
 use mathlib.Core.List.{List, _++_, map}
@@ -20,14 +20,14 @@ use Rattle.element.specs.declared.RerrFields.{RerrFields}
 use Rattle.element.specs.declared.list.ListKind.the-variants.{Targets, LostDestinations}
 use Rattle.element.specs.Element.{Element, rann, rreq, rrep, rerr}
 use Rattle.element.specs.Octets.{wrongLength, otherId, misfit, readElement}
-use Rattle.element.specs.Lists.{allOnes, anyForbidden, among, twice, onesBesideOthers}
+use Rattle.element.specs.Lists.{allOnes, anyForbidden, contains, hasDuplicate, onesBesideOthers}
 use Rattle.rules.specs.Decision.{Decision, Check, Ruling, decide, refuse_when_, _then_, _above_, accept, _>>_}
 use Rattle.rules.specs.Checks.{operandChecks, stateChecks}
-use Rattle.rules.specs.Lists.{any, those, has}
+use Rattle.rules.specs.Lists.{any, filter, isSomeAnd}
 use Rattle.element.specs.Flags.{unicast}
-use Rattle.rules.specs.Outcome.{Lent, withTable, Effect, underHead}
+use Rattle.rules.specs.Exit.{Lent, withTable, Effect, underHead}
 use Rattle.rules.specs.declared.Arrival.{Arrival}
-use Rattle.rules.specs.Learn.{metricHere, maxMetric, mostHops, learnt}
+use Rattle.rules.specs.Learn.{metricHere, maxMetric, maxHops, learnt}
 use Rattle.rules.specs.Destinations.{Answered, allAnswered}
 use Rattle.rules.specs.Onward.{rannOnward, rreqOnward, rrepOnward, toAll}
 use Rattle.rules.specs.Errors.{matches, isMatch, erred}
@@ -72,7 +72,7 @@ hasBadAddress (rerr f destinations) = anyForbidden LostDestinations (lostAddress
 
 -- several destinations or all ones
 unfoldable pub severalOrAll : List Address → Bool
-severalOrAll addresses = ltb 1 (length addresses) || among allOnes addresses
+severalOrAll addresses = ltb 1 (length addresses) || contains addresses allOnes
 
 -- 10. a destination twice; all ones beside others; a received originator among its destinations; a unicast RREQ with several
 -- destinations or all ones; RREP destination equal to source
@@ -80,10 +80,10 @@ unfoldable pub hasBadList : Element → Bool
 hasBadList (rann p) = false
 hasBadList (rreq f targets) =
     let addresses : List Address = targetAddresses targets in
-    twice addresses || onesBesideOthers addresses || among (f .path .subject) addresses
+    hasDuplicate addresses || onesBesideOthers addresses || contains addresses (f .path .subject)
     || (unicast (f .path) && severalOrAll addresses)
 hasBadList (rrep f dependents) = same (f .path .subject) (f .source .address)
-hasBadList (rerr f destinations) = twice (lostAddresses destinations)
+hasBadList (rerr f destinations) = hasDuplicate (lostAddresses destinations)
 
 -- 14. RREP with TTL 0 or 1
 unfoldable pub isLowTtlReply : Element → Bool
@@ -97,9 +97,9 @@ unfoldable pub fieldChecks : (badAddress badList lowTtl : Bool) → Arrival → 
 fieldChecks badAddress badList lowTtl a path =
     refuse 9 when badAddress
     then refuse 10 when badList
-    then refuse 11 when has (λ p. eqb (p .lifetime) 0) path
-    then refuse 12 when has (λ p. eqb (p .hops .0) mostHops) path
-    then refuse 13 when has (λ p. metricHere a p .0 above maxMetric) path
+    then refuse 11 when isSomeAnd (λ p. eqb (p .lifetime) 0) path
+    then refuse 12 when isSomeAnd (λ p. eqb (p .hops .0) maxHops) path
+    then refuse 13 when isSomeAnd (λ p. metricHere a p .0 above maxMetric) path
     then refuse 14 when lowTtl
 
 -- ---- turned away by the state
@@ -112,7 +112,7 @@ isStaleFor a p r =
 
 -- 25. such is the row of that originator (for RREP: destination), active or not
 unfoldable pub isStale : List ℕ → Arrival → PathInfo → Bool
-isStale t a p = has (isStaleFor a p) (rowFor t (p .subject))
+isStale t a p = isSomeAnd (isStaleFor a p) (rowFor t (p .subject))
 
 -- 26. a RERR names no destination with an active row of known number whose next hop is the transmitter
 unfoldable pub matchesNothing : List ℕ → Arrival → Element → Bool
@@ -129,10 +129,10 @@ rowsNeeded t a p =
 -- of the rows: 26 as the element's type decides it, the others by its path
 abbrev pub rowChecks : List ℕ → Arrival → (unmatched : Bool) → Option PathInfo → List Check
 rowChecks t a unmatched path =
-    refuse 24 when has (λ p. same (p .subject) (own t)) path
-    then refuse 25 when has (isStale t a) path
+    refuse 24 when isSomeAnd (λ p. same (p .subject) (own t)) path
+    then refuse 25 when isSomeAnd (isStale t a) path
     then refuse 26 when unmatched
-    then refuse 27 when has (λ p. rowsNeeded t a p above freeRows t) path
+    then refuse 27 when isSomeAnd (λ p. rowsNeeded t a p above freeRows t) path
 
 -- ---- what an accepted element does: the clock is stored, whatever the type
 
@@ -168,7 +168,7 @@ module _ (l : Lent) (a : Arrival) where
       let u : List ℕ = changeWhere (isMatch (a .clock) (a .transmitter) destinations) (erred destinations) t in
       record {
         lent = withTable (underHead t (number t) (a .clock) u) l;
-        frames = toAll (rerr f (those (matches t (a .clock) (a .transmitter)) destinations));
+        frames = toAll (rerr f (filter (matches t (a .clock) (a .transmitter)) destinations));
       }
 
   unfoldable pub received : Element → Effect

@@ -1,5 +1,5 @@
 -- The walk of document 01 over tables side by side, along rows that are active at a clock. (The walk of demand 3 goes along
--- valid rows, expired or not: `met` in crate `theorems`.) Assumes nothing.
+-- valid rows, expired or not: `met` in crate `theorems`.)
 use Prim.Native.Nat.{ℕ, zero, suc, _+_, _-_, _*_, _/_, _%_, _^_}
 use mathlib.Core.Bool.{Bool, not, _&&_, _||_, cond}
 use mathlib.Core.List.{List, [], _∷_, map}
@@ -13,7 +13,7 @@ use Rattle.table.specs.Address.{individual, same, addressOf}
 use Rattle.table.specs.Layout.{sized}
 use Rattle.table.specs.Table.{clock, isTable, rowFor, activeNext}
 use Rattle.element.specs.Entries.{each}
-use Rattle.element.specs.Lists.{among, twice}
+use Rattle.element.specs.Lists.{contains, hasDuplicate}
 use Rattle.rules.specs.Decision.{
   Decision,
   refused,
@@ -80,7 +80,7 @@ module _ (tables : List (List ℕ)) (c : ℕ) (destination : Address) where
   -- Returns the next hop of an active row, if that is the destination or a point.
   unfoldable pub leadsTo : Option Address → Option Address
   leadsTo none = none
-  leadsTo (some next) = cond (same next destination || among next (points tables)) (some next) none
+  leadsTo (some next) = cond (same next destination || contains (points tables) next) (some next) none
 
   -- nowhere to go on to: 41, and nothing more is counted
   abbrev pub goOn : Option Address → (hops : ℕ) → (Address → ℕ → Walked) → Walked
@@ -112,7 +112,7 @@ walking octets count c start destination = do
   refuse 1 when not (sideBySide octets count)
   refuse 3 when c above maxClock
   refuse 9 when not (individual destination)
-  refuse 10 when not (among start (points (tablesIn octets count))) || twice (points (tablesIn octets count))
+  refuse 10 when not (contains (points (tablesIn octets count)) start) || hasDuplicate (points (tablesIn octets count))
   -- 21 and 22
   tableChecks (tablesIn octets count) c
   accept (follow (tablesIn octets count) c destination count start 0)

@@ -1,5 +1,5 @@
 -- A table after the rows that pass a test are changed: every row is what the change makes of it, and each destination keeps
--- its row. Assumes nothing.
+-- its row.
 use Prim.Native.Nat.{ℕ, zero, suc, _+_, _<_, _≤_}
 use mathlib.Core.Path.{_≡_, refl, sym, ap, _∙_}
 use mathlib.Core.Bool.{Bool, true, false, cond, or-true}

@@ -1,4 +1,4 @@
--- Laws of the head and the rows in the octets of a table: with these no caller looks at an octet. Assumes nothing.
+-- Laws of the head and the rows in the octets of a table: with these no caller looks at an octet.
 use Prim.Native.Nat.{ℕ, _+_, _*_, _^_, _≤_}
 use mathlib.Core.Path.{_≡_, refl, sym, ap, _∙_}
 use mathlib.Core.List.{List, [], _∷_}

@@ -1,4 +1,4 @@
--- A table after its head is put, and a fresh table. Assumes nothing.
+-- A table after its head is put, and a fresh table.
 use Prim.Native.Nat.{ℕ, _+_, _-_, _^_, _<_, _≤_}
 use mathlib.Core.Path.{_≡_, refl, sym, ap, _∙_}
 use mathlib.Core.Bool.{Bool, true, false, and-false}
@@ -113,9 +113,9 @@ module _ (t u y : List ℕ) (h : Head) (long : headOctets ≤ length t) (ue : u 
       ∙ octet-zero (length (midOf 32 (length u - 32) u)) (k - 32)
       ∙ sym (octet-apart headWidths (zeros (length t)) k 0 0 (headNumbers h) (inr (omega arith)) ∙ octet-zero (length t) k)
 
-  over-zeros : putMid 32 (length u - 32) u y ≡ putHead (zeros (length t)) h
+  overwrite-zeros : putMid 32 (length u - 32) u y ≡ putHead (zeros (length t)) h
   unfolding whole
-  over-zeros = ext-getD 0 whole (putHead (zeros (length t)) h) whole-length (λ k l. by k l (ltb k 32) refl)
+  overwrite-zeros = ext-getD 0 whole (putHead (zeros (length t)) h) whole-length (λ k l. by k l (ltb k 32) refl)
     where
       by : (k : ℕ) → k < length whole → (b : Bool) → ltb k 32 ≡ b → getD whole k 0 ≡ getD (putHead (zeros (length t)) h) k 0
       by k l true e = in-head k (ltb-true k 32 e)
@@ -124,7 +124,7 @@ module _ (t u y : List ℕ) (h : Head) (long : headOctets ≤ length t) (ue : u 
 pub fresh-written : (t u y : List ℕ) (h : Head) (a : Address) (s : SequenceNumber) → headOctets ≤ length t → h ≡ freshHead a s → u ≡ putHead t h
     → y ≡ zeros (length (midOf 32 (length u - 32) u)) → putMid 32 (length u - 32) u y ≡ fresh (length t) a s
 unfolding fresh
-fresh-written t u y h a s long he ue ye = over-zeros t u y h long ue ye ∙ ap (putHead (zeros (length t))) he
+fresh-written t u y h a s long he ue ye = overwrite-zeros t u y h long ue ye ∙ ap (putHead (zeros (length t))) he
 
 module _ (n : ℕ) (a : Address) (s : SequenceNumber) where
   pub fresh-length : length (fresh n a s) ≡ n

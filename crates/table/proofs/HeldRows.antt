@@ -1,4 +1,4 @@
--- A held row, and the steps that change one: it stays held. Assumes nothing.
+-- A held row, and the steps that change one: it stays held.
 use Prim.Native.Nat.{_+_, _^_, _<_, _≤_}
 use mathlib.Core.Path.{_≡_}
 use mathlib.Core.Bool.{Bool, true, _&&_, _||_, and-eq-true-iff}

@@ -1,4 +1,4 @@
--- The row of a destination and the free rows, after a row is stored or freed. Assumes nothing.
+-- The row of a destination and the free rows, after a row is stored or freed.
 use Prim.Native.Nat.{ℕ, suc, _+_, _<_, _≤_}
 use mathlib.Core.Path.{_≡_, refl, sym, ap, _∙_}
 use mathlib.Core.Bool.{Bool, true, false, _&&_, not, cond, and-false, or-true}

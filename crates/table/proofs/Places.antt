@@ -1,5 +1,5 @@
 -- Laws of `first`, `count` and `every`: what a loop that tests the places below n in turn knows at place i, where b is what
--- the test said there. Each is stated as a loop's proof asks it, so that `search` applies it. Assumes nothing.
+-- the test said there. Each is stated as a loop's proof asks it, so that `search` applies it.
 use Prim.Native.Nat.{ℕ, zero, suc, _+_, _<_, _≤_}
 use mathlib.Core.Path.{_≡_, refl, sym}
 use mathlib.Core.Bool.{Bool, true, false, cond, and-eq-true-iff}

@@ -1,4 +1,4 @@
--- A table by its parts, and the row of a destination by its place. Assumes nothing.
+-- A table by its parts, and the row of a destination by its place.
 use Prim.Native.Nat.{ℕ, _<_}
 use mathlib.Core.Path.{_≡_, refl, ap}
 use mathlib.Core.Bool.{Bool, true, false, not, and-eq-true-iff}

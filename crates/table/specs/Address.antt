@@ -1,4 +1,4 @@
--- Addresses of six octets, as little-endian numbers: the first octet is the lowest. Assumes nothing.
+-- Addresses of six octets, as little-endian numbers: the first octet is the lowest.
 use Prim.Native.Nat.{ℕ, _%_}
 use mathlib.Core.Bool.{Bool, _&&_, not}
 use mathlib.Core.List.{List}

@@ -1,4 +1,4 @@
--- Where the head and the rows stand in the octets of a table. Assumes nothing.
+-- Where the head and the rows stand in the octets of a table.
 use Prim.Native.Nat.{ℕ, _+_, _-_, _*_, _/_, _%_, _≤_}
 use mathlib.Core.Bool.{Bool, true, _&&_}
 use mathlib.Core.List.{List, [], _∷_}

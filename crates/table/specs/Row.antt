@@ -1,5 +1,4 @@
 -- The head and the rows of a table as values: which are as they should be, and the steps that change them.
--- Assumes nothing.
 use Prim.Native.Nat.{ℕ, _+_, _-_, _^_}
 use mathlib.Core.Bool.{Bool, _&&_, _||_, not}
 use lib.Dec.{eqb, leb, ltb}

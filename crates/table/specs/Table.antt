@@ -1,4 +1,4 @@
--- What makes octets a table, what is to be seen of one, and what calls do to it. Assumes nothing.
+-- What makes octets a table, what is to be seen of one, and what calls do to it.
 use Prim.Native.Nat.{ℕ, zero, suc}
 use mathlib.Core.Bool.{Bool, _&&_, _||_, not, cond}
 use mathlib.Core.List.{List}

@@ -22,7 +22,8 @@ pub const MOST_ROWS: usize = 128;
 // The metric of a row that cannot be used.
 const UNREACHABLE: u32 = 4294967295;
 
-// The fields of the head and of a row, in the order of the octets. A table has 0 in those called zero (refusal 21).
+// The fields of the head and of a row, in the order of the octets. A table has 0 in those called zero (refusal 21). Of a row,
+// known is 1 if its number is known, hops its hop count and next its next hop.
 pub struct Head {
     pub own: Address,
     pub zero2: u16,

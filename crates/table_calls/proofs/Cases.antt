@@ -1,5 +1,4 @@
 -- The definitions of the calls by cases, each as a `return` asks it. Each section adds the test that was passed.
--- Assumes nothing.
 use Prim.Native.Nat.{ℕ, _+_, _≤_, _<_}
 use mathlib.Core.Path.{_≡_, refl}
 use mathlib.Core.Bool.{Bool, true, false, not}
@@ -19,7 +18,7 @@ use Rattle.table.specs.Row.{freeRow}
 use Rattle.table.specs.Layout.{sized, place, headAt, rowAt, putRow, rowOctets}
 use Rattle.table.specs.Table.{isTable, findRow, rowFor, activeNext, hopIn, fresh, freed}
 use Rattle.table.proofs.Cases.{found-within, row-at, row-none}
-use Rattle.rules.specs.Decision.{left}
+use Rattle.rules.specs.Exit.{tableAtExit}
 use Rattle.rules.specs.Fresh.{makeFresh}
 use Rattle.rules.specs.Forget.{forget}
 use Rattle.rules.specs.NextHop.{nextHop}
@@ -28,23 +27,23 @@ use Rattle.calls.proofs.Checks.{passes-1}
 use Rattle.table_calls.specs.declared.forget.Check.{Check}
 use Rattle.table_calls.specs.declared.forget.Check.the-variants.{Row, Refused as Refusal}
 use Rattle.table_calls.specs.declared.next_hop.Hop.the-variants.{Via, Refused as NoHop}
-use Rattle.calls.specs.Answers.{leaves}
-use Rattle.table_calls.specs.Answers.{decisionOf}
+use Rattle.calls.specs.Answers.{tableExitOf}
+use Rattle.table_calls.specs.Answers.{hopDecision}
 use Rattle.table_calls.specs.Checks.{ToFree}
 
 -- ---- make a fresh table
 
 module _ (t : List ℕ) (d : Address) (s : SequenceNumber) (a : Bool) (ae : a ≡ sized t) where
-  pub fresh-1 : not a ≡ true → leaves (Refused 1) t ≡ left t (makeFresh t d s)
+  pub fresh-1 : not a ≡ true → tableExitOf (Refused 1) t ≡ tableAtExit t (makeFresh t d s)
   unfolding makeFresh
   fresh-1 no-a = cc
 
   module _ (yes-a : not a ≡ false) (b : Bool) (be : b ≡ individual d) where
-    pub fresh-9 : not b ≡ true → leaves (Refused 9) t ≡ left t (makeFresh t d s)
+    pub fresh-9 : not b ≡ true → tableExitOf (Refused 9) t ≡ tableAtExit t (makeFresh t d s)
     unfolding makeFresh
     fresh-9 no-b = cc
 
-    pub fresh-made : not b ≡ false → (u : List ℕ) → u ≡ fresh (length t) d s → leaves Accepted u ≡ left t (makeFresh t d s)
+    pub fresh-made : not b ≡ false → (u : List ℕ) → u ≡ fresh (length t) d s → tableExitOf Accepted u ≡ tableAtExit t (makeFresh t d s)
     unfolding makeFresh
     fresh-made yes-b u ue = cc
 
@@ -78,44 +77,44 @@ module _ (t : List ℕ) (d : Address) (k : Check) (ke : ToFree t d k) where
   pub row-within : (i : ℕ) → k ≡ Row i → place i + rowOctets ≤ length t
   row-within i at-i = (rw at-i at ke) .0
 
-  pub forgotten : (i : ℕ) → k ≡ Row i → (r : TableRow) → r ≡ freeRow → (u : List ℕ) → u ≡ putRow t i r → leaves Accepted u ≡ left t (forget t d)
+  pub forgotten : (i : ℕ) → k ≡ Row i → (r : TableRow) → r ≡ freeRow → (u : List ℕ) → u ≡ putRow t i r → tableExitOf Accepted u ≡ tableAtExit t (forget t d)
   forgotten i at-i r re u ue = let e = (rw at-i at ke) .1 in cc
 
-  pub not-forgotten : (n : ℕ) → k ≡ Refusal n → leaves (Refused n) t ≡ left t (forget t d)
+  pub not-forgotten : (n : ℕ) → k ≡ Refusal n → tableExitOf (Refused n) t ≡ tableAtExit t (forget t d)
   not-forgotten n refusal = let e = rw refusal at ke in cc
 
 -- ---- find a next hop
 
 module _ (t : List ℕ) (c : ℕ) (d : Address) (a : Bool) (ae : a ≡ sized t) where
-  pub hop-1 : not a ≡ true → decisionOf (NoHop 1) ≡ nextHop t c d
+  pub hop-1 : not a ≡ true → hopDecision (NoHop 1) ≡ nextHop t c d
   unfolding nextHop
   hop-1 no-a = cc
 
   module _ (yes-a : not a ≡ false) where
-    pub hop-3 : 281474976710655 < c → decisionOf (NoHop 3) ≡ nextHop t c d
+    pub hop-3 : 281474976710655 < c → hopDecision (NoHop 3) ≡ nextHop t c d
     unfolding nextHop
     hop-3 l = cc (lt-ltb 281474976710655 c l)
 
     module _ (in-time : c ≤ 281474976710655) (b : Bool) (be : b ≡ individual d) where
-      pub hop-9 : not b ≡ true → decisionOf (NoHop 9) ≡ nextHop t c d
+      pub hop-9 : not b ≡ true → hopDecision (NoHop 9) ≡ nextHop t c d
       unfolding nextHop
       hop-9 no-b = cc (le-ltb 281474976710655 c in-time)
 
       module _ (yes-b : not b ≡ false) (e : Bool) (ee : e ≡ isTable t) where
-        pub hop-21 : not e ≡ true → decisionOf (NoHop 21) ≡ nextHop t c d
+        pub hop-21 : not e ≡ true → hopDecision (NoHop 21) ≡ nextHop t c d
         unfolding nextHop
         hop-21 no-e = cc (le-ltb 281474976710655 c in-time)
 
         module _ (yes-e : not e ≡ false) (h : Head) (he : h ≡ headAt t) where
-          pub hop-22 : c < h .clock → decisionOf (NoHop 22) ≡ nextHop t c d
+          pub hop-22 : c < h .clock → hopDecision (NoHop 22) ≡ nextHop t c d
           unfolding nextHop
           hop-22 l = cc (le-ltb 281474976710655 c in-time, lt-ltb c (h .clock) l)
 
           module _ (in-order : h .clock ≤ c) (n : NextHop) (ne : hopIn n ≡ activeNext c (rowFor t d)) where
-            pub hop-28 : n ≡ Nobody → decisionOf (NoHop 28) ≡ nextHop t c d
+            pub hop-28 : n ≡ Nobody → hopDecision (NoHop 28) ≡ nextHop t c d
             unfolding nextHop
             hop-28 nobody = cc (le-ltb 281474976710655 c in-time, le-ltb c (h .clock) in-order)
 
-            pub hop-via : (next : Address) → n ≡ To next → decisionOf (Via next) ≡ nextHop t c d
+            pub hop-via : (next : Address) → n ≡ To next → hopDecision (Via next) ≡ nextHop t c d
             unfolding nextHop
             hop-via next to-next = cc (le-ltb 281474976710655 c in-time, le-ltb c (h .clock) in-order)

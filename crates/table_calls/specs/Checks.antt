@@ -1,4 +1,4 @@
--- What the check of forget says of the call: for the code's own functions, no part of what a call is. Assumes nothing.
+-- What the check of forget says of the call: for the code's own functions, no part of what a call is.
 use Prim.Native.Nat.{ℕ, _+_, _≤_}
 use mathlib.Core.Path.{_≡_}
 use mathlib.Core.List.{List}

@@ -7,9 +7,8 @@ use table::row::Row;
 use table::search;
 use table::search::Found;
 ghost use mathlib.Core.Path.{_≡_};
-ghost use Rattle.rules.specs.Decision.{left};
-ghost use Rattle.rules.specs.Forget.{forget};
-ghost use Rattle.calls.specs.Answers.{leaves};
+ghost use Rattle.rules.specs.Exits.{forgetExit};
+ghost use Rattle.calls.specs.Answers.{tableExitOf};
 ghost use Rattle.table_calls.specs.Checks.{ToFree};
 
 // The place of the row to free, or the refusal of lowest number.
@@ -37,7 +36,7 @@ fn row_to_free(table: &[u8], destination: Address) -> Check
 }
 
 pub fn forget(table: &mut [u8], destination: Address) -> Answer
-    ensures { λ r. ⌜ leaves r (now (table .exit)) ≡ left (now (table .entry)) (forget (now (table .entry)) destination) ⌝ }
+    ensures { λ r. ⌜ tableExitOf r (now (table .exit)) ≡ forgetExit (now (table .entry)) destination ⌝ }
 {
     match row_to_free(table, destination) {
         Check::Row(i) => {

@@ -5,12 +5,11 @@ use table::address::Address;
 use table::legal;
 use table::store;
 ghost use mathlib.Core.Path.{_≡_};
-ghost use Rattle.rules.specs.Decision.{left};
-ghost use Rattle.rules.specs.Fresh.{makeFresh};
-ghost use Rattle.calls.specs.Answers.{leaves};
+ghost use Rattle.rules.specs.Exits.{freshExit};
+ghost use Rattle.calls.specs.Answers.{tableExitOf};
 
 pub fn make_fresh(table: &mut [u8], own: Address, number: SequenceNumber) -> Answer
-    ensures { λ r. ⌜ leaves r (now (table .exit)) ≡ left (now (table .entry)) (makeFresh (now (table .entry)) own number) ⌝ }
+    ensures { λ r. ⌜ tableExitOf r (now (table .exit)) ≡ freshExit (now (table .entry)) own number ⌝ }
 {
     if !legal::is_sized(table) {
         return Answer::Refused(refusals::TABLE_LENGTH);

@@ -6,7 +6,7 @@ use table::search;
 use table::search::NextHop;
 ghost use mathlib.Core.Path.{_≡_};
 ghost use Rattle.rules.specs.NextHop.{nextHop};
-ghost use Rattle.table_calls.specs.Answers.{decisionOf};
+ghost use Rattle.table_calls.specs.Answers.{hopDecision};
 
 // The next hop of an active row, or a refusal.
 pub enum Hop {
@@ -15,7 +15,7 @@ pub enum Hop {
 }
 
 pub fn next_hop(table: &[u8], clock: u64, destination: Address) -> Hop
-    ensures { λ r. ⌜ decisionOf r ≡ nextHop (now (table .entry)) clock destination ⌝ }
+    ensures { λ r. ⌜ hopDecision r ≡ nextHop (now (table .entry)) clock destination ⌝ }
 {
     if !legal::is_sized(table) {
         return Hop::Refused(refusals::TABLE_LENGTH);

@@ -1,4 +1,4 @@
--- P1 to P8, and the errors to shut out: every test passes, computed from the definitions. Assumes nothing.
+-- P1 to P8, and the errors to shut out: every test passes, computed from the definitions.
 use mathlib.Core.Path.{_≡_, refl}
 use mathlib.Core.Bool.{true}
 use Rattle.rules.specs.Lists.{all}

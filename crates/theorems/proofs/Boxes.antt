@@ -1,4 +1,4 @@
--- The boxes of a mesh by address: what is found after one of them is replaced. Assumes nothing.
+-- The boxes of a mesh by address: what is found after one of them is replaced.
 use mathlib.Core.Path.{_≡_, refl, sym, ap, _∙_}
 use mathlib.Core.Bool.{Bool, true, false, cond}
 use mathlib.Core.List.{List, [], _∷_, List·Memᴰ, List·Memᴰ·head, List·Memᴰ·tail}
@@ -7,7 +7,7 @@ use Rattle.table.specs.declared.address.Address.{Address}
 use Rattle.table.specs.Address.{same}
 use Rattle.table.specs.Table.{own}
 use Rattle.table.proofs.WellFormed.{same-is, same-itself, differ}
-use Rattle.rules.specs.Outcome.{Lent}
+use Rattle.rules.specs.Exit.{Lent}
 use Rattle.rules.proofs.Branches.{cond-cases}
 use Rattle.theorems.specs.Mesh.{boxOf, withBox}
 

@@ -1,4 +1,4 @@
--- Each accepted call is `Fine`. Assumes nothing.
+-- Each accepted call is `Fine`.
 use Prim.Native.Nat.{ℕ, _^_, _<_}
 use mathlib.Core.Path.{_≡_, refl, sym, ap, subst, _∙_}
 use mathlib.Core.Bool.{Bool, true}
@@ -22,7 +22,7 @@ use Rattle.element.specs.declared.Target.{Target}
 use Rattle.element.specs.Element.{Element, rann, rreq, rrep, rerr}
 use Rattle.element.specs.Octets.{readElement}
 use Rattle.rules.specs.Decision.{accepted}
-use Rattle.rules.specs.Outcome.{Frame, Lent, withTable, Effect}
+use Rattle.rules.specs.Exit.{Frame, Lent, withTable, Effect}
 use Rattle.rules.specs.declared.Arrival.{Arrival}
 use Rattle.rules.specs.Learn.{learnt}
 use Rattle.rules.specs.Destinations.{Answered, allAnswered}
@@ -31,7 +31,7 @@ use Rattle.rules.specs.Errors.{isMatch, erred, broken, brokenEntries, errorAt}
 use Rattle.rules.specs.Receive.{pathOf, rannReceived, rrepReceived, rreqReceived, rerrReceived, received, receiving, receive}
 use Rattle.rules.specs.Originate.{numberedHead, ownPath, announced, requested, asking, ask, announcing, announce, requestingAsRoot, rootRequest}
 use Rattle.rules.specs.Break.{brokenOff, breaking, breakNeighbour}
-use Rattle.rules.specs.Calls.{Call, receives, makes, asks, announces, requestsAsRoot, breaks, outcome, OperandsFit}
+use Rattle.rules.specs.Calls.{Call, receives, makes, asks, announces, requestsAsRoot, breaks, decision, OperandsFit}
 use Rattle.rules.proofs.Rulings.{listed, passed}
 use Rattle.rules.proofs.Alls.{all-append}
 use Rattle.rules.proofs.AsGood.{InWindow, Falls, stays, break-falls, error-falls}
@@ -108,7 +108,7 @@ module _ (d : Address) (base : ℕ) (small : base < 2 ^ 32) (log : List Sent) (l
 
   module _ (a : Arrival) (s : Sent) (logged : List·Memᴰ s log) (by : s .sender ≡ a .transmitter) where
     -- steps 1 and 2, whichever of the three elements brings the path
-    module _ (p : PathInfo) (has : pathIn (s .octets) ≡ some p) (heard : Heard t a p) where
+    module _ (p : PathInfo) (isSomeAnd : pathIn (s .octets) ≡ some p) (heard : Heard t a p) where
       u : List ℕ
       u = learnt a p t
 
@@ -122,7 +122,7 @@ module _ (d : Address) (base : ℕ) (small : base < 2 ^ 32) (log : List Sent) (l
       heard-sound h frames backed near′ =
           let row : rowFor (putHead (learnt a p t) h) d ≡ rowFor (learnt a p t) d = head-found (learnt a p t) h d in
           record {
-            move = rw row (learnt-move d base small log t a p heard s logged by has near (rw row at near′));
+            move = rw row (learnt-move d base small log t a p heard s logged by isSomeAnd near (rw row at near′));
             absent = λ self before. row ∙ learnt-absent d t a p heard self before;
             backed = rw (row, ← same-point) backed;
           }
@@ -138,28 +138,28 @@ module _ (d : Address) (base : ℕ) (small : base < 2 ^ 32) (log : List Sent) (l
     rann-sound : (p : PathInfo) → pathIn (s .octets) ≡ some p → Heard t a p → Near base (rowFor (rannReceived l a p .lent .table) d)
         → Sound d base log t (rannReceived l a p)
     unfolding rannReceived u
-    rann-sound p has heard =
-        heard-sound p has heard _ (rannOnward a p)
-        (rann-emitted (BackedAfter p) a p (onward-backed p has heard) .each)
+    rann-sound p isSomeAnd heard =
+        heard-sound p isSomeAnd heard _ (rannOnward a p)
+        (rann-emitted (BackedAfter p) a p (onward-backed p isSomeAnd heard) .each)
 
     rrep-sound : (f : RrepFields) (dependents : List NumberedAddress) → pathIn (s .octets) ≡ some (f .path) → Heard t a (f .path)
         → Near base (rowFor (rrepReceived l a f dependents .lent .table) d) → Sound d base log t (rrepReceived l a f dependents)
     unfolding rrepReceived u
-    rrep-sound f dependents has heard =
+    rrep-sound f dependents isSomeAnd heard =
         let v : List ℕ = learnt a (f .path) t in
-        heard-sound (f .path) has heard _ (rrepOnward (learnt a (f .path) t) a f dependents)
-        (rrep-emitted (BackedAfter (f .path)) v a f dependents (onward-backed (f .path) has heard) .each)
+        heard-sound (f .path) isSomeAnd heard _ (rrepOnward (learnt a (f .path) t) a f dependents)
+        (rrep-emitted (BackedAfter (f .path)) v a f dependents (onward-backed (f .path) isSomeAnd heard) .each)
 
     rreq-sound : (f : RreqFields) (targets : List Target) → pathIn (s .octets) ≡ some (f .path) → Heard t a (f .path)
         → Near base (rowFor (rreqReceived l a f targets .lent .table) d) → Sound d base log t (rreqReceived l a f targets)
     unfolding rreqReceived u
-    rreq-sound f targets has heard =
+    rreq-sound f targets isSomeAnd heard =
         let v : List ℕ = learnt a (f .path) t in
         let done : Answered = allAnswered v a (f .path) (number t) targets in
-        heard-sound (f .path) has heard _ (done .replies ++ rreqOnward v a f (done .kept))
+        heard-sound (f .path) isSomeAnd heard _ (done .replies ++ rreqOnward v a f (done .kept))
         (all-append (λ (g : Frame). Backed d base (own v) (rowFor v d) (pathOf (g .element))) (done .replies) (rreqOnward v a f (done .kept))
         (replies-backed d base v a (f .path) (number t) targets)
-        (rreq-emitted (BackedAfter (f .path)) v a f (done .kept) (λ _. onward-backed (f .path) has heard) .each))
+        (rreq-emitted (BackedAfter (f .path)) v a f (done .kept) (λ _. onward-backed (f .path) isSomeAnd heard) .each))
 
     received-sound : (e : Element) → readElement (s .octets) ≡ e → Accepted t a e → Near base (rowFor (received l a e .lent .table) d)
         → Sound d base log t (received l a e)
@@ -175,9 +175,9 @@ module _ (d : Address) (base : ℕ) (small : base < 2 ^ 32) (log : List Sent) (l
   -- ---- every call
 
   module _ (room : ℕ) where
-    call-sound : (call : Call) → OperandsFit call → FromLog log call → (e : Effect) → outcome l room call ≡ accepted e
+    call-sound : (call : Call) → OperandsFit call → FromLog log call → (e : Effect) → decision l room call ≡ accepted e
         → Near base (rowFor (e .lent .table) d) → Sound d base log t e
-    unfolding listed outcome receive ask announce rootRequest breakNeighbour
+    unfolding listed decision receive ask announce rootRequest breakNeighbour
     call-sound (receives a octets′) fit from e is =
         let p = passed (receiving l room a octets′) e is in
         subst (λ (x : Effect). Near base (rowFor (x .lent .table) d) → Sound d base log t x) (p .1)
@@ -196,7 +196,7 @@ module _ (d : Address) (base : ℕ) (small : base < 2 ^ 32) (log : List Sent) (l
         subst (λ (x : Effect). Near base (rowFor (x .lent .table) d) → Sound d base log t x) (passed (breaking l room c neighbour) e is .1)
         (break-sound c (isThrough c neighbour) (through-acts c neighbour))
 
-    pub call-fine : (call : Call) → OperandsFit call → FromLog log call → (e : Effect) → outcome l room call ≡ accepted e → Fine d base log t e
+    pub call-fine : (call : Call) → OperandsFit call → FromLog log call → (e : Effect) → decision l room call ≡ accepted e → Fine d base log t e
     call-fine call fit from e is =
         let k : Kept t e = call-kept l octets room call fit e is in
         record { own = k .leaves .own; frames = k .frames; sound = call-sound call fit from e is }

@@ -1,23 +1,23 @@
--- The runs of `Runs.antt`, computed. Assumes nothing.
+-- The runs of `Runs.antt`, computed.
 use mathlib.Core.Path.{_≡_, refl}
 use mathlib.Core.Bool.{true}
 use mathlib.Core.List.{_++_}
 use Rattle.rules.specs.Lists.{all}
-use Rattle.rules.specs.Calls.{outcome}
+use Rattle.rules.specs.Calls.{decision}
 use Rattle.rules.proofs.Computing.{computing}
-use Rattle.theorems.specs.Mesh.{start, boxOf, withBox, callOf, sentBy, leaves, happen, run, throughout, nextAt, met}
+use Rattle.theorems.specs.Mesh.{start, boxOf, withBox, callOf, sentBy, afterCall, happen, run, throughout, nextAt, met}
 use Rattle.theorems.specs.Premise.{beside, held, heldByAll, carried, numbersFor, isWithin, allWithin}
 use Rattle.theorems.specs.WrongRules.{ruledBy}
 use Rattle.theorems.specs.Runs.{isWithinWindow, after, endOf, way, walked, heldIn, linesFrom, lines, agree, worked, wentRound, loops, counterexamples, outsideLoops}
 
 -- what unfolds for a run to compute
 running : Unit {0}
-unfolding computing start boxOf withBox callOf sentBy leaves happen run throughout nextAt met
+unfolding computing start boxOf withBox callOf sentBy afterCall happen run throughout nextAt met
     beside held heldByAll carried numbersFor isWithin allWithin
     ruledBy isWithinWindow after endOf way walked heldIn linesFrom lines agree worked wentRound loops counterexamples outsideLoops
 running = tt
 
-pub runs-as-worked : all (λ b. b) (worked outcome ++ wentRound outcome) ≡ true
+pub runs-as-worked : all (λ b. b) (worked decision ++ wentRound decision) ≡ true
 unfolding running
 runs-as-worked = refl
 

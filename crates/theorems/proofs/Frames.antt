@@ -1,4 +1,4 @@
--- The paths in the frames that a point emits: each is the point's own, or its row is at least as good. Assumes nothing.
+-- The paths in the frames that a point emits: each is the point's own, or its row is at least as good.
 use Prim.Native.Nat.{ℕ}
 use mathlib.Core.Path.{_≡_, refl, sym, ap, _∙_}
 use mathlib.Core.Bool.{true}
@@ -19,7 +19,7 @@ use Rattle.table.proofs.Lookup.{row-destination}
 use Rattle.element.specs.declared.PathInfo.{PathInfo}
 use Rattle.element.specs.declared.Target.{Target}
 use Rattle.element.specs.Element.{Element}
-use Rattle.rules.specs.Outcome.{Frame}
+use Rattle.rules.specs.Exit.{Frame}
 use Rattle.rules.specs.declared.Arrival.{Arrival}
 use Rattle.rules.specs.Destinations.{reply, allAnswered}
 use Rattle.rules.specs.Receive.{pathOf}

@@ -2,7 +2,7 @@
 --     rooted    each valid row leads to d itself, or to a point that has sent a path strictly better than the row
 --     backed    each path that was ever sent still stands: its sender is d, or holds a row at least as good
 --     absent    d holds no row for itself
--- Nothing here knows the rules of the calls. Assumes nothing.
+-- Nothing here knows the rules of the calls.
 use Prim.Native.Nat.{ℕ}
 use mathlib.Core.Path.{_≡_, refl, sym, ap, subst, _∙_}
 use mathlib.Core.Bool.{true}
@@ -21,11 +21,11 @@ use Rattle.element.specs.Octets.{readElement, writeElement}
 use Rattle.element.specs.Entries.{All}
 use Rattle.element.proofs.ReadBack.{Fits, read-back}
 use Rattle.rules.specs.Decision.{accepted}
-use Rattle.rules.specs.Outcome.{Frame, Lent, Effect}
+use Rattle.rules.specs.Exit.{Frame, Lent, Effect}
 use Rattle.rules.specs.Receive.{pathOf}
 use Rattle.rules.proofs.AsGood.{InWindow}
 use Rattle.rules.proofs.Sending.{FramesFit}
-use Rattle.theorems.specs.Mesh.{Sent, Mesh, boxOf, withBox, sentBy, leaves}
+use Rattle.theorems.specs.Mesh.{Sent, Mesh, boxOf, withBox, sentBy, afterCall}
 use Rattle.theorems.proofs.Boxes.{box-own, box-same, box-other}
 
 -- ---- one row, held or not
@@ -51,7 +51,7 @@ pub record HasSent (d : Address) (base : ℕ) (log : List Sent) (a : Address) (n
   pub logged : List·Memᴰ sent log
   pub by : sent .sender ≡ a
   pub path : PathInfo
-  pub has : pathIn (sent .octets) ≡ some path
+  pub isSomeAnd : pathIn (sent .octets) ≡ some path
   pub about : path .subject ≡ d
   pub better : Above base (path .number) (path .metric .0) n m
 
@@ -93,11 +93,11 @@ rooted-row {d} {base} {log} r e lead q found valid =
 
 pub backed-path : {d : Address} {base : ℕ} {a : Address} {o : Option Row} (p : PathInfo)
     → (p .subject ≡ d → (a ≡ d) ⊎ Stands base o (p .number) (p .metric .0)) → Backed d base a o (some p)
-backed-path {d} {base} {a} {o} p h q has =
-    subst (λ (x : PathInfo). x .subject ≡ d → (a ≡ d) ⊎ Stands base o (x .number) (x .metric .0)) (Option·some-injective p q has) h
+backed-path {d} {base} {a} {o} p h q isSomeAnd =
+    subst (λ (x : PathInfo). x .subject ≡ d → (a ≡ d) ⊎ Stands base o (x .number) (x .metric .0)) (Option·some-injective p q isSomeAnd) h
 
 pub backed-none : {d : Address} {base : ℕ} {a : Address} {o : Option Row} → Backed d base a o none
-backed-none p has about = absurd (Option·none-ne-some p has)
+backed-none p isSomeAnd about = absurd (Option·none-ne-some p isSomeAnd)
 
 -- ---- the row for d at a point
 
@@ -144,7 +144,7 @@ longer more (nearer k) =
       logged = Memᴰ·append-left more (k .logged);
       by = k .by;
       path = k .path;
-      has = k .has;
+      isSomeAnd = k .isSomeAnd;
       about = k .about;
       better = k .better;
     })
@@ -186,7 +186,7 @@ module _ (d : Address) (base : ℕ) (m : Mesh) (inv : Inv d base m) (a : Address
   still-backed : (s : Sent) → List·Memᴰ s (m .log) → BackedNow s
   still-backed s k =
       each (λ b o. s .sender ≡ b → Backed d base (s .sender) o (pathIn (s .octets)))
-      (λ q p has about. ⊎-map (λ x. x) (λ st. sound .move .keeps (rw (q, row) at st)) (inv .backed s k p has about))
+      (λ q p isSomeAnd about. ⊎-map (λ x. x) (λ st. sound .move .keeps (rw (q, row) at st)) (inv .backed s k p isSomeAnd about))
       (λ b q. rw (← q) (inv .backed s k))
       (s .sender) refl
 
@@ -202,8 +202,8 @@ module _ (d : Address) (base : ℕ) (m : Mesh) (inv : Inv d base m) (a : Address
       let q : (f : Frame) × List·Memᴰ f (e .frames) × (record { sender = a; octets = writeElement (f .element) } ≡ s) = Memᴰ·of-map _ (e .frames) k in
       subst BackedNow (q .2) (frame-backed (q .0) (q .1))
 
-  pub inv-after : Inv d base (leaves m a (accepted e))
-  unfolding leaves boxes′
+  pub inv-after : Inv d base (afterCall m a (accepted e))
+  unfolding afterCall boxes′
   inv-after =
       record {
         rooted = λ b r found valid. longer (sentBy a (e .frames))

@@ -1,4 +1,4 @@
--- Demand 3: whatever calls the points of a mesh make, no walk along valid rows meets a point twice. Assumes nothing.
+-- Demand 3: whatever calls the points of a mesh make, no walk along valid rows meets a point twice.
 use Prim.Native.Nat.{ℕ, zero, suc, _+_, _*_, _^_, _<_}
 use mathlib.Core.Path.{_≡_, refl, sym, subst, _∙_}
 use mathlib.Core.Bool.{Bool, true, false, and-eq-true-iff}
@@ -19,22 +19,22 @@ use Rattle.table.proofs.HeadAndRows.{FitHead, FitRow, head-fits}
 use Rattle.table.proofs.Heads.{fresh-none, fresh-octets}
 use Rattle.table.proofs.Lookup.{row-fits-its-octets}
 use Rattle.element.specs.Octets.{writeElement}
-use Rattle.element.specs.Lists.{twice}
+use Rattle.element.specs.Lists.{hasDuplicate}
 use Rattle.element.specs.Entries.{All}
 use Rattle.element.proofs.ReadBack.{Fits, octets-written}
 use Rattle.rules.specs.Decision.{Decision, refused, accepted}
 use Rattle.rules.specs.Lists.{all}
-use Rattle.rules.specs.Outcome.{Frame, Lent, Effect}
-use Rattle.rules.specs.Calls.{Call, outcome, OperandsFit}
+use Rattle.rules.specs.Exit.{Frame, Lent, Effect}
+use Rattle.rules.specs.Calls.{Call, decision, OperandsFit}
 use Rattle.rules.proofs.Branches.{cond-cases}
 use Rattle.rules.proofs.Alls.{all-append, all-map}
 use Rattle.rules.proofs.CallsKeep.{Kept, call-kept}
-use Rattle.theorems.specs.Mesh.{Point, Sent, Mesh, freshTable, start, boxOf, withBox, Action, delivers, makes, readsOnly, Event, deliveryOf, callOf, sentBy, leaves, calls, happen, run, throughout, met}
+use Rattle.theorems.specs.Mesh.{Point, Sent, Mesh, freshTable, start, boxOf, withBox, Action, delivers, makes, readsOnly, Event, deliveryOf, callOf, sentBy, afterCall, calls, happen, run, throughout, met}
 use Rattle.theorems.specs.Premise.{beside, knownIn, held, heldByAll, numbersFor, isWithin, allWithin}
 use Rattle.theorems.specs.Statements.{ActionFits}
 use Rattle.theorems.proofs.Boxes.{box-own, box-listed}
 use Rattle.theorems.proofs.Invariant.{Near, rowOf, rowAt, RowAt, row-at, Inv, all-at, inv-after}
-use Rattle.theorems.proofs.Walks.{none-twice}
+use Rattle.theorems.proofs.Walks.{no-duplicate}
 use Rattle.theorems.proofs.Calls.{FromLog, call-fine}
 
 -- ---- octets, and senders of six octets
@@ -64,8 +64,8 @@ with-box-fits a k o (l ∷ boxes) h =
     cond-cases (All BoxFits) (same (own (l .table)) a) (λ _. (o, h .1)) (λ _. (h .0, with-box-fits a k o boxes (h .1)))
 
 module _ (m : Mesh) (sane : Sane m) (a : Address) (l : Lent) (here : boxOf a (m .boxes) ≡ some l) where
-  sane-after : (e : Effect) → Kept (l .table) e → Sane (leaves m a (accepted e))
-  unfolding leaves sentBy
+  sane-after : (e : Effect) → Kept (l .table) e → Sane (afterCall m a (accepted e))
+  unfolding afterCall sentBy
   sane-after e k =
       let fits = address-fits a (l .table) (box-fits m sane a l here) (box-own a (m .boxes) l here) in
       record {
@@ -180,49 +180,49 @@ module _ (d : Address) (base : ℕ) (small : base < 2 ^ 32) where
     near = rw here at (near-at d base m (good .sane) within a)
 
     call-good : (room : ℕ) (call : Call) → Made (m .log) call
-        → (o : Decision Effect) → outcome l room call ≡ o → allWithin d base (leaves m a o) ≡ true → Good (leaves m a o)
-    unfolding leaves
+        → (o : Decision Effect) → decision l room call ≡ o → allWithin d base (afterCall m a o) ≡ true → Good (afterCall m a o)
+    unfolding afterCall
     call-good room call k (refused n) is within′ = good
     call-good room call k (accepted e) is within′ =
-        let sane′ : Sane (leaves m a (accepted e)) = sane-after m (good .sane) a l here e (call-kept l octets room call (k .fit) e is) in
+        let sane′ : Sane (afterCall m a (accepted e)) = sane-after m (good .sane) a l here e (call-kept l octets room call (k .fit) e is) in
         record {
           sane = sane′;
           inv = inv-after d base m (good .inv) a l e here (call-fine d base small (m .log) l octets near room call (k .fit) (k .from) e is)
-              (near-at d base (leaves m a (accepted e)) sane′ within′ a);
+              (near-at d base (afterCall m a (accepted e)) sane′ within′ a);
         }
 
-  happens : (m : Mesh) (e : Event) → ActionFits (e .action) → Good m → allWithin d base m ≡ true → allWithin d base (happen outcome m e) ≡ true
-      → Good (happen outcome m e)
+  happens : (m : Mesh) (e : Event) → ActionFits (e .action) → Good m → allWithin d base m ≡ true → allWithin d base (happen decision m e) ≡ true
+      → Good (happen decision m e)
   unfolding happen
   happens m e fit good within within′ = go (boxOf (e .point) (m .boxes)) refl (callOf (m .log) (e .action)) refl within′
     where
       go : (o : Option Lent) → boxOf (e .point) (m .boxes) ≡ o → (k : Option Call) → callOf (m .log) (e .action) ≡ k
-          → allWithin d base (calls outcome m e o k) ≡ true → Good (calls outcome m e o k)
+          → allWithin d base (calls decision m e o k) ≡ true → Good (calls decision m e o k)
       go none here k is within′ = good
       go (some l) here none is within′ = good
       go (some l) here (some call) is within′ =
           call-good m good within (e .point) l here (e .room) call (made (m .log) (good .sane .log) (e .action) fit call is)
-          (outcome l (e .room) call) refl within′
+          (decision l (e .room) call) refl within′
 
   -- ---- a list of events
 
-  at-first : (m : Mesh) (events : List Event) → throughout outcome (allWithin d base) m events ≡ true → allWithin d base m ≡ true
+  at-first : (m : Mesh) (events : List Event) → throughout decision (allWithin d base) m events ≡ true → allWithin d base m ≡ true
   unfolding throughout
   at-first m [] h = h
-  at-first m (e ∷ events) h = and-eq-true-iff (allWithin d base m) (throughout outcome (allWithin d base) (happen outcome m e) events) .0 h .0
+  at-first m (e ∷ events) h = and-eq-true-iff (allWithin d base m) (throughout decision (allWithin d base) (happen decision m e) events) .0 h .0
 
   runs : (m : Mesh) (events : List Event) → All (λ (e : Event). ActionFits (e .action)) events → Good m
-      → throughout outcome (allWithin d base) m events ≡ true → Good (run outcome m events)
+      → throughout decision (allWithin d base) m events ≡ true → Good (run decision m events)
   unfolding run throughout All
   runs m [] fit good within = good
   runs m (e ∷ events) fit good within =
-      let both = and-eq-true-iff (allWithin d base m) (throughout outcome (allWithin d base) (happen outcome m e) events) .0 within in
-      runs (happen outcome m e) events (fit .1)
-      (happens m e (fit .0) good (both .0) (at-first (happen outcome m e) events (both .1))) (both .1)
+      let both = and-eq-true-iff (allWithin d base m) (throughout decision (allWithin d base) (happen decision m e) events) .0 within in
+      runs (happen decision m e) events (fit .1)
+      (happens m e (fit .0) good (both .0) (at-first (happen decision m e) events (both .1))) (both .1)
 
   pub loop-free : (points : List Point) (events : List Event) → All (λ (e : Event). ActionFits (e .action)) events
-      → throughout outcome (allWithin d base) (start points) events ≡ true
-      → (hops : ℕ) (a : Address) → twice (met (run outcome (start points) events) d hops a) ≡ false
+      → throughout decision (allWithin d base) (start points) events ≡ true
+      → (hops : ℕ) (a : Address) → hasDuplicate (met (run decision (start points) events) d hops a) ≡ false
   loop-free points events fit within =
-      none-twice d base (run outcome (start points) events)
+      no-duplicate d base (run decision (start points) events)
       (runs (start points) events fit (record { sane = sane-start points; inv = begins d base points }) within .inv)

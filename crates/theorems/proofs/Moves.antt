@@ -1,5 +1,4 @@
 -- What the calls do to the row for d, as the invariant asks it: steps 1 and 2 of receiving, a break, a received error.
--- Assumes nothing.
 use Prim.Native.Nat.{ℕ, _^_, _<_}
 use mathlib.Core.Path.{_≡_, refl, sym, ap, subst, _∙_}
 use mathlib.Core.Bool.{true, not, true≢false, and-eq-true-iff}
@@ -54,7 +53,7 @@ module _ {d : Address} {base : ℕ} {log : List Sent} (small : base < 2 ^ 32) wh
 
 -- the element that brought the path is in the log, from its transmitter
 module _ (d : Address) (base : ℕ) (small : base < 2 ^ 32) (log : List Sent) (t : List ℕ) (a : Arrival) (p : PathInfo) (h : Heard t a p)
-    (s : Sent) (logged : List·Memᴰ s log) (by : s .sender ≡ a .transmitter) (has : pathIn (s .octets) ≡ some p) where
+    (s : Sent) (logged : List·Memᴰ s log) (by : s .sender ≡ a .transmitter) (isSomeAnd : pathIn (s .octets) ≡ some p) where
   learnt-stands-on : (o′ : Option Row) → Learning d a p (rowFor t d) o′ → Near base (rowFor t d) → Near base o′
       → {n : SequenceNumber} {m : ℕ} → Stands base (rowFor t d) n m → Stands base o′ n m
   unfolding subjectRow transmitterRow renewed numbered
@@ -81,7 +80,7 @@ module _ (d : Address) (base : ℕ) (small : base < 2 ^ 32) (log : List Sent) (t
   unfolding subjectRow renewed numbered
   subject-leads e old =
       nearer
-      (record { sent = s; logged = logged; by = by; path = p; has = has; about = e; better = level refl (omega (arith, h .link)) })
+      (record { sent = s; logged = logged; by = by; path = p; isSomeAnd = isSomeAnd; about = e; better = level refl (omega (arith, h .link)) })
 
   transmitter-leads : a .transmitter ≡ d → (old : Row) → Leads d base log (transmitterRow a (p .lifetime) old)
   unfolding transmitterRow renewed

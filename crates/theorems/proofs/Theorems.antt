@@ -1,4 +1,4 @@
--- The theorems about the rules of document 01: the statements are in `specs/Statements.antt`. Assumes nothing.
+-- The theorems about the rules of document 01: the statements are in `specs/Statements.antt`.
 use Prim.Native.Nat.{_^_, _<_}
 use mathlib.Core.Path.{refl}
 use mathlib.Core.List.{_∷_}
@@ -9,11 +9,11 @@ use Rattle.table.proofs.WellFormed.{true-not-false, false-of, legal-is}
 use Rattle.element.specs.Entries.{All}
 use Rattle.element.specs.Octets.{writeElement}
 use Rattle.element.proofs.ReadBack.{Fits, read-back, passes-6, passes-7, passes-8}
-use Rattle.rules.specs.Outcome.{Frame}
+use Rattle.rules.specs.Exit.{Frame}
 use Rattle.rules.specs.Receive.{isStale, receive}
 use Rattle.rules.specs.Break.{brokenOff, breakNeighbour}
 use Rattle.rules.proofs.Rulings.{listed}
-use Rattle.rules.specs.Calls.{receives, makes, asks, announces, requestsAsRoot, breaks, outcome}
+use Rattle.rules.specs.Calls.{receives, makes, asks, announces, requestsAsRoot, breaks, decision}
 use Rattle.rules.proofs.Alls.{all-implies}
 use Rattle.rules.proofs.CallsKeep.{Kept, call-kept}
 use Rattle.rules.proofs.Room.{call-room}
@@ -71,7 +71,7 @@ pub sharp : Sharp
 sharp = wrong-rules-loop
 
 pub else-the-rules : ElseTheRules
-unfolding listed ruledBy outcome receive isStale breakNeighbour brokenOff
+unfolding listed ruledBy decision receive isStale breakNeighbour brokenOff
 else-the-rules l room (receives a s) = refl
 else-the-rules l room (makes (asks lifetime items)) = refl
 else-the-rules l room (makes (announces flags lifetime)) = refl

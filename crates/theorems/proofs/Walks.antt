@@ -1,5 +1,4 @@
 -- Under the invariant a walk towards d meets no point twice: the rows that it follows get strictly better until it comes to d.
--- Assumes nothing.
 use Prim.Native.Nat.{ℕ, zero, suc}
 use mathlib.Core.Path.{_≡_, refl, sym, ap, _∙_}
 use mathlib.Core.Bool.{Bool, true, false, _||_, cond}
@@ -13,20 +12,20 @@ use Rattle.table.specs.declared.row.Row.{Row}
 use Rattle.table.specs.Address.{same}
 use Rattle.table.specs.Table.{rowFor}
 use Rattle.table.proofs.WellFormed.{same-is}
-use Rattle.element.specs.Lists.{among, twice}
+use Rattle.element.specs.Lists.{contains, hasDuplicate}
 use Rattle.element.specs.Entries.{All}
 use Rattle.rules.proofs.Branches.{cond-cases}
-use Rattle.rules.specs.Lists.{isThere}
-use Rattle.rules.specs.Outcome.{Lent}
+use Rattle.rules.specs.Lists.{isSome}
+use Rattle.rules.specs.Exit.{Lent}
 use Rattle.theorems.specs.Mesh.{Mesh, boxOf, validNext, nextIn, nextAt, metBy, met}
 use Rattle.theorems.proofs.Invariant.{Leads, home, nearer, rowAt, Inv}
 
-not-among : (P : Address → Type 0) (a : Address) → (P a → ⊥) → (l : List Address) → All P l → among a l ≡ false
-unfolding among All
-not-among P a never [] h = refl
-not-among P a never (b ∷ l) h = by (same b a) refl (not-among P a never l (h .1))
+not-contained : (P : Address → Type 0) (a : Address) → (P a → ⊥) → (l : List Address) → All P l → contains l a ≡ false
+unfolding contains All
+not-contained P a never [] h = refl
+not-contained P a never (b ∷ l) h = by (same b a) refl (not-contained P a never l (h .1))
   where
-    by : (k : Bool) → same b a ≡ k → among a l ≡ false → (k || among a l) ≡ false
+    by : (k : Bool) → same b a ≡ k → contains l a ≡ false → (k || contains l a) ≡ false
     by true e rest = absurd (never (rw (← same-is b a e) (h .0)))
     by false e rest = rest
 
@@ -78,7 +77,7 @@ module _ (d : Address) (base : ℕ) (m : Mesh) (inv : Inv d base m) where
           let at-b : k .sent .sender ≡ b = k .by ∙ h .next in
           ⊎-map (λ e. sym at-b ∙ e)
           (λ st. record { row = st .row; found = ap (rowAt d (m .boxes)) (sym at-b) ∙ st .found; better = at-least-above (st .good) (k .better) })
-          (inv .backed (k .sent) (k .logged) (k .path) (k .has) (k .about))
+          (inv .backed (k .sent) (k .logged) (k .path) (k .isSomeAnd) (k .about))
 
   further-trans : (r : Row) {b c : Address} → Further r b → (h : Hop b c) → Further (h .row) c → Further r c
   further-trans r (inl e) h far = absurd (not-from-d h e)
@@ -90,9 +89,9 @@ module _ (d : Address) (base : ℕ) (m : Mesh) (inv : Inv d base m) where
   -- every point that the walk meets after the row r is d, or has a strictly better row
   all-further : (r : Row) (hops : ℕ) (b : Address) → Further r b → All (Further r) (met m d hops b)
   unfolding met All
-  all-further r zero b near = cond-cases (All (Further r)) (isThere (boxOf b (m .boxes))) (λ _. (near, tt)) (λ _. tt)
+  all-further r zero b near = cond-cases (All (Further r)) (isSome (boxOf b (m .boxes))) (λ _. (near, tt)) (λ _. tt)
   all-further r (suc hops) b near =
-      cond-cases (All (Further r)) (isThere (boxOf b (m .boxes))) (λ _. (near, rest (nextAt m d b) refl (all-further r hops))) (λ _. tt)
+      cond-cases (All (Further r)) (isSome (boxOf b (m .boxes))) (λ _. (near, rest (nextAt m d b) refl (all-further r hops))) (λ _. tt)
     where
       rest : (o : Option Address) → nextAt m d b ≡ o → ((c : Address) → Further r c → All (Further r) (met m d hops c))
           → All (Further r) (metBy m d o (met m d hops))
@@ -106,16 +105,16 @@ module _ (d : Address) (base : ℕ) (m : Mesh) (inv : Inv d base m) where
       let same-row : k .row ≡ h .row = Option·some-injective (k .row) (h .row) (sym (k .found) ∙ h .found) in
       not-above-itself (rw same-row at (k .better))
 
-  pub none-twice : (hops : ℕ) (a : Address) → twice (met m d hops a) ≡ false
-  unfolding met twice among
-  none-twice zero a = cond-cases (λ (l : List Address). twice l ≡ false) (isThere (boxOf a (m .boxes))) (λ _. refl) (λ _. refl)
-  none-twice (suc hops) a =
-      cond-cases (λ (l : List Address). twice l ≡ false) (isThere (boxOf a (m .boxes)))
-      (λ _. rest (nextAt m d a) refl (none-twice hops)) (λ _. refl)
+  pub no-duplicate : (hops : ℕ) (a : Address) → hasDuplicate (met m d hops a) ≡ false
+  unfolding met hasDuplicate contains
+  no-duplicate zero a = cond-cases (λ (l : List Address). hasDuplicate l ≡ false) (isSome (boxOf a (m .boxes))) (λ _. refl) (λ _. refl)
+  no-duplicate (suc hops) a =
+      cond-cases (λ (l : List Address). hasDuplicate l ≡ false) (isSome (boxOf a (m .boxes)))
+      (λ _. rest (nextAt m d a) refl (no-duplicate hops)) (λ _. refl)
     where
-      rest : (o : Option Address) → nextAt m d a ≡ o → ((b : Address) → twice (met m d hops b) ≡ false)
-          → twice (a ∷ metBy m d o (met m d hops)) ≡ false
+      rest : (o : Option Address) → nextAt m d a ≡ o → ((b : Address) → hasDuplicate (met m d hops b) ≡ false)
+          → hasDuplicate (a ∷ metBy m d o (met m d hops)) ≡ false
       rest none e ih = refl
       rest (some b) e ih =
           let h : Hop a b = hop a b e in
-          rw (not-among (Further (h .row)) a (not-again h) (met m d hops b) (all-further (h .row) hops b (next-further h))) (ih b)
+          rw (not-contained (Further (h .row)) a (not-again h) (met m d hops b) (all-further (h .row) hops b (next-further h))) (ih b)

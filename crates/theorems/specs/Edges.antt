@@ -1,5 +1,5 @@
 -- The edges P1 to P8 of document 01 as one list of tests of the definitions, and the trainees' errors that it names as another;
--- tables and elements are octets. Assumes nothing.
+-- tables and elements are octets.
 use Prim.Native.Nat.{ℕ, _+_, _*_}
 use mathlib.Core.Bool.{Bool, false, _&&_, _||_, not}
 use mathlib.Core.List.{List, [], _∷_, _++_}
@@ -21,8 +21,8 @@ use Rattle.element.specs.Element.{Element, rann, rreq, rrep, rerr, countOf}
 use Rattle.element.specs.Entries.{each}
 use Rattle.element.specs.Octets.{wrongLength, otherId, misfit, writeElement}
 use Rattle.rules.specs.Decision.{Decision, refused, accepted}
-use Rattle.rules.specs.Lists.{all, has}
-use Rattle.rules.specs.Outcome.{Frame, lend, Effect, leastOutput}
+use Rattle.rules.specs.Lists.{all, isSomeAnd}
+use Rattle.rules.specs.Exit.{Frame, lend, Effect, leastOutput}
 use Rattle.rules.specs.Errors.{ownError}
 use Rattle.rules.specs.Receive.{receive}
 use Rattle.rules.specs.Break.{breakNeighbour}
@@ -63,8 +63,8 @@ row status d n metric =
     }
 
 -- a valid row for another point
-abbrev held : ℕ → Row
-held i = row 1 (other i) 1 10
+abbrev heldFor : ℕ → Row
+heldFor i = row 1 (other i) 1 10
 
 -- the table t with these rows from place i on
 abbrev withRows : List ℕ → ℕ → List Row → List ℕ
@@ -72,8 +72,8 @@ withRows t i [] = t
 withRows t i (r ∷ rs) = withRows (putRow t i r) (i + 1) rs
 
 -- the table of this point with this own number and these rows
-abbrev tableOf : ℕ → List Row → List ℕ
-tableOf n rs = withRows (fresh (32 + 32 * length rs) point (record { 0 = n })) 0 rs
+abbrev tableWith : ℕ → List Row → List ℕ
+tableWith n rs = withRows (fresh (32 + 32 * length rs) point (record { 0 = n })) 0 rs
 
 -- ---- elements
 
@@ -141,19 +141,20 @@ acceptedWith test (accepted e) = test e
 -- the originator's row then has this status, number and metric
 abbrev leavesRow : ℕ → ℕ → ℕ → Effect → Bool
 leavesRow status n metric e =
-    has (λ r. eqb (r .status) status && eqb (r .number .0) n && eqb (r .metric .0) metric) (rowFor (e .lent .table) originator)
+    isSomeAnd (λ r. eqb (r .status) status && eqb (r .number .0) n && eqb (r .metric .0) metric)
+    (rowFor (e .lent .table) originator)
 
 -- an element is a reply for this point with number n
-abbrev isReply : ℕ → Element → Bool
-isReply n (rann p) = false
-isReply n (rreq f targets) = false
-isReply n (rrep f dependents) = same (f .path .subject) point && eqb (f .path .number .0) n
-isReply n (rerr f destinations) = false
+abbrev isOwnReply : ℕ → Element → Bool
+isOwnReply n (rann p) = false
+isOwnReply n (rreq f targets) = false
+isOwnReply n (rrep f dependents) = same (f .path .subject) point && eqb (f .path .number .0) n
+isOwnReply n (rerr f destinations) = false
 
 -- the first frame has such a reply
 abbrev firstIsReply : ℕ → List Frame → Bool
 firstIsReply n [] = false
-firstIsReply n (f ∷ frames) = isReply n (f .element)
+firstIsReply n (f ∷ frames) = isOwnReply n (f .element)
 
 -- the first frame has such a reply, and the own number is then n
 abbrev repliesWith : ℕ → Effect → Bool
@@ -178,24 +179,24 @@ edges =
     ∷ every (λ n. misfit (130 ∷ 26 ∷ zeros 25 ++ n ∷ [])) 256
     ∷ every (λ long. wrongLength (130 ∷ long ∷ zeros 257)) 256
     -- P4: RERR Length 2 is refused (8), 12 fits
-    ∷ refusedWith 8 (heard (tableOf 0 (row 1 originator 9 40 ∷ [])) 10 (132 ∷ 2 ∷ 0 ∷ 0 ∷ []))
+    ∷ refusedWith 8 (heard (tableWith 0 (row 1 originator 9 40 ∷ [])) 10 (132 ∷ 2 ∷ 0 ∷ 0 ∷ []))
     ∷ fitting 12 (error (lost originator 9 ∷ []))
-    ∷ acceptedWith (leavesRow 2 9 40) (heard (tableOf 0 (row 1 originator 9 40 ∷ [])) 10 (error (lost originator 9 ∷ [])))
+    ∷ acceptedWith (leavesRow 2 9 40) (heard (tableWith 0 (row 1 originator 9 40 ∷ [])) 10 (error (lost originator 9 ∷ [])))
     -- P5: row number 9, metric 40; element 9, metric 25: link 15 is refused (25), link 14 gives 39
-    ∷ refusedWith 25 (heard (tableOf 0 (row 1 originator 9 40 ∷ freeRow ∷ [])) 15 (announcement 9 25))
-    ∷ acceptedWith (leavesRow 1 9 39) (heard (tableOf 0 (row 1 originator 9 40 ∷ freeRow ∷ [])) 14 (announcement 9 25))
+    ∷ refusedWith 25 (heard (tableWith 0 (row 1 originator 9 40 ∷ freeRow ∷ [])) 15 (announcement 9 25))
+    ∷ acceptedWith (leavesRow 1 9 39) (heard (tableWith 0 (row 1 originator 9 40 ∷ freeRow ∷ [])) 14 (announcement 9 25))
     -- P5 where that row isn't active
-    ∷ refusedWith 25 (heard (tableOf 0 (row 2 originator 9 40 ∷ freeRow ∷ [])) 15 (announcement 9 25))
-    ∷ acceptedWith (leavesRow 1 9 39) (heard (tableOf 0 (row 2 originator 9 40 ∷ freeRow ∷ [])) 14 (announcement 9 25))
+    ∷ refusedWith 25 (heard (tableWith 0 (row 2 originator 9 40 ∷ freeRow ∷ [])) 15 (announcement 9 25))
+    ∷ acceptedWith (leavesRow 1 9 39) (heard (tableWith 0 (row 2 originator 9 40 ∷ freeRow ∷ [])) 14 (announcement 9 25))
     -- P6: break on number 4,294,967,295, metric 30: number 0, metric 4,294,967,295
     ∷ acceptedWith (leavesRow 2 0 4294967295)
-    (breakNeighbour (lend (tableOf 0 (row 1 originator 4294967295 30 ∷ []))) leastOutput 0 transmitter)
+    (breakNeighbour (lend (tableWith 0 (row 1 originator 4294967295 30 ∷ []))) leastOutput 0 transmitter)
     -- P7: own 12, requested 40: reply 41; requested 5: 13
-    ∷ acceptedWith (repliesWith 41) (heard (tableOf 12 (freeRow ∷ freeRow ∷ [])) 10 (request (target point 40 ∷ [])))
-    ∷ acceptedWith (repliesWith 13) (heard (tableOf 12 (freeRow ∷ freeRow ∷ [])) 10 (request (target point 5 ∷ [])))
+    ∷ acceptedWith (repliesWith 41) (heard (tableWith 12 (freeRow ∷ freeRow ∷ [])) 10 (request (target point 40 ∷ [])))
+    ∷ acceptedWith (repliesWith 13) (heard (tableWith 12 (freeRow ∷ freeRow ∷ [])) 10 (request (target point 5 ∷ [])))
     -- P8: R = 4, rows 0 and 2 held, two needed: 1 and 3 taken; rows 0, 1, 2 held: 27
-    ∷ acceptedWith (takesRows 1 3) (heard (tableOf 0 (held 0 ∷ freeRow ∷ held 1 ∷ freeRow ∷ [])) 10 (announcement 9 25))
-    ∷ refusedWith 27 (heard (tableOf 0 (held 0 ∷ held 1 ∷ held 2 ∷ freeRow ∷ [])) 10 (announcement 9 25))
+    ∷ acceptedWith (takesRows 1 3) (heard (tableWith 0 (heldFor 0 ∷ freeRow ∷ heldFor 1 ∷ freeRow ∷ [])) 10 (announcement 9 25))
+    ∷ refusedWith 27 (heard (tableWith 0 (heldFor 0 ∷ heldFor 1 ∷ heldFor 2 ∷ freeRow ∷ [])) 10 (announcement 9 25))
     ∷ []
 
 -- ---- trainees' errors to shut out
@@ -218,20 +219,20 @@ elsewhere i =
 -- the originator's row is lost and goes on alone, and that of the other point stays
 abbrev losesOne : Effect → Bool
 losesOne e =
-    leavesRow 2 9 40 e && has (λ r. eqb (r .status) 1) (rowFor (e .lent .table) (other 0))
+    leavesRow 2 9 40 e && isSomeAnd (λ r. eqb (r .status) 1) (rowFor (e .lent .table) (other 0))
     && eqb (length (e .frames)) 1 && all (λ f. eqb (countOf (f .element)) 1) (e .frames)
 
 abbrev pub shutOut : List Bool
 shutOut =
     -- comparing numbers unsigned: 4,294,967,295 is older than 0, and 0 is taken after it
-    refusedWith 25 (heard (tableOf 0 (row 1 originator 0 40 ∷ freeRow ∷ [])) 1 (announcement 4294967295 5))
-    ∷ acceptedWith (leavesRow 1 0 6) (heard (tableOf 0 (row 1 originator 4294967295 40 ∷ freeRow ∷ [])) 1 (announcement 0 5))
+    refusedWith 25 (heard (tableWith 0 (row 1 originator 0 40 ∷ freeRow ∷ [])) 1 (announcement 4294967295 5))
+    ∷ acceptedWith (leavesRow 1 0 6) (heard (tableWith 0 (row 1 originator 4294967295 40 ∷ freeRow ∷ [])) 1 (announcement 0 5))
     -- an equal number into an inactive row at a worse metric: refused, whether the row is invalidated or expired
-    ∷ refusedWith 25 (heard (tableOf 0 (row 2 originator 9 40 ∷ freeRow ∷ [])) 36 (announcement 9 5))
-    ∷ refusedWith 25 (heardAt 1000 (tableOf 0 (row 1 originator 9 40 ∷ freeRow ∷ [])) 36 (announcement 9 5))
+    ∷ refusedWith 25 (heard (tableWith 0 (row 2 originator 9 40 ∷ freeRow ∷ [])) 36 (announcement 9 5))
+    ∷ refusedWith 25 (heardAt 1000 (tableWith 0 (row 1 originator 9 40 ∷ freeRow ∷ [])) 36 (announcement 9 5))
     -- matching an error by destination only: a row by way of another next hop is no match
-    ∷ refusedWith 26 (heard (tableOf 0 (elsewhere 0 ∷ [])) 10 (error (lost (other 0) 9 ∷ [])))
+    ∷ refusedWith 26 (heard (tableWith 0 (elsewhere 0 ∷ [])) 10 (error (lost (other 0) 9 ∷ [])))
     -- nor beside one that is: it stays, and does not go on
     ∷ acceptedWith losesOne
-    (heard (tableOf 0 (row 1 originator 9 40 ∷ elsewhere 0 ∷ [])) 10 (error (lost (other 0) 9 ∷ lost originator 9 ∷ [])))
+    (heard (tableWith 0 (row 1 originator 9 40 ∷ elsewhere 0 ∷ [])) 10 (error (lost (other 0) 9 ∷ lost originator 9 ∷ [])))
     ∷ []

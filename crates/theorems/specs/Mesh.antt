@@ -1,4 +1,4 @@
--- A mesh: points with what they lend to their calls, the elements that they have sent, and lists of calls. Assumes nothing.
+-- A mesh: points with what they lend to their calls, the elements that they have sent, and lists of calls.
 use Prim.Native.Nat.{ℕ, zero, suc, _+_, _*_}
 use mathlib.Core.Bool.{Bool, true, false, _&&_, cond}
 use mathlib.Core.List.{List, [], _∷_, _++_, map}
@@ -12,9 +12,9 @@ use Rattle.table.specs.declared.row.Row.{Row}
 use Rattle.table.specs.Address.{same}
 use Rattle.table.specs.Table.{own, rowFor, fresh}
 use Rattle.element.specs.Octets.{writeElement}
-use Rattle.rules.specs.Lists.{isThere}
+use Rattle.rules.specs.Lists.{isSome}
 use Rattle.rules.specs.Decision.{Decision, refused, accepted}
-use Rattle.rules.specs.Outcome.{Frame, Lent, lend, Effect}
+use Rattle.rules.specs.Exit.{Frame, Lent, lend, Effect}
 use Rattle.rules.specs.Calls.{OwnCall, Call}
 
 -- ---- points, and what they have sent
@@ -90,12 +90,12 @@ unfoldable pub sentBy : Address → List Frame → List Sent
 sentBy a frames = map (λ (f : Frame). record { sender = a; octets = writeElement (f .element) }) frames
 
 -- a refused call changes nothing; an accepted one leaves its box, and its elements are sent
-unfoldable pub leaves : Mesh → Address → Decision Effect → Mesh
-leaves m a (refused n) = m
-leaves m a (accepted e) = record { boxes = withBox a (e .lent) (m .boxes); log = m .log ++ sentBy a (e .frames) }
+unfoldable pub afterCall : Mesh → Address → Decision Effect → Mesh
+afterCall m a (refused n) = m
+afterCall m a (accepted e) = record { boxes = withBox a (e .lent) (m .boxes); log = m .log ++ sentBy a (e .frames) }
 
 -- Rules by which points act: what a call comes to, of what it is lent and an output of so many octets. The theorem is about
--- those of document 01, `outcome` of crate `rules`; the counterexamples are about others.
+-- those of document 01, `decision` of crate `rules`; the counterexamples are about others.
 abbrev pub Rules : Type 0
 Rules = Lent → ℕ → Call → Decision Effect
 
@@ -104,7 +104,7 @@ module _ (rules : Rules) where
   abbrev pub calls : Mesh → Event → Option Lent → Option Call → Mesh
   calls m e none call = m
   calls m e (some l) none = m
-  calls m e (some l) (some call) = leaves m (e .point) (rules l (e .room) call)
+  calls m e (some l) (some call) = afterCall m (e .point) (rules l (e .room) call)
 
   -- one event: the point, if there is one of that address, makes the call
   unfoldable pub happen : Mesh → Event → Mesh
@@ -146,5 +146,5 @@ module _ (m : Mesh) (d : Address) where
   -- the points that a walk from a towards d meets in at most so many hops, a included; it ends where there is no valid row for d
   -- (so also at d, which has no row for itself) or where the next hop is no point
   unfoldable pub met : (hops : ℕ) → Address → List Address
-  met zero a = cond (isThere (boxOf a (m .boxes))) (a ∷ []) []
-  met (suc hops) a = cond (isThere (boxOf a (m .boxes))) (a ∷ metBy (nextAt a) (met hops)) []
+  met zero a = cond (isSome (boxOf a (m .boxes))) (a ∷ []) []
+  met (suc hops) a = cond (isSome (boxOf a (m .boxes))) (a ∷ metBy (nextAt a) (met hops)) []

@@ -1,5 +1,4 @@
 -- The premise of demand 3: the numbers that are held or carried for a destination, and the window in which they lie.
--- Assumes nothing.
 use Prim.Native.Nat.{ℕ, _^_}
 use mathlib.Core.Bool.{Bool, cond}
 use mathlib.Core.List.{List, [], _∷_, _++_, flatMap}
@@ -18,7 +17,7 @@ use Rattle.element.specs.declared.Target.{Target}
 use Rattle.element.specs.Element.{Element, rann, rreq, rrep, rerr}
 use Rattle.element.specs.Octets.{readElement}
 use Rattle.rules.specs.Lists.{all}
-use Rattle.rules.specs.Outcome.{Lent}
+use Rattle.rules.specs.Exit.{Lent}
 use Rattle.theorems.specs.Mesh.{Sent, Mesh}
 
 -- a number, if it stands beside the address d

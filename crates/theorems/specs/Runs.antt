@@ -1,6 +1,6 @@
 -- Runs as data, and what is shown of them by computation: two within the premise of demand 3 that find their ways, five under
 -- wrong rules that loop, and one outside the premise that loops under the rules. In comments a row for D is written
--- number/metric via next hop, 'largest' is 4,294,967,295, and elements are named by their place in the log. Assumes nothing.
+-- number/metric via next hop, 'largest' is 4,294,967,295, and elements are named by their place in the log.
 use Prim.Native.Nat.{ℕ, _+_, _-_, _*_, _^_}
 use mathlib.Core.Bool.{Bool, true, false, _&&_}
 use mathlib.Core.List.{List, [], _∷_, map, flatMap}
@@ -11,10 +11,10 @@ use Rattle.octets.specs.LittleEndian.{numberOctets}
 use Rattle.counters.specs.declared.SequenceNumber.{SequenceNumber}
 use Rattle.table.specs.declared.address.Address.{Address}
 use Rattle.table.specs.Address.{same}
-use Rattle.element.specs.Lists.{twice}
+use Rattle.element.specs.Lists.{hasDuplicate}
 use Rattle.rules.specs.Decision.{Decision, refused}
-use Rattle.rules.specs.Outcome.{Lent, lend, Effect, Exit, atExit, leastOutput}
-use Rattle.rules.specs.Calls.{Call, asks, announces, requestsAsRoot, breaks, outcome}
+use Rattle.rules.specs.Exit.{Lent, lend, Effect, Exit, atExit, leastOutput}
+use Rattle.rules.specs.Calls.{Call, asks, announces, requestsAsRoot, breaks, decision}
 use Rattle.rules.specs.Walk.{Walked, walkedAtExit, walk}
 use Rattle.theorems.specs.Mesh.{
   Rules,
@@ -250,7 +250,7 @@ pub record Counterexample : Type 0 where
 
 -- within the premise, and the walk meets a point twice
 unfoldable pub loops : Counterexample → Bool
-loops x = isWithinWindow (x .rules) (x .list) && twice (way (x .list) (endOf (x .rules) (x .list)))
+loops x = isWithinWindow (x .rules) (x .list) && hasDuplicate (way (x .list) (endOf (x .rules) (x .list)))
 
 -- Numbers compared as plain numbers.
 abbrev pub plainNumbers : Counterexample
@@ -371,4 +371,4 @@ outside =
     ∷ [])
 
 unfoldable pub outsideLoops : Bool
-outsideLoops = twice (way outside (endOf outcome outside))
+outsideLoops = hasDuplicate (way outside (endOf decision outside))

@@ -1,5 +1,5 @@
 -- What is proved of the rules of document 01: each statement is a type here, and `proofs/Theorems.antt` has its proof under
--- the name that is given beside it. Assumes nothing.
+-- the name that is given beside it.
 --
 -- How to read: `(x : T) → P` is 'for every x: P', `P → Q` 'if P then Q', `×` 'and', `≡` 'equals'; `x ∷ l` is a list that
 -- begins with x, `l ++ k` one list after another; `cond b x y` is x if b holds, else y; `r .f` is the field f of r, and `a .0`
@@ -18,15 +18,15 @@ use Rattle.table.specs.Table.{isTable}
 use Rattle.element.specs.Element.{Element}
 use Rattle.element.specs.Entries.{All}
 use Rattle.element.specs.Octets.{wrongLength, otherId, misfit, readElement, writeElement}
-use Rattle.element.specs.Lists.{twice}
+use Rattle.element.specs.Lists.{hasDuplicate}
 use Rattle.rules.specs.Decision.{accepted}
 use Rattle.rules.specs.Lists.{all}
-use Rattle.rules.specs.Outcome.{Frame, Lent, Effect, frameOctets, leastOutput}
+use Rattle.rules.specs.Exit.{Frame, Lent, Effect, frameOctets, leastOutput}
 use Rattle.rules.specs.Fresh.{makeFresh}
 use Rattle.rules.specs.Forget.{forget}
 use Rattle.rules.specs.Errors.{broken}
 use Rattle.rules.specs.Receive.{isStaleFor}
-use Rattle.rules.specs.Calls.{Call, outcome, OwnOperandsFit, OperandsFit}
+use Rattle.rules.specs.Calls.{Call, decision, OwnOperandsFit, OperandsFit}
 use Rattle.rules.specs.Walk.{Walked, walk}
 use Rattle.theorems.specs.Edges.{edges, shutOut}
 use Rattle.theorems.specs.Mesh.{Point, start, Action, delivers, makes, readsOnly, Event, run, throughout, met}
@@ -50,7 +50,7 @@ ErrorsShutOut = all (λ b. b) shutOut ≡ true
 abbrev pub StaysTable : Type 0
 StaysTable =
     (l : Lent) → Octets (l .table) → (room : ℕ) (call : Call) → OperandsFit call
-    → (e : Effect) → outcome l room call ≡ accepted e
+    → (e : Effect) → decision l room call ≡ accepted e
     → Octets (e .lent .table) × (isTable (e .lent .table) ≡ true) × (length (e .lent .table) ≡ length (l .table))
 
 abbrev pub FreshIsTable : Type 0
@@ -68,7 +68,7 @@ ForgetStaysTable =
 abbrev pub HasRoom : Type 0
 HasRoom =
     (l : Lent) → Octets (l .table) → (room : ℕ) (call : Call) → OperandsFit call
-    → (e : Effect) → outcome l room call ≡ accepted e
+    → (e : Effect) → decision l room call ≡ accepted e
     → length (frameOctets (e .frames)) ≤ leastOutput
 
 -- ---- reads back (`reads-back`)
@@ -84,7 +84,7 @@ pub record ReadsAs (s : List ℕ) (e : Element) : Type 0 where
 abbrev pub ReadsBack : Type 0
 ReadsBack =
     (l : Lent) → Octets (l .table) → (room : ℕ) (call : Call) → OperandsFit call
-    → (e : Effect) → outcome l room call ≡ accepted e
+    → (e : Effect) → decision l room call ≡ accepted e
     → All (λ (f : Frame). ReadsAs (writeElement (f .element)) (f .element)) (e .frames)
 
 -- ---- walks (`hops-at-most`)
@@ -118,18 +118,18 @@ ActionFits readsOnly = Unit {0}
 -- A forget is not among the calls: a forgotten row is a dropped one, and with those there are loops.)
 abbrev pub LoopFree : Type 0
 LoopFree =
-    (points : List Point) → All PointFits points → twice (map (λ (p : Point). p .address) points) ≡ false
+    (points : List Point) → All PointFits points → hasDuplicate (map (λ (p : Point). p .address) points) ≡ false
     → (events : List Event) → All (λ (e : Event). ActionFits (e .action)) events
     → (d : Address) (base : ℕ) → base < 2 ^ 32
-    → throughout outcome (allWithin d base) (start points) events ≡ true
-    → (a : Address) (hops : ℕ) → twice (met (run outcome (start points) events) d hops a) ≡ false
+    → throughout decision (allWithin d base) (start points) events ≡ true
+    → (a : Address) (hops : ℕ) → hasDuplicate (met (run decision (start points) events) d hops a) ≡ false
 
 -- ---- not vacuous (`not-vacuous`)
 
 -- The worked case of document 01, run on the rules, meets the premise, answers as the bench prints, and ends with the routes
 -- that its walk finds. A second run, in which numbers pass from 4,294,967,295 to 0, meets the premise and finds its routes too.
 abbrev pub NotVacuous : Type 0
-NotVacuous = all (λ b. b) (worked outcome ++ wentRound outcome) ≡ true
+NotVacuous = all (λ b. b) (worked decision ++ wentRound decision) ≡ true
 
 -- ---- sharp (`sharp`, `else-the-rules`, `needs-its-premise`)
 
@@ -149,11 +149,11 @@ Sharp = all loops counterexamples ≡ true
 abbrev pub ElseTheRules : Type 0
 ElseTheRules =
     (l : Lent) (room : ℕ) (call : Call)
-    → ruledBy (receivingBy (λ e. isStaleFor)) (breakingBy broken) l room call ≡ outcome l room call
+    → ruledBy (receivingBy (λ e. isStaleFor)) (breakingBy broken) l room call ≡ decision l room call
 
 -- One list of calls loops under the rules themselves; so no base has all its numbers in its window.
 abbrev pub NeedsPremise : Type 0
 NeedsPremise =
     (outsideLoops ≡ true)
     × ((base : ℕ) → base < 2 ^ 32
-    → throughout outcome (allWithin (outside .destination) base) (start (outside .points)) (outside .events) ≡ false)
+    → throughout decision (allWithin (outside .destination) base) (start (outside .points)) (outside .events) ≡ false)

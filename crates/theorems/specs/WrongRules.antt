@@ -1,5 +1,5 @@
 -- These are NOT the rules. Each changes one sentence of document 01 (the first and the third as its trainees do), put together
--- from the rules' own pieces, only to show by lists of calls (`Runs.antt`) that demand 3 excludes it. Assumes nothing.
+-- from the rules' own pieces, only to show by lists of calls (`Runs.antt`) that demand 3 excludes it.
 use Prim.Native.Nat.{ℕ}
 use mathlib.Core.Bool.{Bool, true, false, not, _&&_, cond}
 use mathlib.Core.List.{List, map}
@@ -12,12 +12,12 @@ use Rattle.element.specs.declared.PathInfo.{PathInfo}
 use Rattle.element.specs.Element.{Element, rann, rreq, rrep, rerr}
 use Rattle.element.specs.Octets.{readElement}
 use Rattle.rules.specs.Decision.{Check, Ruling, decide}
-use Rattle.rules.specs.Lists.{has}
-use Rattle.rules.specs.Outcome.{Lent, withTable, Effect, underHead}
+use Rattle.rules.specs.Lists.{isSomeAnd}
+use Rattle.rules.specs.Exit.{Lent, withTable, Effect, underHead}
 use Rattle.rules.specs.declared.Arrival.{Arrival}
 use Rattle.rules.specs.Receive.{pathOf, isStaleFor, receiving}
 use Rattle.rules.specs.Break.{brokenOff, breaking}
-use Rattle.rules.specs.Calls.{receives, makes, asks, announces, requestsAsRoot, breaks, outcome}
+use Rattle.rules.specs.Calls.{receives, makes, asks, announces, requestsAsRoot, breaks, decision}
 use Rattle.theorems.specs.Mesh.{Rules}
 
 -- ---- the rules with one thing changed
@@ -38,16 +38,16 @@ withOutcome a r = record { checks = r .checks; otherwise = a }
 unfoldable pub ruledBy :
     (Lent → ℕ → Arrival → List ℕ → Ruling Effect) → (Lent → ℕ → ℕ → Address → Ruling Effect) → Rules
 ruledBy receive break l room (receives a s) = decide (receive l room a s)
-ruledBy receive break l room (makes (asks lifetime items)) = outcome l room (makes (asks lifetime items))
-ruledBy receive break l room (makes (announces flags lifetime)) = outcome l room (makes (announces flags lifetime))
-ruledBy receive break l room (makes (requestsAsRoot flags lifetime)) = outcome l room (makes (requestsAsRoot flags lifetime))
+ruledBy receive break l room (makes (asks lifetime items)) = decision l room (makes (asks lifetime items))
+ruledBy receive break l room (makes (announces flags lifetime)) = decision l room (makes (announces flags lifetime))
+ruledBy receive break l room (makes (requestsAsRoot flags lifetime)) = decision l room (makes (requestsAsRoot flags lifetime))
 ruledBy receive break l room (makes (breaks c neighbour)) = decide (break l room c neighbour)
 
 -- refusal 25 by another test of the element and the row
 abbrev pub receivingBy : (Element → Arrival → PathInfo → Row → Bool) → Lent → ℕ → Arrival → List ℕ → Ruling Effect
 receivingBy stale l room a s =
     let e : Element = readElement s in
-    withCheck 25 (has (λ p. has (stale e a p) (rowFor (l .table) (p .subject))) (pathOf e)) (receiving l room a s)
+    withCheck 25 (isSomeAnd (λ p. isSomeAnd (stale e a p) (rowFor (l .table) (p .subject))) (pathOf e)) (receiving l room a s)
 
 abbrev pub with25 : (Element → Arrival → PathInfo → Row → Bool) → Rules
 with25 stale = ruledBy (receivingBy stale) breaking

@@ -1,5 +1,5 @@
 -- The tables side by side by their octets: where each lies, that it is as long as the others, and what the checks find of
--- them all. Assumes nothing.
+-- them all.
 use Prim.Native.Nat.{ℕ, _+_, _-_, _*_, _/_, _%_, _<_, _≤_}
 use mathlib.Core.Path.{_≡_, refl, sym, ap, _∙_}
 use mathlib.Core.Bool.{Bool, true, false, not, _&&_, _||_}
@@ -17,7 +17,7 @@ use Rattle.table.specs.Layout.{sized, headAt, headOctets, Sized}
 use Rattle.table.specs.Table.{clock, isTable}
 use Rattle.table.proofs.Cases.{both, of-size}
 use Rattle.element.specs.Entries.{each}
-use Rattle.element.specs.Lists.{among, twice}
+use Rattle.element.specs.Lists.{contains, hasDuplicate}
 use Rattle.element.proofs.Scans.{map-each}
 use Rattle.rules.specs.Lists.{any}
 use Rattle.rules.specs.Walk.{tableAt, lengthOfEach, sideBySide, points, hasLaterClock}
@@ -111,11 +111,11 @@ module _ (s : List ℕ) (long n : ℕ) where
   points-each : points (pieces s long n) ≡ each (pointAt s long) 0 (n - 0)
   points-each = map-each addressOf (tableAt s long) 0 n ∙ ap (each (pointAt s long) 0) (sym (sub-zero n))
 
-  pub point-among : (a : Address) (b : Bool) → b ≡ among a (each (pointAt s long) 0 (n - 0)) → b ≡ among a (points (pieces s long n))
-  point-among a b e = e ∙ ap (among a) (sym points-each)
+  pub point-contained : (a : Address) (b : Bool) → b ≡ contains (each (pointAt s long) 0 (n - 0)) a → b ≡ contains (points (pieces s long n)) a
+  point-contained a b e = e ∙ ap (λ (l : List Address). contains l a) (sym points-each)
 
-  pub twice-start : twice (each (pointAt s long) 0 (n - 0)) ≡ twice (points (pieces s long n))
-  twice-start = ap twice (sym points-each)
+  pub duplicate-start : hasDuplicate (each (pointAt s long) 0 (n - 0)) ≡ hasDuplicate (points (pieces s long n))
+  duplicate-start = ap hasDuplicate (sym points-each)
 
 -- ---- which pieces are tables, and their clocks
 

@@ -1,4 +1,4 @@
--- Where rows lead, and the way along them. Assumes nothing.
+-- Where rows lead, and the way along them.
 use Prim.Native.Nat.{ℕ, zero, suc, _+_, _-_, _/_, _<_, _≤_}
 use mathlib.Core.Path.{_≡_, refl, sym, ap, _∙_}
 use mathlib.Core.Bool.{Bool, true, false, not, _||_, cond, or-true}
@@ -15,7 +15,7 @@ use Rattle.table.specs.declared.search.NextHop.the-variants.{To, Nobody}
 use Rattle.table.specs.Address.{addressOf, same}
 use Rattle.table.specs.Table.{rowFor, activeNext, hopIn}
 use Rattle.element.specs.Entries.{each}
-use Rattle.element.specs.Lists.{among, twice}
+use Rattle.element.specs.Lists.{contains, hasDuplicate}
 use Rattle.element.proofs.Scans.{each-next, each-end}
 use Rattle.rules.specs.Decision.{refused, accepted}
 use Rattle.rules.specs.Walk.{Walked, arrived, stopped, tooLong, tableAt, tablesIn, sideBySide, points, rowOfPoint, leadsTo, goOn, follow, walking, walk}
@@ -24,7 +24,7 @@ use Rattle.calls.specs.declared.Answer.the-variants.{Accepted, Refused as NotWa
 use Rattle.calls.specs.Answers.{answerTo}
 use Rattle.calls.proofs.Checks.{as-decision, decided-as, answer-passed}
 use Rattle.walk.specs.declared.Ending.{Ending}
-use Rattle.walk.specs.Answers.{decisionOf}
+use Rattle.walk.specs.Answers.{walkDecision}
 use Rattle.walk.specs.OnTheWay.{stoppedAt, resumed}
 use Rattle.walk.specs.Pieces.{Pieces, pieces, pointAt}
 use Rattle.walk.proofs.Tables.{pieces-there}
@@ -63,15 +63,15 @@ either-row : (c : ℕ) (next : Address) (b x : Bool) (o p : Option Row) → (som
 either-row c next true x o p further e = refl
 either-row c next false x o p further e = further e
 
-row-of-a-point : (tables : List (List ℕ)) (a d next : Address) (c : ℕ) → some next ≡ activeNext c (rowOfPoint tables a d) → among a (points tables) ≡ true
-unfolding rowOfPoint among activeNext
+row-of-a-point : (tables : List (List ℕ)) (a d next : Address) (c : ℕ) → some next ≡ activeNext c (rowOfPoint tables a d) → contains (points tables) a ≡ true
+unfolding rowOfPoint contains activeNext
 row-of-a-point [] a d next c e = absurd (Option·none-ne-some next (sym e))
 row-of-a-point (t ∷ tables) a d next c e =
-    either-row c next (same (addressOf t) a) (among a (points tables)) (rowFor t d) (rowOfPoint tables a d) (row-of-a-point tables a d next c) e
+    either-row c next (same (addressOf t) a) (contains (points tables) a) (rowFor t d) (rowOfPoint tables a d) (row-of-a-point tables a d next c) e
 
 -- ---- the way: g is how the whole walk ends
 
-pub way-start : (tables : List (List ℕ)) (c : ℕ) (d : Address) (n : ℕ) (a : Address) → among a (points tables) ≡ true
+pub way-start : (tables : List (List ℕ)) (c : ℕ) (d : Address) (n : ℕ) (a : Address) → contains (points tables) a ≡ true
     → resumed tables c d n a 0 0 ≡ follow tables c d n a 0
 unfolding resumed
 way-start tables c d n a e = rw (e, or-true (same a d))
@@ -86,16 +86,16 @@ module _ (tables : List (List ℕ)) (c : ℕ) (d : Address) (remaining hops befo
       by zero h = rw (← h, eq-eqb (a .0) (d .0) e)
       by (suc n) h = rw (← h, eq-eqb (a .0) (d .0) e)
 
-  pub way-ended : remaining ≤ 0 → (r : Ending) → decisionOf r ≡ accepted (resumed tables 0 d 0 a hops before) → decisionOf r ≡ accepted g
+  pub way-ended : remaining ≤ 0 → (r : Ending) → walkDecision r ≡ accepted (resumed tables 0 d 0 a hops before) → walkDecision r ≡ accepted g
   unfolding resumed follow
   way-ended l r re = by remaining so-far l
     where
-      by : (n : ℕ) → resumed tables c d n a hops before ≡ g → n ≤ 0 → decisionOf r ≡ accepted g
+      by : (n : ℕ) → resumed tables c d n a hops before ≡ g → n ≤ 0 → walkDecision r ≡ accepted g
       by zero h l = re ∙ ap accepted h
       by (suc n) h l = absurd (omega arith)
 
   module _ (ne : a .0 ≡ d .0 → ⊥) (some-left : 0 < remaining) (r : NextHop) (re : hopIn r ≡ activeNext c (rowOfPoint tables a d)) where
-    pub way-stopped : r ≡ Nobody → (end : Ending) → decisionOf end ≡ accepted (stoppedAt tables a hops before) → decisionOf end ≡ accepted g
+    pub way-stopped : r ≡ Nobody → (end : Ending) → walkDecision end ≡ accepted (stoppedAt tables a hops before) → walkDecision end ≡ accepted g
     unfolding resumed follow leadsTo stoppedAt
     way-stopped e end ee = ee ∙ ap accepted (by remaining so-far some-left)
       where
@@ -122,11 +122,11 @@ module _ (tables : List (List ℕ)) (c : ℕ) (d : Address) (remaining hops befo
         by (suc n) h l =
             let m : suc n - 1 ≡ n = omega arith in
             rw (← h, ne-eqb (a .0) (d .0) ne, row-of-a-point tables a d next c on, ← on, m)
-            (sym (led n (same next d || among next (points tables))))
+            (sym (led n (same next d || contains (points tables) next)))
 
 -- ---- where it stops
 
-module _ (tables : List (List ℕ)) (a : Address) (hops before : ℕ) (b : Bool) (be : b ≡ among a (points tables)) where
+module _ (tables : List (List ℕ)) (a : Address) (hops before : ℕ) (b : Bool) (be : b ≡ contains (points tables) a) where
   pub stopped-on : b ≡ true → accepted (stopped hops) ≡ accepted (stoppedAt tables a hops before)
   unfolding stoppedAt
   stopped-on e = rw (← be, e)
@@ -149,9 +149,9 @@ ended-there tables a d hops before = way-arrived tables 0 d 0 hops before a (res
 
 -- ---- the call, by what its checks answer
 
-not-among-passed : (a b : Bool) → (not a || b) ≡ false → a ≡ true
-not-among-passed true b e = refl
-not-among-passed false b e = sym e
+contained-passed : (a b : Bool) → (not a || b) ≡ false → a ≡ true
+contained-passed true b e = refl
+contained-passed false b e = sym e
 
 module _ (s : List ℕ) (count c : ℕ) (start d : Address) (a : Answer) (ae : a ≡ answerTo (walking s count c start d .checks)) where
   abbrev way : Walked
@@ -169,13 +169,13 @@ module _ (s : List ℕ) (count c : ℕ) (start d : Address) (a : Answer) (ae : a
     pieces-accepted =
         pieces-there s count (sideBySide s count) refl (answer-passed (walking s count c start d .checks) (sym ok ∙ ae) .0)
 
-    pub start-accepted : among start (points (tablesIn s count)) ≡ true
+    pub start-accepted : contains (points (tablesIn s count)) start ≡ true
     start-accepted =
-        not-among-passed (among start (points (tablesIn s count))) (twice (points (tablesIn s count)))
+        contained-passed (contains (points (tablesIn s count)) start) (hasDuplicate (points (tablesIn s count)))
         (answer-passed (walking s count c start d .checks) (sym ok ∙ ae) .1 .1 .1 .0)
 
     pub count-accepted : 0 < count
     count-accepted = pieces-accepted .some-piece
 
-    pub walk-accepted : (r : Ending) → decisionOf r ≡ accepted way → decisionOf r ≡ walk s count c start d
+    pub walk-accepted : (r : Ending) → walkDecision r ≡ accepted way → walkDecision r ≡ walk s count c start d
     walk-accepted r re = re ∙ sym (decided ∙ ap (as-decision way) ok)

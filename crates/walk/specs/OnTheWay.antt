@@ -1,17 +1,17 @@
--- What the code of the walk holds between hops: for its own contracts, no part of what a walk is. Assumes nothing.
+-- What the code of the walk holds between hops: for its own contracts, no part of what a walk is.
 use Prim.Native.Nat.{ℕ}
 use mathlib.Core.Bool.{cond, _||_}
 use mathlib.Core.List.{List}
 use Rattle.table.specs.declared.address.Address.{Address}
 use Rattle.table.specs.Address.{same}
-use Rattle.element.specs.Lists.{among}
+use Rattle.element.specs.Lists.{contains}
 use Rattle.rules.specs.Walk.{Walked, stopped, points, follow}
 
 -- nothing leads on from address a: at a point it is reached by so many hops, else it is not counted
 unfoldable pub stoppedAt : List (List ℕ) → Address → (hops before : ℕ) → Walked
-stoppedAt tables a hops before = cond (among a (points tables)) (stopped hops) (stopped before)
+stoppedAt tables a hops before = cond (contains (points tables) a) (stopped hops) (stopped before)
 
 -- how the walk ends that has come to address a, which may be neither the destination nor a point
 unfoldable pub resumed : List (List ℕ) → ℕ → Address → (remaining : ℕ) → Address → (hops before : ℕ) → Walked
 resumed tables c d remaining a hops before =
-    cond (same a d || among a (points tables)) (follow tables c d remaining a hops) (stopped before)
+    cond (same a d || contains (points tables) a) (follow tables c d remaining a hops) (stopped before)

@@ -1,5 +1,5 @@
 -- What the functions of the walk know of the octets once they are tables side by side: for the code's own functions, no part
--- of what a walk is. Assumes nothing.
+-- of what a walk is.
 use Prim.Native.Nat.{ℕ, _*_, _≤_}
 use mathlib.Core.Path.{_≡_}
 use mathlib.Core.List.{List}

@@ -10,7 +10,7 @@ use table::legal;
 ghost use mathlib.Core.Path.{_≡_};
 ghost use Rattle.rules.specs.Walk.{sideBySide, tableChecks, walk, walkedAtExit, walking};
 ghost use Rattle.calls.specs.Answers.{answerTo};
-ghost use Rattle.walk.specs.Answers.{decisionOf, numbersOf};
+ghost use Rattle.walk.specs.Answers.{walkDecision, numbersOf};
 ghost use Rattle.walk.specs.Pieces.{Pieces, pieces};
 
 // The answers of a walk that does not arrive: nowhere to go on to, and as many hops as points.
@@ -35,7 +35,7 @@ pub struct Walked {
 
 // 0, 41 or 42 with the hops walked, or the refusal's number and 0.
 pub fn in_numbers(ending: Ending) -> Walked
-    ensures { λ r. ⌜ numbersOf r ≡ walkedAtExit (decisionOf ending) ⌝ }
+    ensures { λ r. ⌜ numbersOf r ≡ walkedAtExit (walkDecision ending) ⌝ }
 {
     match ending {
         Ending::Arrived(hops) => Walked {
@@ -98,14 +98,14 @@ fn check(tables: &[u8], count: usize, clock: u64, start: Address, destination: A
         return Answer::Refused(refusals::BAD_ADDRESS);
     }
     let long = tables.len() / count;
-    if !pieces::is_point(tables, long, count, start) | pieces::has_twice(tables, long, count) {
+    if !pieces::is_point(tables, long, count, start) | pieces::has_duplicate(tables, long, count) {
         return Answer::Refused(refusals::BAD_LIST);
     }
     check_state(tables, long, count, clock)
 }
 
 pub fn walk(tables: &[u8], count: u32, clock: u64, start: Address, destination: Address) -> Ending
-    ensures { λ r. ⌜ decisionOf r ≡ walk (now (tables .entry)) count clock start destination ⌝ }
+    ensures { λ r. ⌜ walkDecision r ≡ walk (now (tables .entry)) count clock start destination ⌝ }
 {
     let n = count as usize;
     match check(tables, n, clock, start, destination) {

@@ -8,7 +8,7 @@ ghost use Prim.Native.Nat.{_+_, _-_, _*_, _<_, _≤_};
 ghost use lib.ListN.{length};
 ghost use Rattle.table.specs.Table.{isTable, clock as Table·clock};
 ghost use Rattle.element.specs.Entries.{each};
-ghost use Rattle.element.specs.Lists.{among, twice};
+ghost use Rattle.element.specs.Lists.{contains, hasDuplicate};
 ghost use Rattle.rules.specs.Lists.{any};
 ghost use Rattle.rules.specs.Walk.{hasLaterClock, points, tableAt};
 ghost use Rattle.walk.specs.Pieces.{Pieces, pieces, pointAt};
@@ -32,9 +32,9 @@ pub fn point_at(tables: &[u8], long: usize, count: usize, i: usize) -> Address
 }
 
 // Whether the address is that of a point, from point `from` on.
-fn is_among(tables: &[u8], long: usize, count: usize, from: usize, address: Address) -> bool
+fn contains(tables: &[u8], long: usize, count: usize, from: usize, address: Address) -> bool
     requires { ⌜ Pieces (now tables) long count ⌝ }
-    ensures { λ r. ⌜ r ≡ among address (each (pointAt (now (tables .entry)) long) from (count - from)) ⌝ }
+    ensures { λ r. ⌜ r ≡ contains (each (pointAt (now (tables .entry)) long) from (count - from)) address ⌝ }
 {
     let mut i = from;
     while i < count {
@@ -48,19 +48,19 @@ fn is_among(tables: &[u8], long: usize, count: usize, from: usize, address: Addr
 
 pub fn is_point(tables: &[u8], long: usize, count: usize, address: Address) -> bool
     requires { ⌜ Pieces (now tables) long count ⌝ }
-    ensures { λ r. ⌜ r ≡ among address (points (pieces (now (tables .entry)) long count)) ⌝ }
+    ensures { λ r. ⌜ r ≡ contains (points (pieces (now (tables .entry)) long count)) address ⌝ }
 {
-    is_among(tables, long, count, 0, address)
+    contains(tables, long, count, 0, address)
 }
 
 // Whether two points have one address.
-pub fn has_twice(tables: &[u8], long: usize, count: usize) -> bool
+pub fn has_duplicate(tables: &[u8], long: usize, count: usize) -> bool
     requires { ⌜ Pieces (now tables) long count ⌝ }
-    ensures { λ r. ⌜ r ≡ twice (points (pieces (now (tables .entry)) long count)) ⌝ }
+    ensures { λ r. ⌜ r ≡ hasDuplicate (points (pieces (now (tables .entry)) long count)) ⌝ }
 {
     let mut i = 0;
     while i < count {
-        if is_among(tables, long, count, i + 1, point_at(tables, long, count, i)) {
+        if contains(tables, long, count, i + 1, point_at(tables, long, count, i)) {
             return true;
         }
         i += 1;

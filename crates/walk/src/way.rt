@@ -9,10 +9,10 @@ use table::search::NextHop;
 ghost use mathlib.Core.Path.{_≡_};
 ghost use mathlib.Core.Bool.{Bool};
 ghost use Rattle.table.specs.Table.{activeNext, hopIn};
-ghost use Rattle.element.specs.Lists.{among};
+ghost use Rattle.element.specs.Lists.{contains};
 ghost use Rattle.rules.specs.Decision.{accepted};
 ghost use Rattle.rules.specs.Walk.{follow, points, rowOfPoint};
-ghost use Rattle.walk.specs.Answers.{decisionOf};
+ghost use Rattle.walk.specs.Answers.{walkDecision};
 ghost use Rattle.walk.specs.OnTheWay.{resumed, stoppedAt};
 ghost use Rattle.walk.specs.Pieces.{Pieces, pieces};
 
@@ -41,7 +41,7 @@ fn next_from(
 // No active row leads on from an address. If that is no point's, the hop to it is not counted.
 fn stopped(tables: &[u8], long: usize, count: usize, at: Address, hops: u8, before: u8) -> Ending
     requires { ⌜ Pieces (now tables) long count ⌝ }
-    ensures { λ r. ⌜ decisionOf r ≡ accepted (stoppedAt (pieces (now (tables .entry)) long count) at hops before) ⌝ }
+    ensures { λ r. ⌜ walkDecision r ≡ accepted (stoppedAt (pieces (now (tables .entry)) long count) at hops before) ⌝ }
 {
     if pieces::is_point(tables, long, count, at) {
         return Ending::Stopped(HopCount(hops));
@@ -61,7 +61,7 @@ fn ended(
     destination: Address,
 ) -> Ending
     requires { ⌜ Pieces (now tables) long count ⌝ }
-    ensures { λ r. ⌜ decisionOf r
+    ensures { λ r. ⌜ walkDecision r
         ≡ accepted (resumed (pieces (now (tables .entry)) long count) 0 destination 0 at hops before) ⌝ }
 {
     if at.0 == destination.0 {
@@ -83,8 +83,8 @@ pub fn follow(
     destination: Address,
 ) -> Ending
     requires { ⌜ Pieces (now tables) long count ⌝ }
-    requires { ⌜ among start (points (pieces (now tables) long count)) ≡ Bool.true ⌝ }
-    ensures { λ r. ⌜ decisionOf r
+    requires { ⌜ contains (points (pieces (now tables) long count)) start ≡ Bool.true ⌝ }
+    ensures { λ r. ⌜ walkDecision r
         ≡ accepted (follow (pieces (now (tables .entry)) long count) clock destination count start 0) ⌝ }
 {
     let mut at = start;

@@ -1,4 +1,4 @@
--- `bench_run::run` is safe and ends: the measure is the number of turns that are left. Assumes nothing.
+-- `bench_run::run` is safe and ends: the measure is the number of turns that are left.
 use Prim.Native.Nat.{_≤_}
 use mathlib.Core.Path.{_≡_}
 use lib.ListN.{length}

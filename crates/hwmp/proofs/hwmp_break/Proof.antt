@@ -1,6 +1,6 @@
--- `hwmp::hwmp_break` meets its contract: by what it calls. Assumes nothing.
+-- `hwmp::hwmp_break` meets its contract: by what it calls.
 use borrow.Author.Needs.{needs}
-use Rattle.hwmp.proofs.Outcomes.{break-handed-on}
+use Rattle.hwmp.proofs.Outcomes.{break-exit-for-c}
 use Rattle.hwmp.proofs.hwmp_break.Statement.{statement}
 use Rattle.hwmp.proofs.hwmp_break.Tie as tie
 
@@ -13,4 +13,4 @@ hwmp-break-spec =
     (λ c κs. search needs)
     (λ c. search needs)
     (λ c. search needs)
-    (λ c. search break-handed-on))
+    (λ c. search break-exit-for-c))

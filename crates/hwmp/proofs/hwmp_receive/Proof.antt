@@ -1,6 +1,6 @@
--- `hwmp::hwmp_receive` meets its contract: by what it calls. Assumes nothing.
+-- `hwmp::hwmp_receive` meets its contract: by what it calls.
 use borrow.Author.Needs.{needs}
-use Rattle.hwmp.proofs.Outcomes.{receive-handed-on}
+use Rattle.hwmp.proofs.Outcomes.{receive-exit-for-c}
 use Rattle.hwmp.proofs.hwmp_receive.Statement.{statement}
 use Rattle.hwmp.proofs.hwmp_receive.Tie as tie
 
@@ -13,4 +13,4 @@ hwmp-receive-spec =
     (λ c κs. search needs)
     (λ c. search needs)
     (λ c. search needs)
-    (λ c. search receive-handed-on))
+    (λ c. search receive-exit-for-c))

@@ -1,6 +1,6 @@
--- `hwmp::hwmp_root_request` meets its contract: by what it calls. Assumes nothing.
+-- `hwmp::hwmp_root_request` meets its contract: by what it calls.
 use borrow.Author.Needs.{needs}
-use Rattle.hwmp.proofs.Outcomes.{handed-on}
+use Rattle.hwmp.proofs.Outcomes.{exit-for-c}
 use Rattle.hwmp.proofs.hwmp_root_request.Statement.{statement}
 use Rattle.hwmp.proofs.hwmp_root_request.Tie as tie
 
@@ -12,4 +12,4 @@ hwmp-root-request-spec =
     (λ c κs. search needs)
     (λ c. search needs)
     (λ c. search needs)
-    (λ c. search handed-on))
+    (λ c. search exit-for-c))

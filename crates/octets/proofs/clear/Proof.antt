@@ -1,4 +1,4 @@
--- `octets::clear` meets its contract: every octet passed is zero. Assumes nothing.
+-- `octets::clear` meets its contract: every octet passed is zero.
 use Prim.Native.Nat.{_-_, _≤_}
 use mathlib.Core.Path.{_≡_}
 use lib.ListN.{length}

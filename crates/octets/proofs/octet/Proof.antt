@@ -1,4 +1,4 @@
--- `octets::octet` meets its contract: an octet is below 256, at whatever place. Assumes nothing.
+-- `octets::octet` meets its contract: an octet is below 256, at whatever place.
 use borrow.Author.Needs.{needs}
 use Prim.Native.Nat.{ℕ}
 use mathlib.Core.List.{List}

@@ -1,4 +1,4 @@
--- `octets::read_u8` meets its contract. Assumes nothing.
+-- `octets::read_u8` meets its contract.
 use borrow.Author.Needs.{needs}
 use Rattle.octets.specs.LittleEndian.{numberAt}
 use Rattle.octets.proofs.read_u8.Statement.{statement}

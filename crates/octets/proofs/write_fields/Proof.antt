@@ -1,4 +1,4 @@
--- `octets::write_fields` meets its contract: the fields that are left to write make the whole. Assumes nothing.
+-- `octets::write_fields` meets its contract: the fields that are left to write make the whole.
 use Prim.Native.Nat.{_+_, _-_, _≤_}
 use mathlib.Core.Path.{_≡_}
 use lib.ListN.{length, getD, drop}

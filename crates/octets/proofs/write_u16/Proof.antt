@@ -1,4 +1,4 @@
--- `octets::write_u16` meets its contract: its octets make the whole. Assumes nothing.
+-- `octets::write_u16` meets its contract: its octets make the whole.
 use borrow.Author.Needs.{needs}
 use Rattle.octets.proofs.Laws.{second-in, written-2}
 use Rattle.octets.proofs.write_u16.Statement.{statement}

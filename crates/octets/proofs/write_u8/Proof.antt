@@ -1,4 +1,4 @@
--- `octets::write_u8` meets its contract: an octet is a number of one octet. Assumes nothing.
+-- `octets::write_u8` meets its contract: an octet is a number of one octet.
 use borrow.Author.Needs.{needs}
 use Rattle.octets.proofs.Laws.{written-1}
 use Rattle.octets.proofs.write_u8.Statement.{statement}

@@ -1,4 +1,4 @@
--- `onward::onward` meets its contract: by what it calls. Assumes nothing.
+-- `onward::onward` meets its contract: by what it calls.
 use borrow.Author.Needs.{needs}
 use Rattle.rules.specs.Onward.{onward}
 use Rattle.onward.proofs.onward.Statement.{statement}

@@ -1,4 +1,4 @@
--- `probe::probe_faults` meets its contract: answer by answer of the reader. Assumes nothing.
+-- `probe::probe_faults` meets its contract: answer by answer of the reader.
 use borrow.Author.Needs.{needs}
 use Rattle.probe.proofs.Frames.{no-faults-refused, faults-rann, faults-rreq, faults-rrep, faults-rerr}
 use Rattle.probe.proofs.probe_faults.Statement.{statement}

@@ -1,4 +1,4 @@
--- `probe::probe_read` meets its contract: answer by answer of the reader. Assumes nothing.
+-- `probe::probe_read` meets its contract: answer by answer of the reader.
 use borrow.Author.Needs.{needs}
 use Rattle.element.proofs.Readings.{request-part, reply-part, error-part}
 use Rattle.probe.proofs.Elements.{read-rann, read-rreq, read-rrep, read-rerr, read-refused}

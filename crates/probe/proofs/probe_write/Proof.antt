@@ -1,4 +1,4 @@
--- `probe::probe_write` meets its contract: answer by answer of the reader. Assumes nothing.
+-- `probe::probe_write` meets its contract: answer by answer of the reader.
 use borrow.Author.Needs.{needs}
 use Rattle.element.proofs.Readings.{request-part, reply-part, error-part}
 use Rattle.probe.proofs.Frames.{again-rann, again-rreq, again-rrep, again-rerr, again-refused}

@@ -1,4 +1,4 @@
--- `walk::check` meets its contract: the first refusal of the walk's list. Assumes nothing.
+-- `walk::check` meets its contract: the first refusal of the walk's list.
 use borrow.Author.Needs.{needs}
 use Rattle.calls.proofs.Checks.{checking}
 use Rattle.walk.proofs.Tables.{pieces-there, divisible, ten-tested}

@@ -1,4 +1,4 @@
--- `walk::walk` meets its contract: refused as the checks say, else the way. Assumes nothing.
+-- `walk::walk` meets its contract: refused as the checks say, else the way.
 use borrow.Author.Needs.{needs}
 use Rattle.walk.proofs.Ways.{count-accepted, pieces-accepted, start-accepted, walk-accepted, walk-refused}
 use Rattle.walk.proofs.walk.Statement.{statement}

@@ -1,4 +1,4 @@
--- `bench_core::frames::element_of` meets its contract: the octets that Length counts, and the two before them. Assumes nothing.
+-- `bench_core::frames::element_of` meets its contract: the octets that Length counts, and the two before them.
 use borrow.Author.Needs.{needs}
 use Rattle.bench_core.proofs.Slots.{element-read}
 use Rattle.bench_core.proofs.frames.element_of.Statement.{statement}

@@ -1,4 +1,4 @@
--- `bench_core::frames::frame_end` meets its contract: each return is a case of `frameEnd`. Assumes nothing.
+-- `bench_core::frames::frame_end` meets its contract: each return is a case of `frameEnd`.
 use borrow.Author.Needs.{needs}
 use Rattle.bench_core.proofs.Slots.{end-short, end-beyond, end-within}
 use Rattle.bench_core.proofs.frames.frame_end.Statement.{statement}

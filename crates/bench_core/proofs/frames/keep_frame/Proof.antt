@@ -1,4 +1,4 @@
--- `bench_core::frames::keep_frame` meets its contract: sender and frame side by side. Assumes nothing.
+-- `bench_core::frames::keep_frame` meets its contract: sender and frame side by side.
 use borrow.Author.Needs.{needs}
 use Rattle.bench_core.proofs.Slots.{frame-kept, room-behind, length-behind}
 use Rattle.bench_core.proofs.frames.keep_frame.Statement.{statement}

@@ -1,4 +1,4 @@
--- `bench_core::frames::keep_frames` meets its contract: what is left to keep makes the whole. Assumes nothing.
+-- `bench_core::frames::keep_frames` meets its contract: what is left to keep makes the whole.
 use Prim.Native.Nat.{_+_, _-_, _≤_}
 use mathlib.Core.Path.{_≡_}
 use lib.ListN.{length}

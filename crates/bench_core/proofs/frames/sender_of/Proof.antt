@@ -1,4 +1,4 @@
--- `bench_core::frames::sender_of` meets its contract: the first octet of the slot. Assumes nothing.
+-- `bench_core::frames::sender_of` meets its contract: the first octet of the slot.
 use borrow.Author.Needs.{needs}
 use Rattle.bench_core.proofs.Slots.{sender-read}
 use Rattle.bench_core.proofs.frames.sender_of.Statement.{statement}

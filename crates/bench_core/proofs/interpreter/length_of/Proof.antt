@@ -1,4 +1,4 @@
--- `bench_core::interpreter::length_of` meets its contract: an entry of the list, or beyond it. Assumes nothing.
+-- `bench_core::interpreter::length_of` meets its contract: an entry of the list, or beyond it.
 use borrow.Author.Needs.{needs}
 use Rattle.bench_core.proofs.Obeying.{no-command}
 use Rattle.bench_core.proofs.interpreter.length_of.Statement.{statement}

@@ -1,4 +1,4 @@
--- `bench_core::interpreter::obey` meets its contract: by the number of the command. Assumes nothing.
+-- `bench_core::interpreter::obey` meets its contract: by the number of the command.
 use borrow.Author.Needs.{needs}
 use Rattle.bench_core.proofs.Obeying.{enough, obeyed-1, obeyed-2, obeyed-3, obeyed-4, obeyed-5, obeyed-6, obeyed-7, obeyed-8, obeyed-none}
 use Rattle.bench_core.proofs.interpreter.obey.Statement.{statement}

@@ -1,4 +1,4 @@
--- `bench_core::links::link_points` meets its contract: an index of no point, or set both ways. Assumes nothing.
+-- `bench_core::links::link_points` meets its contract: an index of no point, or set both ways.
 use borrow.Author.Needs.{needs}
 use Rattle.bench_core.proofs.Silent.{first-unknown, second-unknown, both-linked}
 use Rattle.bench_core.proofs.links.link_points.Statement.{statement}

@@ -1,4 +1,4 @@
--- `bench_core::links::set_both_ways` meets its contract: one way, and the other. Assumes nothing.
+-- `bench_core::links::set_both_ways` meets its contract: one way, and the other.
 use borrow.Author.Needs.{needs}
 use Rattle.bench_core.specs.Links.{linked}
 use Rattle.bench_core.proofs.links.set_both_ways.Statement.{statement}

@@ -1,4 +1,4 @@
--- `bench_core::operands::walk` meets its contract: its operands as they were read. Assumes nothing.
+-- `bench_core::operands::walk` meets its contract: its operands as they were read.
 use borrow.Author.Needs.{needs}
 use Rattle.bench_core.proofs.Obeying.{walks-read}
 use Rattle.bench_core.proofs.operands.walk.Statement.{statement}

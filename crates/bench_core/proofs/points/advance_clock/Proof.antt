@@ -1,4 +1,4 @@
--- `bench_core::points::advance_clock` meets its contract: too late, or advanced. Assumes nothing.
+-- `bench_core::points::advance_clock` meets its contract: too late, or advanced.
 use borrow.Author.Needs.{needs}
 use Rattle.bench_core.proofs.Silent.{too-late, advanced}
 use Rattle.bench_core.proofs.points.advance_clock.Statement.{statement}

@@ -1,4 +1,4 @@
--- `bench_core::points::walk_to` meets its contract: an index of no point, or the walk. Assumes nothing.
+-- `bench_core::points::walk_to` meets its contract: an index of no point, or the walk.
 use borrow.Author.Needs.{needs}
 use Rattle.bench_core.proofs.Silent.{start-unknown, end-unknown, points-long, walked}
 use Rattle.bench_core.proofs.points.walk_to.Statement.{statement}

@@ -1,4 +1,4 @@
--- `bench_core::settle::keep_emitted` meets its contract: kept, or too many. Assumes nothing.
+-- `bench_core::settle::keep_emitted` meets its contract: kept, or too many.
 use borrow.Author.Needs.{needs}
 use Rattle.bench_core.proofs.Settling.{too-many-prints, too-many-keeps, few-prints, few-keeps}
 use Rattle.bench_core.proofs.settle.keep_emitted.Statement.{statement}

@@ -1,4 +1,4 @@
--- `bench_core::traffic::announce_self` meets its contract: no point, or as its call leaves it. Assumes nothing.
+-- `bench_core::traffic::announce_self` meets its contract: no point, or as its call leaves it.
 use borrow.Author.Needs.{needs}
 use Rattle.bench_core.proofs.Calling.{lent-table, announce-fault, announce-done}
 use Rattle.bench_core.proofs.traffic.announce_self.Statement.{statement}

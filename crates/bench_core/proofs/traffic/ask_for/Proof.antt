@@ -1,4 +1,4 @@
--- `bench_core::traffic::ask_for` meets its contract: no point, or as its call leaves it. Assumes nothing.
+-- `bench_core::traffic::ask_for` meets its contract: no point, or as its call leaves it.
 use borrow.Author.Needs.{needs}
 use Rattle.bench_core.proofs.Calling.{lent-table, ask-fault, ask-done}
 use Rattle.bench_core.proofs.traffic.ask_for.Statement.{statement}

@@ -1,4 +1,4 @@
--- `bench_core::traffic::break_off` meets its contract: no point, no neighbour, or as its call leaves it. Assumes nothing.
+-- `bench_core::traffic::break_off` meets its contract: no point, no neighbour, or as its call leaves it.
 use borrow.Author.Needs.{needs}
 use Rattle.bench_core.proofs.Calling.{lent-table, break-fault, neighbour-fault, break-done}
 use Rattle.bench_core.proofs.traffic.break_off.Statement.{statement}

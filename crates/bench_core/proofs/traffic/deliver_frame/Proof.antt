@@ -1,4 +1,4 @@
--- `bench_core::traffic::deliver_frame` meets its contract: an index of no frame or point, or received. Assumes nothing.
+-- `bench_core::traffic::deliver_frame` meets its contract: an index of no frame or point, or received.
 use borrow.Author.Needs.{needs}
 use Rattle.bench_core.proofs.Calling.{frame-fault, receiver-fault, sender-fault, delivered}
 use Rattle.bench_core.proofs.traffic.deliver_frame.Statement.{statement}

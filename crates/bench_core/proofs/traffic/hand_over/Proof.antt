@@ -1,4 +1,4 @@
--- `bench_core::traffic::hand_over` meets its contract: as the receive leaves it. Assumes nothing.
+-- `bench_core::traffic::hand_over` meets its contract: as the receive leaves it.
 use borrow.Author.Needs.{needs}
 use Rattle.bench_core.proofs.Calling.{lent-table, handed-over}
 use Rattle.bench_core.proofs.traffic.hand_over.Statement.{statement}

@@ -1,4 +1,4 @@
--- `bench_run::block::obey_block` meets its contract: each command uses some octets, and leaves the rest within bounds. Assumes nothing.
+-- `bench_run::block::obey_block` meets its contract: each command uses some octets, and leaves the rest within bounds.
 use Prim.Native.Nat.{_-_}
 use mathlib.Core.Path.{_≡_}
 use lib.ListN.{length}

@@ -1,4 +1,4 @@
--- `bench_run::block::print_line` meets its contract: the command's octets are used, and its line has room. Assumes nothing.
+-- `bench_run::block::print_line` meets its contract: the command's octets are used, and its line has room.
 use borrow.Author.Needs.{needs}
 use Rattle.bench_run.proofs.Bounds.{end-fits, ends-later, ends-inside}
 use Rattle.bench_run.proofs.block.print_line.Statement.{statement}

@@ -1,4 +1,4 @@
--- `bench_run::block::step` meets its contract: a line and the octets behind the command, or a fault and the end. Assumes nothing.
+-- `bench_run::block::step` meets its contract: a line and the octets behind the command, or a fault and the end.
 use borrow.Author.Needs.{needs}
 use Rattle.bench_run.proofs.Bounds.{some-octets, all-octets, line-points, line-frames, line-clock}
 use Rattle.bench_run.proofs.block.step.Statement.{statement}

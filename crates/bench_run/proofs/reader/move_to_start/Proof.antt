@@ -1,4 +1,4 @@
--- `bench_run::reader::move_to_start` meets its contract: it reads and writes inside the buffer. Assumes nothing.
+-- `bench_run::reader::move_to_start` meets its contract: it reads and writes inside the buffer.
 use Prim.Native.Nat.{_-_}
 use mathlib.Core.Path.{_≡_}
 use lib.ListN.{length}

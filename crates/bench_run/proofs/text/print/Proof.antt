@@ -1,4 +1,4 @@
--- `bench_run::text::print` meets its contract. Assumes nothing.
+-- `bench_run::text::print` meets its contract.
 use borrow.Author.Needs.{needs}
 use Rattle.bench_core.proofs.Slots.{front-long}
 use Rattle.bench_run.proofs.text.print.Statement.{statement}

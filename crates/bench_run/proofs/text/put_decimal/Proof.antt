@@ -1,4 +1,4 @@
--- `bench_run::text::put_decimal` meets its contract: at most 20 digits. Assumes nothing.
+-- `bench_run::text::put_decimal` meets its contract: at most 20 digits.
 use borrow.Author.Needs.{needs}
 use Rattle.bench_run.proofs.Printing.{digits-end, digits-room, digits-fit}
 use Rattle.bench_run.proofs.text.put_decimal.Statement.{statement}

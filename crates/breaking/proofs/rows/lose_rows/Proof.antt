@@ -1,4 +1,4 @@
--- `breaking::rows::lose_rows` meets its contract: all rows. Assumes nothing.
+-- `breaking::rows::lose_rows` meets its contract: all rows.
 use borrow.Author.Needs.{needs}
 use Rattle.table.proofs.Changes.{below-all}
 use Rattle.breaking.proofs.Broken.{none-changed}

@@ -1,4 +1,4 @@
--- `counters::SequenceNumber::is_newer` meets its contract: the distance lies in the lower half. Assumes nothing.
+-- `counters::SequenceNumber::is_newer` meets its contract: the distance lies in the lower half.
 use borrow.Author.Needs.{needs}
 use Rattle.counters.proofs.Laws.{newer-at}
 use Rattle.counters.proofs.SequenceNumber.is_newer.Statement.{statement}

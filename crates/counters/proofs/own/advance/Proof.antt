@@ -1,6 +1,6 @@
 -- `counters::own::advance` meets its contract: a walk of its MIR, by hand. The borrow is opened, the record behind it is read
 -- whole and passed to `advanced`, and what that returns is stored; the borrow is closed at the record returned.
--- All that the proof knows of `advanced` is that it meets its contract. Assumes nothing.
+-- All that the proof knows of `advanced` is that it meets its contract.
 use mathlib.Core.Path.{_≡_, refl}
 use Prim.Native.Nat.{ℕ}
 use mathlib.Core.Bool.{Bool}
@@ -79,8 +79,8 @@ module _ {M : Type 1} (𝓤 : URA M) (H : Heap 𝓤) (A : Atoms 𝓤) (W : Given
   abbrev Post : Val → SProp 𝓤
   Post = walkOf 𝓤 H A f.ended stayed (f.clauses 𝓤 H A at-mem run) .post (((κ, tt), (q, tt), tt, x, at), tt)
 
-  exits : (r : OwnCounters) → r ≡ advancedFor t h → ent 𝓤 (sep 𝓤 (A .obs γ (T.the-row .coded .code r)) (sep 𝓤 (A .bor κ (Body (mem T.the-row) b o γ)) (A .lft κ q))) (Post vunit)
-  exits r e =
+  exitOf : (r : OwnCounters) → r ≡ advancedFor t h → ent 𝓤 (sep 𝓤 (A .obs γ (T.the-row .coded .code r)) (sep 𝓤 (A .bor κ (Body (mem T.the-row) b o γ)) (A .lft κ q))) (Post vunit)
+  exitOf r e =
       qed W (‵ (fobs γ (T.the-row .coded .code r)) ∷ ‵ (fbor κ (Body (mem T.the-row) b o γ)) ∷ ‵ (flft κ q) ∷ []) ∵
       suffices ! _ (ends-at 𝓤 H A f.ended stayed (f.clauses 𝓤 H A at-mem run) W (((κ, tt), (q, tt), tt, x, at), tt) vunit tt (r, (tt, tt)) (tt, (tt, tt))) $ says ! e $ nothing ! $ move ! (3 ∷ 0 ∷ []) $ join ! $
       frame ! $ feqI ! (List Val) (vptr b o ∷ []) (vptr b o ∷ []) refl $ fjoin3 ! $ nothing ! $ owned ! bool (Is bool) (bool-makes 𝓤 H A W) t _ refl $ fjoin ! $ move ! (1 ∷ 0 ∷ []) $ fjoin ! $
@@ -119,7 +119,7 @@ module _ {M : Type 1} (𝓤 : URA M) (H : Heap 𝓤) (A : Atoms 𝓤) (W : Given
         -- [obs; the borrow; the token; _4; …; _3; …; _2; …; _1; …; _0; …]
         returns ! (look ! 11 refl) $ forget ! 3 refl $ forget ! 5 refl $ forget ! 7 refl $ forget ! 9 refl $ forget ! 11 refl $
         move ! (11 ∷ 12 ∷ []) $ free1 ! $ move ! (9 ∷ 10 ∷ []) $ free1 ! $ move ! (7 ∷ 8 ∷ []) $ free1 ! $ move ! (5 ∷ 6 ∷ []) $ free1 ! $ move ! (3 ∷ 4 ∷ []) $ free1 ! $ free0 ! $
-        keep ! (0 ∷ 1 ∷ 2 ∷ []) $ by ! (exits r e))))))))))))
+        keep ! (0 ∷ 1 ∷ 2 ∷ []) $ by ! (exitOf r e))))))))))))
 
 advance-meets : {M : Type 1} (𝓤 : URA M) (H : Heap 𝓤) (A : Atoms 𝓤) → Given 𝓤 H A → (at-mem : Memory → SProp 𝓤) (run : Routine → Fun 𝓤) (𝓣 : Tables 𝓤 H) → Triple 𝓤 (𝓣 .C #counters·own·advanced) (G 𝓤 H A at-mem run)
     → Meets 𝓤 H A f.signature (WpFn 𝓤 H (𝓣 .C) (𝓣 .Λ) code.function) (f.spec 𝓤 H A at-mem run)

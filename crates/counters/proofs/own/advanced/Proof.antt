@@ -1,4 +1,4 @@
--- `counters::own::advanced` meets its contract. Assumes nothing.
+-- `counters::own::advanced` meets its contract.
 use borrow.Author.Needs.{needs}
 use Rattle.counters.proofs.ByKind.{advanced-rreq, advanced-rann}
 use Rattle.counters.proofs.own.advanced.Statement.{statement}

@@ -1,7 +1,7 @@
 -- `counters::own::numbered` meets its contract: a walk of its MIR, by hand. The parameter is copied to a local in memory, which
 -- is lent to `advance` for a lifetime that is made for the call; the lifetime is ended, the local is back at its last value,
 -- and that is returned.
--- All that the proof knows of `advance` is that it meets its contract. Assumes nothing.
+-- All that the proof knows of `advance` is that it meets its contract.
 use mathlib.Core.Path.{_≡_, refl, sym, ap, subst}
 use Prim.Native.Nat.{ℕ}
 use mathlib.Core.Bool.{Bool}
@@ -92,8 +92,8 @@ module _ {M : Type 1} (𝓤 : URA M) (H : Heap 𝓤) (A : Atoms 𝓤) (W : Given
   abbrev Post : Val → SProp 𝓤
   Post = walkOf 𝓤 H A f.ended stayed (f.clauses 𝓤 H A at-mem run) .post ((tt, tt, tt, args, at), tt)
 
-  exits : (r : OwnCounters) → r ≡ advancedFor t h → ent 𝓤 (sem 𝓤 H A (T.the-row .own r (mach r ∷ []))) (Post (mach r))
-  exits r e =
+  exitOf : (r : OwnCounters) → r ≡ advancedFor t h → ent 𝓤 (sem 𝓤 H A (T.the-row .own r (mach r ∷ []))) (Post (mach r))
+  exitOf r e =
       qed W (‵ (T.the-row .own r (mach r ∷ [])) ∷ []) ∵
       suffices ! _ (ends-at 𝓤 H A f.ended stayed (f.clauses 𝓤 H A at-mem run) W ((tt, tt, tt, args, at), tt) (mach r) r (tt, (tt, tt)) (tt, (tt, tt))) $ says ! e $
       nothing ! $ owned ! bool (Is bool) (bool-makes 𝓤 H A W) t _ refl $ fjoin ! $ owned ! T.the-row (Is T.the-row) (LL.makes T.the-type T′.the-plain 𝓤 H A) h _ is $ fjoin ! $ nothing ! $ done !
@@ -138,7 +138,7 @@ module _ {M : Type 1} (𝓤 : URA M) (H : Heap 𝓤) (A : Atoms 𝓤) (W : Given
         assigns ! (of-opd ! (load ! (from ! (stop !)) (look ! 1 refl))) (from ! (stop !)) (init ! 13 refl (LL.lawful T.the-type T′.the-laws 𝓤 H A W .typed (ws .0) _ is′ .0)) $
         returns ! (look ! 13 refl) $ forget ! 1 refl $ forget ! 4 refl $ forget ! 6 refl $ forget ! 9 refl $ forget ! 11 refl $ forget ! 13 refl $
         move ! (13 ∷ 14 ∷ []) $ free1 ! $ move ! (11 ∷ 12 ∷ []) $ free1 ! $ move ! (9 ∷ 10 ∷ []) $ free1 ! $ move ! (1 ∷ 8 ∷ []) $ free1 ! $ move ! (5 ∷ 6 ∷ []) $ free1 ! $ move ! (3 ∷ 4 ∷ []) $ free1 ! $ free0 ! $
-        keep ! (0 ∷ []) $ by ! (exits (ws .0) e)))))))))))))))
+        keep ! (0 ∷ []) $ by ! (exitOf (ws .0) e)))))))))))))))
 
 numbered-meets : {M : Type 1} (𝓤 : URA M) (H : Heap 𝓤) (A : Atoms 𝓤) → Given 𝓤 H A → (at-mem : Memory → SProp 𝓤) (run : Routine → Fun 𝓤) (𝓣 : Tables 𝓤 H) → Triple 𝓤 (𝓣 .C #counters·own·advance) (G 𝓤 H A at-mem run)
     → Meets 𝓤 H A f.signature (WpFn 𝓤 H (𝓣 .C) (𝓣 .Λ) code.function) (f.spec 𝓤 H A at-mem run)

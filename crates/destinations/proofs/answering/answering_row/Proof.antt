@@ -1,4 +1,4 @@
--- `destinations::answering::answering_row` meets its contract: by the row, or without one. Assumes nothing.
+-- `destinations::answering::answering_row` meets its contract: by the row, or without one.
 use borrow.Author.Needs.{needs}
 use Rattle.table.proofs.Cases.{found-within}
 use Rattle.destinations.proofs.AnsweringRows.{nobody-do, nobody-absent, nobody-stale, row-answers}

@@ -1,4 +1,4 @@
--- `destinations::answering::answers_for` meets its contract: each return is a case of `answersFor`. Assumes nothing.
+-- `destinations::answering::answers_for` meets its contract: each return is a case of `answersFor`.
 use borrow.Author.Needs.{needs}
 use Rattle.destinations.proofs.AnsweringRows.{answers-not-do, answers-not-inactive, answers-not-unknown, answers-not-older}
 use Rattle.destinations.proofs.answering.answers_for.Statement.{statement}

@@ -1,4 +1,4 @@
--- `destinations::replies::answered_number` meets its contract: each return is a case of `answeredNumber`. Assumes nothing.
+-- `destinations::replies::answered_number` meets its contract: each return is a case of `answeredNumber`.
 use borrow.Author.Needs.{needs}
 use Rattle.destinations.proofs.Replying.{number-raised, number-stepped}
 use Rattle.destinations.proofs.replies.answered_number.Statement.{statement}

@@ -1,4 +1,4 @@
--- `destinations::replies::write_reply` meets its contract: by what it calls. Assumes nothing.
+-- `destinations::replies::write_reply` meets its contract: by what it calls.
 use borrow.Author.Needs.{needs}
 use Rattle.destinations.proofs.Replying.{reply-written}
 use Rattle.destinations.proofs.replies.write_reply.Statement.{statement}

@@ -1,4 +1,4 @@
--- `element::flags::is_reply_wanted` meets its contract: the third bit. Assumes nothing.
+-- `element::flags::is_reply_wanted` meets its contract: the third bit.
 use Rattle.element.proofs.Bits.{bit-2}
 use Rattle.element.proofs.flags.is_reply_wanted.Statement.{statement}
 use Rattle.element.proofs.flags.is_reply_wanted.Tie as tie

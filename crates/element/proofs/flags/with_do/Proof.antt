@@ -1,4 +1,4 @@
--- `element::flags::with_do` meets its contract: by its definition. Assumes nothing.
+-- `element::flags::with_do` meets its contract: by its definition.
 use borrow.Author.Needs.{needs}
 use Rattle.element.specs.Flags.{withDO}
 use Rattle.element.proofs.flags.with_do.Statement.{statement}

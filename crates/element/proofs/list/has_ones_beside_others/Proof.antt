@@ -1,4 +1,4 @@
--- `element::list::has_ones_beside_others` meets its contract: both parts of the test. Assumes nothing.
+-- `element::list::has_ones_beside_others` meets its contract: both parts of the test.
 use borrow.Author.Needs.{needs}
 use Rattle.element.proofs.Scans.{ones-beside}
 use Rattle.element.proofs.list.has_ones_beside_others.Statement.{statement}

@@ -1,4 +1,4 @@
--- `element::list::lost_at` meets its contract: field by field. Assumes nothing.
+-- `element::list::lost_at` meets its contract: field by field.
 use borrow.Author.Needs.{needs}
 use Rattle.element.proofs.Scans.{lost-read}
 use Rattle.element.proofs.list.lost_at.Statement.{statement}

@@ -1,4 +1,4 @@
--- `element::list::target_at` meets its contract: field by field. Assumes nothing.
+-- `element::list::target_at` meets its contract: field by field.
 use borrow.Author.Needs.{needs}
 use Rattle.element.proofs.Scans.{target-read}
 use Rattle.element.proofs.list.target_at.Statement.{statement}

@@ -1,4 +1,4 @@
--- `element::read::count_as` meets its contract: type by type. Assumes nothing.
+-- `element::read::count_as` meets its contract: type by type.
 use borrow.Author.Needs.{needs}
 use Rattle.element.proofs.read.count_as.Statement.{statement}
 use Rattle.element.proofs.read.count_as.Tie as tie

@@ -1,4 +1,4 @@
--- `element::read::fits_kind` meets its contract: both parts of the test. Assumes nothing.
+-- `element::read::fits_kind` meets its contract: both parts of the test.
 use borrow.Author.Needs.{needs}
 use Rattle.element.proofs.Cases.{fits-both}
 use Rattle.element.proofs.read.fits_kind.Statement.{statement}

@@ -1,4 +1,4 @@
--- `element::read::has_wrong_length` meets its contract: both ways out of the test. Assumes nothing.
+-- `element::read::has_wrong_length` meets its contract: both ways out of the test.
 use borrow.Author.Needs.{needs}
 use Rattle.element.proofs.Cases.{too-short, long-enough}
 use Rattle.element.proofs.read.has_wrong_length.Statement.{statement}

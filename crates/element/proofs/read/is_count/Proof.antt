@@ -1,4 +1,4 @@
--- `element::read::is_count` meets its contract: type by type. Assumes nothing.
+-- `element::read::is_count` meets its contract: type by type.
 use borrow.Author.Needs.{needs}
 use Rattle.element.proofs.Lengths.{count-is}
 use Rattle.element.proofs.read.is_count.Statement.{statement}

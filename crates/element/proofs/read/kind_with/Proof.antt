@@ -1,4 +1,4 @@
--- `element::read::kind_with` meets its contract: ID by ID. Assumes nothing.
+-- `element::read::kind_with` meets its contract: ID by ID.
 use Rattle.element.proofs.Cases.{kind-rann, kind-rreq, kind-rrep, kind-else}
 use Rattle.element.proofs.read.kind_with.Statement.{statement}
 use Rattle.element.proofs.read.kind_with.Tie as tie

@@ -1,4 +1,4 @@
--- `element::read::length_with` meets its contract: type by type. Assumes nothing.
+-- `element::read::length_with` meets its contract: type by type.
 use borrow.Author.Needs.{needs}
 use Rattle.element.proofs.read.length_with.Statement.{statement}
 use Rattle.element.proofs.read.length_with.Tie as tie

@@ -1,4 +1,4 @@
--- `element::read::list_part` meets its contract: what is left from there on, if anything. Assumes nothing.
+-- `element::read::list_part` meets its contract: what is left from there on, if anything.
 use borrow.Author.Needs.{needs}
 use Rattle.element.proofs.Cases.{list-beyond, list-left}
 use Rattle.element.proofs.read.list_part.Statement.{statement}

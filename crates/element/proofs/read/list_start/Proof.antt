@@ -1,4 +1,4 @@
--- `element::read::list_start` meets its contract: the Length of its type without entries, and two. Assumes nothing.
+-- `element::read::list_start` meets its contract: the Length of its type without entries, and two.
 use borrow.Author.Needs.{needs}
 use Rattle.element.proofs.Cases.{starts-there}
 use Rattle.element.proofs.read.list_start.Statement.{statement}

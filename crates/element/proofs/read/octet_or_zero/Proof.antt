@@ -1,4 +1,4 @@
--- `element::read::octet_or_zero` meets its contract: both ways out. Assumes nothing.
+-- `element::read::octet_or_zero` meets its contract: both ways out.
 use borrow.Author.Needs.{needs}
 use Rattle.element.proofs.Cases.{octet-beyond, octet-there}
 use Rattle.element.proofs.read.octet_or_zero.Statement.{statement}

@@ -1,4 +1,4 @@
--- `element::read::read` meets its contract: refusal by refusal. Assumes nothing.
+-- `element::read::read` meets its contract: refusal by refusal.
 use borrow.Author.Needs.{needs}
 use Rattle.element.proofs.Cases.{two-octets, one-octet-there, fixed-part-there, read-6, read-7, read-8, read-fields}
 use Rattle.element.proofs.read.read.Statement.{statement}

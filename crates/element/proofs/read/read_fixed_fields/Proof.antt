@@ -1,4 +1,4 @@
--- `element::read::read_fixed_fields` meets its contract: type by type. Assumes nothing.
+-- `element::read::read_fixed_fields` meets its contract: type by type.
 use borrow.Author.Needs.{needs}
 use Rattle.element.proofs.Cases.{rann-there, rreq-there, rrep-there, rerr-there, rann-fields, rreq-fields, rrep-fields, rerr-fields}
 use Rattle.element.proofs.read.read_fixed_fields.Statement.{statement}

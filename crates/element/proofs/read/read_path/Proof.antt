@@ -1,4 +1,4 @@
--- `element::read::read_path` meets its contract: field by field. Assumes nothing.
+-- `element::read::read_path` meets its contract: field by field.
 use borrow.Author.Needs.{needs}
 use Rattle.element.proofs.Cases.{path-read}
 use Rattle.element.proofs.read.read_path.Statement.{statement}

@@ -1,4 +1,4 @@
--- `element::write::start_frame` meets its contract: one after the other. Assumes nothing.
+-- `element::write::start_frame` meets its contract: one after the other.
 use borrow.Author.Needs.{needs}
 use Rattle.element.proofs.Written.{frame-started}
 use Rattle.element.proofs.write.start_frame.Statement.{statement}

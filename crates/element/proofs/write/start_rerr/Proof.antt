@@ -1,4 +1,4 @@
--- `element::write::start_rerr` meets its contract: its numbers are written side by side. Assumes nothing.
+-- `element::write::start_rerr` meets its contract: its numbers are written side by side.
 use borrow.Author.Needs.{needs}
 use Rattle.element.proofs.Written.{rerr-started}
 use Rattle.octets.specs.LittleEndian.{total}

@@ -1,4 +1,4 @@
--- `element::write::start_rreq` meets its contract: its numbers are written side by side. Assumes nothing.
+-- `element::write::start_rreq` meets its contract: its numbers are written side by side.
 use borrow.Author.Needs.{needs}
 use Rattle.element.proofs.Written.{rreq-started}
 use Rattle.octets.specs.LittleEndian.{total}

@@ -1,4 +1,4 @@
--- `element::write::write_rann` meets its contract: its numbers are written side by side. Assumes nothing.
+-- `element::write::write_rann` meets its contract: its numbers are written side by side.
 use borrow.Author.Needs.{needs}
 use Rattle.element.proofs.Written.{rann-written}
 use Rattle.octets.specs.LittleEndian.{total}

@@ -1,4 +1,4 @@
--- `element::write::write_rreq` meets its contract: the start, and then the list part over what follows it. Assumes nothing.
+-- `element::write::write_rreq` meets its contract: the start, and then the list part over what follows it.
 use borrow.Author.Needs.{needs}
 use Rattle.element.proofs.Written.{rreq-written}
 use Rattle.element.proofs.write.write_rreq.Statement.{statement}

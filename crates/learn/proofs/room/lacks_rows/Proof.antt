@@ -1,4 +1,4 @@
--- `learn::room::lacks_rows` meets its contract: none is needed, or as many as are free are compared. Assumes nothing.
+-- `learn::room::lacks_rows` meets its contract: none is needed, or as many as are free are compared.
 use borrow.Author.Needs.{needs}
 use Rattle.learn.proofs.NewRows.{lacks-none, lacks-some}
 use Rattle.learn.proofs.room.lacks_rows.Statement.{statement}

@@ -1,4 +1,4 @@
--- `learn::room::new_rows` meets its contract: by the row, or without one. Assumes nothing.
+-- `learn::room::new_rows` meets its contract: by the row, or without one.
 use native.Mathlib.Omega.{arith}
 use borrow.Author.Needs.{needs}
 use Rattle.learn.proofs.NewRows.{row-there, row-absent}

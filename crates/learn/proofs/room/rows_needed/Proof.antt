@@ -1,4 +1,4 @@
--- `learn::room::rows_needed` meets its contract: of one address, or of two. Assumes nothing.
+-- `learn::room::rows_needed` meets its contract: of one address, or of two.
 use borrow.Author.Needs.{needs}
 use Rattle.learn.proofs.NewRows.{new-rows, one-address, two-addresses}
 use Rattle.learn.proofs.room.rows_needed.Statement.{statement}

@@ -1,4 +1,4 @@
--- `learn::stale::is_stale` meets its contract: by the row, or without one. Assumes nothing.
+-- `learn::stale::is_stale` meets its contract: by the row, or without one.
 use borrow.Author.Needs.{needs}
 use Rattle.table.proofs.Cases.{found-within}
 use Rattle.learn.proofs.Staleness.{stale-absent, stale-found}

@@ -1,4 +1,4 @@
--- `learn::stale::is_stale_for` meets its contract: each return is a case of `isStaleFor`. Assumes nothing.
+-- `learn::stale::is_stale_for` meets its contract: each return is a case of `isStaleFor`.
 use borrow.Author.Needs.{needs}
 use Rattle.learn.proofs.Staleness.{stale-unknown, stale-older, stale-by-metric}
 use Rattle.learn.proofs.stale.is_stale_for.Statement.{statement}

@@ -1,4 +1,4 @@
--- `learn::steps::expiry_of` meets its contract: each return is a case of `expiryOf`. Assumes nothing.
+-- `learn::steps::expiry_of` meets its contract: each return is a case of `expiryOf`.
 use borrow.Author.Needs.{needs}
 use Rattle.learn.proofs.Renewals.{expiry-stays, expiry-set}
 use Rattle.learn.proofs.steps.expiry_of.Statement.{statement}

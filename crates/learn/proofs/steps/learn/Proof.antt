@@ -1,4 +1,4 @@
--- `learn::steps::learn` meets its contract: one step, or both. Assumes nothing.
+-- `learn::steps::learn` meets its contract: one step, or both.
 use borrow.Author.Needs.{needs}
 use Rattle.learn.proofs.Renewals.{subject-alone, both-learnt}
 use Rattle.learn.proofs.steps.learn.Statement.{statement}

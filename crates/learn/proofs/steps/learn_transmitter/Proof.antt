@@ -1,4 +1,4 @@
--- `learn::steps::learn_transmitter` meets its contract: the row is stored, or stays. Assumes nothing.
+-- `learn::steps::learn_transmitter` meets its contract: the row is stored, or stays.
 use borrow.Author.Needs.{needs}
 use Rattle.learn.proofs.Renewals.{transmitter-stays, transmitter-place, transmitter-stored}
 use Rattle.learn.proofs.steps.learn_transmitter.Statement.{statement}

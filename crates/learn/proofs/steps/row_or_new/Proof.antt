@@ -1,4 +1,4 @@
--- `learn::steps::row_or_new` meets its contract: the row, or a new one. Assumes nothing.
+-- `learn::steps::row_or_new` meets its contract: the row, or a new one.
 use borrow.Author.Needs.{needs}
 use Rattle.table.proofs.Cases.{found-within}
 use Rattle.learn.proofs.Renewals.{row-found, row-made}

@@ -1,4 +1,4 @@
--- `learn::steps::row_takes_link` meets its contract: each return is a case of `rowTakesLink`. Assumes nothing.
+-- `learn::steps::row_takes_link` meets its contract: each return is a case of `rowTakesLink`.
 use borrow.Author.Needs.{needs}
 use Rattle.learn.proofs.Renewals.{link-better, link-as-good}
 use Rattle.learn.proofs.steps.row_takes_link.Statement.{statement}

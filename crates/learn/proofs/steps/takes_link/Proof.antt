@@ -1,4 +1,4 @@
--- `learn::steps::takes_link` meets its contract: by what it calls. Assumes nothing.
+-- `learn::steps::takes_link` meets its contract: by what it calls.
 use borrow.Author.Needs.{needs}
 use Rattle.learn.proofs.steps.takes_link.Statement.{statement}
 use Rattle.learn.proofs.steps.takes_link.Tie as tie

@@ -1,4 +1,4 @@
--- `matches::report::write_if_match` meets its contract: it is written, or not. Assumes nothing.
+-- `matches::report::write_if_match` meets its contract: it is written, or not.
 use borrow.Author.Needs.{needs}
 use Rattle.matches.proofs.Listed.{other-place, other-written, match-place, match-written}
 use Rattle.matches.proofs.report.write_if_match.Statement.{statement}

@@ -1,4 +1,4 @@
--- `matches::rows::erred_with` meets its contract: each return is a case of `erredWith`. Assumes nothing.
+-- `matches::rows::erred_with` meets its contract: each return is a case of `erredWith`.
 use borrow.Author.Needs.{needs}
 use Rattle.matches.proofs.LostRows.{number-stays, number-taken}
 use Rattle.matches.proofs.rows.erred_with.Statement.{statement}

@@ -1,4 +1,4 @@
--- `onward::announcement::send_on` meets its contract: no frame or one, by TTL. Assumes nothing.
+-- `onward::announcement::send_on` meets its contract: no frame or one, by TTL.
 use borrow.Author.Needs.{needs}
 use Rattle.onward.proofs.Going.{announcement-none, announcement-unwritten, announcement-counted, announcement-written}
 use Rattle.onward.proofs.announcement.send_on.Statement.{statement}

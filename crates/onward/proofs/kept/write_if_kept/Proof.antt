@@ -1,4 +1,4 @@
--- `onward::kept::write_if_kept` meets its contract: it is written, or not. Assumes nothing.
+-- `onward::kept::write_if_kept` meets its contract: it is written, or not.
 use borrow.Author.Needs.{needs}
 use Rattle.onward.proofs.KeptOnes.{kept-place, kept-written, struck-place, struck-written}
 use Rattle.onward.proofs.kept.write_if_kept.Statement.{statement}

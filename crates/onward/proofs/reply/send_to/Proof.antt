@@ -1,4 +1,4 @@
--- `onward::reply::send_to` meets its contract: no frame or one, by its receiver. Assumes nothing.
+-- `onward::reply::send_to` meets its contract: no frame or one, by its receiver.
 use borrow.Author.Needs.{needs}
 use Rattle.onward.proofs.Going.{reply-none, reply-unwritten, reply-room, reply-counted, reply-written}
 use Rattle.onward.proofs.reply.send_to.Statement.{statement}

@@ -1,4 +1,4 @@
--- `onward::request::send` meets its contract: no frame or one, by its receiver. Assumes nothing.
+-- `onward::request::send` meets its contract: no frame or one, by its receiver.
 use borrow.Author.Needs.{needs}
 use Rattle.onward.proofs.Requests.{request-none, request-unwritten, request-one, request-one-written}
 use Rattle.onward.proofs.request.send.Statement.{statement}

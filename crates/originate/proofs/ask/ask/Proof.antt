@@ -1,4 +1,4 @@
--- `originate::ask::ask` meets its contract: by its check, and by what an accepted one sends. Assumes nothing.
+-- `originate::ask::ask` meets its contract: by its check, and by what an accepted one sends.
 use borrow.Author.Needs.{needs}
 use Rattle.originate.proofs.Asked.{ask-table-sized, ask-output-long, items-some, items-few, ask-refused, ask-accepted}
 use Rattle.originate.proofs.ask.ask.Statement.{statement}

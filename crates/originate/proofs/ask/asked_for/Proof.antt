@@ -1,4 +1,4 @@
--- `originate::ask::asked_for` meets its contract: by what its definition unfolds to. Assumes nothing.
+-- `originate::ask::asked_for` meets its contract: by what its definition unfolds to.
 use borrow.Author.Needs.{needs}
 use Rattle.rules.specs.Originate.{askedFor}
 use Rattle.originate.proofs.ask.asked_for.Statement.{statement}

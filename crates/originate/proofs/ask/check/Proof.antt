@@ -1,4 +1,4 @@
--- `originate::ask::check` meets its contract: one check of the list after another. Assumes nothing.
+-- `originate::ask::check` meets its contract: one check of the list after another.
 use borrow.Author.Needs.{needs}
 use Rattle.calls.proofs.Checks.{passes-1, checking, refused-first}
 use Rattle.rules.specs.Originate.{asking}

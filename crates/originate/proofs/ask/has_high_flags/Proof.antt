@@ -1,4 +1,4 @@
--- `originate::ask::has_high_flags` meets its contract: the items passed have no high flags. Assumes nothing.
+-- `originate::ask::has_high_flags` meets its contract: the items passed have no high flags.
 use Prim.Native.Nat.{_-_}
 use mathlib.Core.Path.{_≡_}
 use borrow.Author.Needs.{needs}

@@ -1,4 +1,4 @@
--- `originate::ask::is_item_list` meets its contract: by what its definition unfolds to. Assumes nothing.
+-- `originate::ask::is_item_list` meets its contract: by what its definition unfolds to.
 use Rattle.rules.specs.Originate.{itemsFit}
 use Rattle.originate.proofs.ask.is_item_list.Statement.{statement}
 use Rattle.originate.proofs.ask.is_item_list.Tie as tie

@@ -1,4 +1,4 @@
--- `originate::ask::known_number` meets its contract: each return is a case of `knownNumber`. Assumes nothing.
+-- `originate::ask::known_number` meets its contract: each return is a case of `knownNumber`.
 use borrow.Author.Needs.{needs}
 use Rattle.table.proofs.Cases.{found-within}
 use Rattle.originate.proofs.Asked.{number-absent, number-unknown, number-known}

@@ -1,4 +1,4 @@
--- `originate::ask::send` meets its contract: the head after the step, and one frame with the destinations. Assumes nothing.
+-- `originate::ask::send` meets its contract: the head after the step, and one frame with the destinations.
 use borrow.Author.Needs.{needs}
 use Rattle.originate.proofs.Asked.{asked-exit}
 use Rattle.originate.proofs.ask.send.Statement.{statement}

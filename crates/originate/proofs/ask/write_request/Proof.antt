@@ -1,4 +1,4 @@
--- `originate::ask::write_request` meets its contract: the start, and then the destinations. Assumes nothing.
+-- `originate::ask::write_request` meets its contract: the start, and then the destinations.
 use borrow.Author.Needs.{needs}
 use Rattle.originate.proofs.Asked.{asked-written}
 use Rattle.originate.proofs.ask.write_request.Statement.{statement}

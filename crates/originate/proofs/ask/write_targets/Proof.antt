@@ -1,10 +1,10 @@
--- `originate::ask::write_targets` meets its contract: what is left to write makes the whole. Assumes nothing.
+-- `originate::ask::write_targets` meets its contract: what is left to write makes the whole.
 use Prim.Native.Nat.{_+_, _-_, _*_, _≤_}
 use mathlib.Core.Path.{_≡_}
 use mathlib.Core.List.{flatMap, map}
 use lib.ListN.{length}
 use borrow.Author.Needs.{needs}
-use Rattle.octets.specs.LittleEndian.{over}
+use Rattle.octets.specs.LittleEndian.{overwrite}
 use Rattle.element.specs.Entries.{each, itemAt, targetOctets}
 use Rattle.element.proofs.Written.{entries-ended}
 use Rattle.rules.specs.Originate.{askedFor}
@@ -15,8 +15,8 @@ use Rattle.originate.proofs.ask.write_targets.Tie as tie
 abbrev Inv-loop : tie.InvT-loop
 Inv-loop output₀ at table items n place₀ i₀ output place i =
     (i ≤ n) × (length output ≡ length output₀) × (place ≡ at + 11 * i)
-    × (over output place (flatMap (askedOctets table) (each (itemAt items) i (n - i)))
-    ≡ over output₀ at (flatMap targetOctets (map (askedFor table) (each (itemAt items) 0 n))))
+    × (overwrite output place (flatMap (askedOctets table) (each (itemAt items) i (n - i)))
+    ≡ overwrite output₀ at (flatMap targetOctets (map (askedFor table) (each (itemAt items) 0 n))))
 
 abbrev μ-loop : tie.MeasureT-loop
 μ-loop output₀ at table items n place₀ i₀ output place i = n - i

@@ -1,4 +1,4 @@
--- `originate::root_request::root_request` meets its contract: by its check, and by what an accepted one sends. Assumes nothing.
+-- `originate::root_request::root_request` meets its contract: by its check, and by what an accepted one sends.
 use borrow.Author.Needs.{needs}
 use Rattle.calls.proofs.Checks.{table-sized, output-long}
 use Rattle.originate.proofs.Originated.{root-refused, root-accepted}

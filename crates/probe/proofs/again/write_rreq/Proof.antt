@@ -1,4 +1,4 @@
--- `probe::again::write_rreq` meets its contract: written if it fits, both ways alike. Assumes nothing.
+-- `probe::again::write_rreq` meets its contract: written if it fits, both ways alike.
 use borrow.Author.Needs.{needs}
 use Rattle.element.proofs.Written.{rreq-listed}
 use Rattle.probe.proofs.Frames.{whole-room, start-room, list-room, no-room, wrote, rreq-size}

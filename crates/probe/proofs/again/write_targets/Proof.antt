@@ -1,10 +1,10 @@
--- `probe::again::write_targets` meets its contract: what is left to write makes the whole. Assumes nothing.
+-- `probe::again::write_targets` meets its contract: what is left to write makes the whole.
 use Prim.Native.Nat.{_+_, _-_, _*_, _≤_}
 use mathlib.Core.Path.{_≡_}
 use mathlib.Core.List.{flatMap}
 use lib.ListN.{length}
 use borrow.Author.Needs.{needs}
-use Rattle.octets.specs.LittleEndian.{over}
+use Rattle.octets.specs.LittleEndian.{overwrite}
 use Rattle.element.specs.Entries.{each, targetAt, targetOctets}
 use Rattle.element.proofs.Written.{entries-start, entries-ended}
 use Rattle.probe.proofs.Entries.{target-octets-more}
@@ -14,7 +14,7 @@ use Rattle.probe.proofs.again.write_targets.Tie as tie
 abbrev Inv-loop : tie.InvT-loop
 Inv-loop out₀ at part n place₀ i₀ out place i =
     (i ≤ n) × (length out ≡ length out₀) × (place ≡ at + 11 * i)
-    × (over out place (flatMap targetOctets (each (targetAt part) i (n - i))) ≡ over out₀ at (flatMap targetOctets (each (targetAt part) 0 n)))
+    × (overwrite out place (flatMap targetOctets (each (targetAt part) i (n - i))) ≡ overwrite out₀ at (flatMap targetOctets (each (targetAt part) 0 n)))
 
 abbrev μ-loop : tie.MeasureT-loop
 μ-loop out₀ at part n place₀ i₀ out place i = n - i

@@ -1,4 +1,4 @@
--- `probe::numbers::put_rerr` meets its contract: the fixed part, and then the entries. Assumes nothing.
+-- `probe::numbers::put_rerr` meets its contract: the fixed part, and then the entries.
 use borrow.Author.Needs.{needs}
 use Rattle.probe.proofs.Elements.{rerr-put}
 use Rattle.probe.proofs.numbers.put_rerr.Statement.{statement}

@@ -1,4 +1,4 @@
--- `receive::faults::of_rrep` meets its contract: by what its definition unfolds to. Assumes nothing.
+-- `receive::faults::of_rrep` meets its contract: by what its definition unfolds to.
 use borrow.Author.Needs.{needs}
 use Rattle.rules.specs.Receive.{hasBadAddress, hasBadList, isLowTtlReply}
 use Rattle.receive.specs.Checks.{faultsOf}

@@ -1,6 +1,6 @@
--- `receive::faults::rreq_has_bad_list` meets its contract: the first fault decides. Assumes nothing.
+-- `receive::faults::rreq_has_bad_list` meets its contract: the first fault decides.
 use borrow.Author.Needs.{needs}
-use Rattle.receive.proofs.Faulty.{named-twice, ones-beside, originator-named, unicast-to-many}
+use Rattle.receive.proofs.Faulty.{named-duplicate, ones-beside, originator-named, unicast-to-many}
 use Rattle.receive.proofs.faults.rreq_has_bad_list.Statement.{statement}
 use Rattle.receive.proofs.faults.rreq_has_bad_list.Tie as tie
 
@@ -9,7 +9,7 @@ rreq-has-bad-list-spec =
     tie.close
     (tie.spec
     (λ c κs. search needs)
-    (λ c. search named-twice)
+    (λ c. search named-duplicate)
     (λ c κs. search needs)
     (λ c. search ones-beside)
     (λ c κs. search needs)

@@ -1,4 +1,4 @@
--- `receive::path::learn_by_rows` meets its contract: one check of the list after another, and then what is learnt. Assumes nothing.
+-- `receive::path::learn_by_rows` meets its contract: one check of the list after another, and then what is learnt.
 use borrow.Author.Needs.{needs}
 use Rattle.table.proofs.ByHead.{by-head}
 use Rattle.calls.proofs.Checks.{checking}

@@ -1,4 +1,4 @@
--- `table::address::read` meets its contract: by what it calls. Assumes nothing.
+-- `table::address::read` meets its contract: by what it calls.
 use borrow.Author.Needs.{needs}
 use Rattle.table.proofs.address.read.Statement.{statement}
 use Rattle.table.proofs.address.read.Tie as tie

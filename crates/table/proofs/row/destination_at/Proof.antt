@@ -1,4 +1,4 @@
--- `table::row::destination_at` meets its contract: by what its definition unfolds to. Assumes nothing.
+-- `table::row::destination_at` meets its contract: by what its definition unfolds to.
 use borrow.Author.Needs.{needs}
 use Rattle.octets.specs.LittleEndian.{fieldsAt}
 use Rattle.table.specs.Layout.{rowAt}

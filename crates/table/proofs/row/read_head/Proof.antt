@@ -1,4 +1,4 @@
--- `table::row::read_head` meets its contract: by what its definition unfolds to. Assumes nothing.
+-- `table::row::read_head` meets its contract: by what its definition unfolds to.
 use borrow.Author.Needs.{needs}
 use Rattle.octets.specs.LittleEndian.{fieldsAt}
 use Rattle.table.specs.Layout.{headAt}

@@ -1,4 +1,4 @@
--- `table::row::read_row` meets its contract: field by field. Assumes nothing.
+-- `table::row::read_row` meets its contract: field by field.
 use borrow.Author.Needs.{needs}
 use Rattle.table.proofs.HeadAndRows.{read}
 use Rattle.table.proofs.row.read_row.Statement.{statement}

@@ -1,4 +1,4 @@
--- `table::row::status_at` meets its contract: by what its definition unfolds to. Assumes nothing.
+-- `table::row::status_at` meets its contract: by what its definition unfolds to.
 use borrow.Author.Needs.{needs}
 use native.Mathlib.Nat.{add-zero}
 use Rattle.octets.specs.LittleEndian.{fieldsAt}

@@ -1,4 +1,4 @@
--- `table::row::write_head` meets its contract: its numbers are written side by side. Assumes nothing.
+-- `table::row::write_head` meets its contract: its numbers are written side by side.
 use borrow.Author.Needs.{needs}
 use Rattle.octets.specs.LittleEndian.{total}
 use Rattle.table.specs.Layout.{putHead}

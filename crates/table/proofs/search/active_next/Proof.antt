@@ -1,4 +1,4 @@
--- `table::search::active_next` meets its contract: each return is a case of `activeNext`. Assumes nothing.
+-- `table::search::active_next` meets its contract: each return is a case of `activeNext`.
 use borrow.Author.Needs.{needs}
 use Rattle.table.proofs.Cases.{found-within, next-absent, next-inactive, next-active}
 use Rattle.table.proofs.search.active_next.Statement.{statement}

@@ -1,4 +1,4 @@
--- `table::search::count_vacant` meets its contract: `found` counts the places passed that are free. Assumes nothing.
+-- `table::search::count_vacant` meets its contract: `found` counts the places passed that are free.
 use borrow.Author.Needs.{needs}
 use Prim.Native.Nat.{_≤_, _-_}
 use mathlib.Core.Path.{_≡_}

@@ -1,4 +1,4 @@
--- `table::store::make_fresh` meets its contract: the head is written over what stood there, and then the rows are cleared. Assumes nothing.
+-- `table::store::make_fresh` meets its contract: the head is written over what stood there, and then the rows are cleared.
 use borrow.Author.Needs.{needs}
 use Rattle.table.proofs.Heads.{fresh-written}
 use Rattle.table.proofs.store.make_fresh.Statement.{statement}

@@ -1,4 +1,4 @@
--- `table_calls::forget::forget` meets its contract: the row that was found is freed, or nothing changes. Assumes nothing.
+-- `table_calls::forget::forget` meets its contract: the row that was found is freed, or nothing changes.
 use borrow.Author.Needs.{needs}
 use Rattle.table_calls.proofs.Cases.{row-within, forgotten, not-forgotten}
 use Rattle.table_calls.proofs.forget.forget.Statement.{statement}

@@ -1,4 +1,4 @@
--- `table_calls::forget::row_to_free` meets its contract: each return is a case of `forget`. Assumes nothing.
+-- `table_calls::forget::row_to_free` meets its contract: each return is a case of `forget`.
 use borrow.Author.Needs.{needs}
 use Rattle.calls.proofs.Checks.{passes-1}
 use Rattle.table_calls.proofs.Cases.{forget-1, forget-9, forget-21, forget-row, forget-29}

@@ -1,4 +1,4 @@
--- `table_calls::fresh::make_fresh` meets its contract: each return is a case of `makeFresh`. Assumes nothing.
+-- `table_calls::fresh::make_fresh` meets its contract: each return is a case of `makeFresh`.
 use borrow.Author.Needs.{needs}
 use Rattle.calls.proofs.Checks.{passes-1}
 use Rattle.table_calls.proofs.Cases.{fresh-1, fresh-9, fresh-made}

@@ -1,4 +1,4 @@
--- `table_calls::next_hop::next_hop` meets its contract: each return is a case of `nextHop`. Assumes nothing.
+-- `table_calls::next_hop::next_hop` meets its contract: each return is a case of `nextHop`.
 use borrow.Author.Needs.{needs}
 use Rattle.calls.proofs.Checks.{passes-1}
 use Rattle.table_calls.proofs.Cases.{hop-1, hop-3, hop-9, hop-21, hop-22, hop-28, hop-via}

@@ -1,4 +1,4 @@
--- `walk::pieces::has_later_clock` meets its contract: no table passed has a later clock. Assumes nothing.
+-- `walk::pieces::has_later_clock` meets its contract: no table passed has a later clock.
 use Prim.Native.Nat.{_-_}
 use mathlib.Core.Path.{_≡_}
 use borrow.Author.Needs.{needs}

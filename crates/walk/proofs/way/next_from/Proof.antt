@@ -1,4 +1,4 @@
--- `walk::way::next_from` meets its contract: no point passed has the address. Assumes nothing.
+-- `walk::way::next_from` meets its contract: no point passed has the address.
 use Prim.Native.Nat.{_-_}
 use mathlib.Core.Path.{_≡_}
 use borrow.Author.Needs.{needs}

@@ -1,4 +1,4 @@
--- `table::address::Address::is_individual` meets its contract: by what its definition unfolds to. Assumes nothing.
+-- `table::address::Address::is_individual` meets its contract: by what its definition unfolds to.
 use Rattle.table.specs.Address.{individual}
 use Rattle.table.proofs.address.Address.is_individual.Statement.{statement}
 use Rattle.table.proofs.address.Address.is_individual.Tie as tie

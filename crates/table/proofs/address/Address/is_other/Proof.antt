@@ -1,4 +1,4 @@
--- `table::address::Address::is_other` meets its contract: by what its definition unfolds to. Assumes nothing.
+-- `table::address::Address::is_other` meets its contract: by what its definition unfolds to.
 use borrow.Author.Needs.{needs}
 use Rattle.table.specs.Row.{isOther}
 use Rattle.table.proofs.address.Address.is_other.Statement.{statement}

@@ -1,4 +1,4 @@
--- `table::row::Head::is_ok` meets its contract: the own address decides, and then the rest. Assumes nothing.
+-- `table::row::Head::is_ok` meets its contract: the own address decides, and then the rest.
 use borrow.Author.Needs.{needs}
 use borrow.Author.Tests.{not-true, not-false}
 use Rattle.table.proofs.Cases.{head-stranger, head-rest}

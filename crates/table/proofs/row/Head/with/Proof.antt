@@ -1,4 +1,4 @@
--- `table::row::Head::with` meets its contract: by what its definition unfolds to. Assumes nothing.
+-- `table::row::Head::with` meets its contract: by what its definition unfolds to.
 use Rattle.table.specs.Row.{headWith}
 use Rattle.table.proofs.row.Head.with.Statement.{statement}
 use Rattle.table.proofs.row.Head.with.Tie as tie

@@ -1,4 +1,4 @@
--- `table::row::Row::bounds_ok` meets its contract: by what its definition unfolds to. Assumes nothing.
+-- `table::row::Row::bounds_ok` meets its contract: by what its definition unfolds to.
 use Rattle.table.specs.Row.{boundsOk}
 use Rattle.table.proofs.row.Row.bounds_ok.Statement.{statement}
 use Rattle.table.proofs.row.Row.bounds_ok.Tie as tie

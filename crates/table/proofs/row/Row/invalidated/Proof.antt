@@ -1,4 +1,4 @@
--- `table::row::Row::invalidated` meets its contract: by what its definition unfolds to. Assumes nothing.
+-- `table::row::Row::invalidated` meets its contract: by what its definition unfolds to.
 use Rattle.table.specs.Row.{invalidated}
 use Rattle.table.proofs.row.Row.invalidated.Statement.{statement}
 use Rattle.table.proofs.row.Row.invalidated.Tie as tie

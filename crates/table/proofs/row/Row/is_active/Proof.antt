@@ -1,4 +1,4 @@
--- `table::row::Row::is_active` meets its contract: by what its definition unfolds to. Assumes nothing.
+-- `table::row::Row::is_active` meets its contract: by what its definition unfolds to.
 use Rattle.table.specs.Row.{active}
 use Rattle.table.proofs.row.Row.is_active.Statement.{statement}
 use Rattle.table.proofs.row.Row.is_active.Tie as tie

@@ -1,4 +1,4 @@
--- `table::row::Row::is_held` meets its contract: the first part of `isHeld` that fails decides. Assumes nothing.
+-- `table::row::Row::is_held` meets its contract: the first part of `isHeld` that fails decides.
 use borrow.Author.Needs.{needs}
 use borrow.Author.Tests.{not-true, not-false}
 use Rattle.table.proofs.Cases.{held-status-bad, held-destination, held-next, held-bounds-bad, held-numbered, held-unnumbered}

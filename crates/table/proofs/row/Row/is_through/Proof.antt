@@ -1,4 +1,4 @@
--- `table::row::Row::is_through` meets its contract: by what it calls. Assumes nothing.
+-- `table::row::Row::is_through` meets its contract: by what it calls.
 use borrow.Author.Needs.{needs}
 use Rattle.table.proofs.Cases.{through-is}
 use Rattle.table.proofs.row.Row.is_through.Statement.{statement}

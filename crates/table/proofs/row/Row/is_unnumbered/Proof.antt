@@ -1,4 +1,4 @@
--- `table::row::Row::is_unnumbered` meets its contract: by what its definition unfolds to. Assumes nothing.
+-- `table::row::Row::is_unnumbered` meets its contract: by what its definition unfolds to.
 use Rattle.table.specs.Row.{isUnnumbered}
 use Rattle.table.proofs.row.Row.is_unnumbered.Statement.{statement}
 use Rattle.table.proofs.row.Row.is_unnumbered.Tie as tie

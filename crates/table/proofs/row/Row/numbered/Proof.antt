@@ -1,4 +1,4 @@
--- `table::row::Row::numbered` meets its contract: by what its definition unfolds to. Assumes nothing.
+-- `table::row::Row::numbered` meets its contract: by what its definition unfolds to.
 use Rattle.table.specs.Row.{numbered}
 use Rattle.table.proofs.row.Row.numbered.Statement.{statement}
 use Rattle.table.proofs.row.Row.numbered.Tie as tie

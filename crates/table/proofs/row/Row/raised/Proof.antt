@@ -1,4 +1,4 @@
--- `table::row::Row::raised` meets its contract: by what its definition unfolds to. Assumes nothing.
+-- `table::row::Row::raised` meets its contract: by what its definition unfolds to.
 use Rattle.table.specs.Row.{raised}
 use Rattle.table.proofs.row.Row.raised.Statement.{statement}
 use Rattle.table.proofs.row.Row.raised.Tie as tie

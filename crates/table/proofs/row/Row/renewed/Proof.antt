@@ -1,4 +1,4 @@
--- `table::row::Row::renewed` meets its contract: by what its definition unfolds to. Assumes nothing.
+-- `table::row::Row::renewed` meets its contract: by what its definition unfolds to.
 use Rattle.table.specs.Row.{renewed}
 use Rattle.table.proofs.row.Row.renewed.Statement.{statement}
 use Rattle.table.proofs.row.Row.renewed.Tie as tie

@@ -1,4 +1,4 @@
--- `table::row::Row::status_ok` meets its contract: by what its definition unfolds to. Assumes nothing.
+-- `table::row::Row::status_ok` meets its contract: by what its definition unfolds to.
 use Rattle.table.specs.Row.{statusOk}
 use Rattle.table.proofs.row.Row.status_ok.Statement.{statement}
 use Rattle.table.proofs.row.Row.status_ok.Tie as tie

@@ -1,8 +1,8 @@
--- Calls that may emit frames: what an accepted one leaves, and what stands at exit. Assumes nothing.
+-- Calls that may emit frames: what an accepted one leaves, and what stands at exit.
 use Prim.Native.Nat.{ℕ}
 use mathlib.Core.List.{List, flatMap}
 use lib.ListN.{length}
-use Rattle.octets.specs.LittleEndian.{over}
+use Rattle.octets.specs.LittleEndian.{overwrite}
 use Rattle.counters.specs.declared.SequenceNumber.{SequenceNumber}
 use Rattle.table.specs.declared.address.Address.{Address}
 use Rattle.table.specs.Row.{headWith}
@@ -70,5 +70,15 @@ atExit l output (accepted e) =
       frames = length (e .frames);
       octets = length (frameOctets (e .frames));
       lent = e .lent;
-      output = over output 0 (frameOctets (e .frames));
+      output = overwrite output 0 (frameOctets (e .frames));
     }
+
+-- of a call that writes no frame: the answer, and what stands in the table
+pub record TableExit : Type 0 where
+  pub answer : ℕ
+  pub table : List ℕ
+
+-- an acceptance answers 0; a refusal answers its number and leaves the table t as it was
+abbrev pub tableAtExit : List ℕ → Decision (List ℕ) → TableExit
+tableAtExit t (refused n) = record { answer = n; table = t }
+tableAtExit t (accepted u) = record { answer = 0; table = u }

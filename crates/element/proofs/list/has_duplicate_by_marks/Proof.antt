@@ -1,4 +1,4 @@
--- `element::list::has_twice_by_marks` meets its contract: the entries passed have no address twice, and are marked.
+-- `element::list::has_duplicate_by_marks` meets its contract: the entries passed have no address twice, and are marked.
 use Prim.Native.Nat.{_+_, _≤_}
 use mathlib.Core.Path.{_≡_}
 use mathlib.Core.Bool.{false}
@@ -6,27 +6,27 @@ use lib.ListN.{length}
 use borrow.Author.Needs.{needs}
 use Rattle.table.proofs.Marks.{Marked, mark-in}
 use Rattle.element.specs.Entries.{entriesIn}
-use Rattle.element.specs.Lists.{addressIn, addressesFrom, twice}
-use Rattle.element.proofs.Marking.{none-twice, none-marked, before-within, again-found, before-marked, still-once, all-once}
-use Rattle.element.proofs.list.has_twice_by_marks.Statement.{statement}
-use Rattle.element.proofs.list.has_twice_by_marks.Tie as tie
+use Rattle.element.specs.Lists.{addressIn, addressesFrom, hasDuplicate}
+use Rattle.element.proofs.Marking.{no-duplicate, none-marked, before-within, again-found, before-marked, still-once, all-once}
+use Rattle.element.proofs.list.has_duplicate_by_marks.Statement.{statement}
+use Rattle.element.proofs.list.has_duplicate_by_marks.Tie as tie
 
 abbrev Inv-loop : tie.InvT-loop
 Inv-loop part kind seen₀ last from₀ seen from =
     (from ≤ entriesIn kind part) × (length seen ≡ last + 1) × Marked (addressIn kind part) seen last from (entriesIn kind part)
-    × (twice (addressesFrom kind part from) ≡ false)
+    × (hasDuplicate (addressesFrom kind part from) ≡ false)
 
 abbrev μ-loop : tie.MeasureT-loop
 μ-loop part kind seen₀ last from₀ seen from = from
 
-pub has-twice-by-marks-spec : {M : Type 1} → statement M
-has-twice-by-marks-spec =
+pub has-duplicate-by-marks-spec : {M : Type 1} → statement M
+has-duplicate-by-marks-spec =
     tie.close
     (tie.spec
     Inv-loop
     μ-loop
     (λ c κs. search needs)
-    (λ c. search (needs, none-marked, none-twice))
+    (λ c. search (needs, none-marked, no-duplicate))
     (λ c. search needs)
     (λ c κs. search (needs, before-within))
     (λ c κs. search needs)
