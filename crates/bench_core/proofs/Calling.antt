@@ -6,8 +6,8 @@ use lib.ListN.{take, drop}
 use borrow.Author.Tests.{lt-ltb, le-ltb}
 use borrow.Rule.Slice.PartMut.{putMid}
 use Rattle.octets.specs.LittleEndian.{zeros}
-use Rattle.table.specs.declared.address.Address.{Address}
-use Rattle.table.specs.Address.{addressOf}
+use Rattle.layout.specs.declared.address.Address.{Address}
+use Rattle.layout.specs.Address.{addressOf}
 use Rattle.rules.specs.Decision.{Decision}
 use Rattle.rules.specs.Exit.{lend, Effect, atExit}
 use Rattle.rules.specs.Walk.{tableAt}

@@ -8,9 +8,9 @@ use native.Mathlib.Omega.{arith}
 use borrow.Author.Tests.{lt-ltb, le-ltb}
 use borrow.Rule.Slice.PartMut.{putMid, put-same}
 use Rattle.counters.specs.declared.SequenceNumber.{SequenceNumber}
-use Rattle.table.specs.declared.address.Address.{Address}
-use Rattle.table.specs.Address.{individual, addressOf}
-use Rattle.table.specs.Layout.{sized}
+use Rattle.layout.specs.declared.address.Address.{Address}
+use Rattle.layout.specs.Address.{individual, addressOf}
+use Rattle.layout.specs.Layout.{sized}
 use Rattle.table.specs.Table.{fresh}
 use Rattle.rules.specs.Decision.{Decision, refused, accepted}
 use Rattle.rules.specs.Exit.{TableExit, tableAtExit}
@@ -24,7 +24,7 @@ use Rattle.walk.specs.Answers.{walkDecision, numbersOf}
 use Rattle.bench_core.specs.declared.State.{State}
 use Rattle.bench_core.specs.declared.Done.{Done}
 use Rattle.bench_core.specs.declared.Done.the-variants.{Fault}
-use Rattle.bench_core.specs.Links.{linked}
+use Rattle.bench_links.specs.Links.{linked}
 use Rattle.bench_core.specs.Commands.{addPoint, advance, link, walkedLine, walkTo}
 use Rattle.bench_core.specs.InCode.{benchOf, printed, Adds, Advances, Links, Walks}
 use Rattle.bench_core.proofs.Settling.{put-back}

@@ -5,8 +5,8 @@ use mathlib.Core.List.{List, _++_}
 use lib.Dec.{ltb}
 use lib.ListN.{take, drop}
 use Rattle.octets.specs.LittleEndian.{zeros}
-use Rattle.table.specs.declared.address.Address.{Address}
-use Rattle.table.specs.Address.{addressOf}
+use Rattle.layout.specs.declared.address.Address.{Address}
+use Rattle.layout.specs.Address.{addressOf}
 use Rattle.rules.specs.Decision.{Decision, _above_}
 use Rattle.rules.specs.Exit.{lend, Effect, Exit, atExit, leastOutput}
 use Rattle.rules.specs.Walk.{tableAt}

@@ -5,10 +5,10 @@ use mathlib.Core.Bool.{_&&_, cond}
 use mathlib.Core.List.{List}
 use lib.Dec.{ltb}
 use lib.ListN.{take}
-use Rattle.table.specs.Row.{maxClock}
+use Rattle.layout.specs.Row.{maxClock}
 use Rattle.counters.specs.declared.SequenceNumber.{SequenceNumber}
-use Rattle.table.specs.declared.address.Address.{Address}
-use Rattle.table.specs.Address.{addressOf}
+use Rattle.layout.specs.declared.address.Address.{Address}
+use Rattle.layout.specs.Address.{addressOf}
 use Rattle.rules.specs.Exit.{lend, leastOutput}
 use Rattle.rules.specs.Decision.{Decision, refused, accepted, _above_, _below_}
 use Rattle.rules.specs.declared.Arrival.{Arrival}
@@ -17,7 +17,7 @@ use Rattle.rules.specs.Originate.{ask, announce}
 use Rattle.rules.specs.Receive.{receive}
 use Rattle.rules.specs.Break.{breakNeighbour}
 use Rattle.rules.specs.Walk.{Walked, tableAt, walkedAtExit, walk}
-use Rattle.bench_core.specs.Links.{metricOf, linked}
+use Rattle.bench_links.specs.Links.{metricOf, linked}
 use Rattle.bench_core.specs.Frames.{senderOf, elementOf}
 use Rattle.bench_core.specs.Bench.{
   Bench,

@@ -4,9 +4,9 @@ use mathlib.Core.Path.{_≡_}
 use mathlib.Core.Bool.{cond}
 use mathlib.Core.List.{List}
 use lib.ListN.{length}
-use Rattle.table.specs.Row.{maxClock}
+use Rattle.layout.specs.Row.{maxClock}
 use Rattle.counters.specs.declared.SequenceNumber.{SequenceNumber}
-use Rattle.table.specs.declared.address.Address.{Address}
+use Rattle.layout.specs.declared.address.Address.{Address}
 use Rattle.rules.specs.Decision.{_above_}
 use Rattle.calls.specs.declared.Outcome.{Outcome}
 use Rattle.calls.specs.declared.Outcome.the-variants.{Accepted, Refused}

@@ -2,15 +2,15 @@
 use crate::Done;
 use crate::State;
 use counters::SequenceNumber;
-use table::address::Address;
-use table::legal;
+use layout::address::Address;
+use layout::row;
 use table_calls::fresh;
 use walk::pieces;
 ghost use mathlib.Core.Path.{_≡_};
 ghost use Prim.Native.Nat.{_<_, _≤_};
 ghost use lib.ListN.{length};
-ghost use Rattle.table.specs.Row.{maxClock};
-ghost use Rattle.table.specs.Address.{addressOf};
+ghost use Rattle.layout.specs.Row.{maxClock};
+ghost use Rattle.layout.specs.Address.{addressOf};
 ghost use Rattle.rules.specs.Walk.{tableAt};
 ghost use Rattle.bench_core.specs.InCode.{Adds, Advances, Walks};
 
@@ -55,7 +55,7 @@ pub fn advance_clock(s: State, by: u32) -> Done
     ensures { λ r. ⌜ Advances r s by ⌝ }
 {
     let clock = s.clock + by as u64;
-    if legal::MAX_CLOCK < clock {
+    if row::MAX_CLOCK < clock {
         return Done::Fault;
     }
     let after = State {

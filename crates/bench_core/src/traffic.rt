@@ -2,7 +2,6 @@
 use crate::Done;
 use crate::State;
 use crate::frames;
-use crate::links;
 use crate::points;
 use crate::points::TABLE;
 use crate::settle;
@@ -63,7 +62,7 @@ fn arrival_from(tables: &[u8], links: &[[u32; 16]; 16], clock: u64, sender: u8, 
     Arrival {
         clock,
         transmitter: points::address_of(tables, sender as usize),
-        link: Metric(links::metric_between(links, sender as usize, p as usize)),
+        link: Metric(bench_links::metric_between(links, sender as usize, p as usize)),
     }
 }
 

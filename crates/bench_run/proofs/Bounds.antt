@@ -10,7 +10,7 @@ use native.Mathlib.Nat.{pos-of-ne-zero}
 use borrow.Author.Tests.{ltb-true, ltb-false, eqb-false}
 use Rattle.octets.specs.LittleEndian.{numberAt}
 use Rattle.counters.specs.declared.SequenceNumber.{SequenceNumber}
-use Rattle.table.specs.declared.address.Address.{Address}
+use Rattle.layout.specs.declared.address.Address.{Address}
 use Rattle.rules.specs.Decision.{Decision, refused, accepted}
 use Rattle.rules.specs.Fresh.{makeFresh}
 use Rattle.rules.specs.Exit.{Exit, lend}

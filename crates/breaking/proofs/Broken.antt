@@ -10,12 +10,12 @@ use native.Mathlib.Omega.{arith}
 use borrow.Author.Tests.{eq-eqb, ne-eqb, not-true, not-false}
 use Rattle.octets.specs.LittleEndian.{overwrite}
 use Rattle.octets.proofs.OctetLists.{overwrite-append}
-use Rattle.table.specs.declared.address.Address.{Address}
-use Rattle.table.specs.declared.row.Head.{Head}
-use Rattle.table.specs.declared.row.Row.{Row}
-use Rattle.table.specs.Address.{same}
-use Rattle.table.specs.Row.{headWith, active, invalidated, raised, isThrough}
-use Rattle.table.specs.Layout.{headAt, putHead, rows, place, rowAt, putRow, rowOctets, headOctets, Sized, mostRows}
+use Rattle.layout.specs.declared.address.Address.{Address}
+use Rattle.layout.specs.declared.row.Head.{Head}
+use Rattle.layout.specs.declared.row.Row.{Row}
+use Rattle.layout.specs.Address.{same}
+use Rattle.layout.specs.Row.{headWith, active, invalidated, raised, isThrough}
+use Rattle.layout.specs.Layout.{headAt, putHead, rows, place, rowAt, putRow, rowOctets, headOctets, Sized, mostRows}
 use Rattle.table.specs.Table.{number, changeAt, changeBelow, changeWhere}
 use Rattle.table.proofs.Changes.{below-other, row-stays, row-changed, below-start, below-more, below-ended, below-all}
 use Rattle.counters.specs.declared.SequenceNumber.{SequenceNumber}

@@ -20,7 +20,7 @@ use Rattle.element.specs.Octets.{frameStart, writeFrame}
 use Rattle.element.proofs.Sizes.{start-length}
 use Rattle.element.proofs.Scans.{each-length}
 use Rattle.element.proofs.ListParts.{losses-length}
-use Rattle.element.proofs.Written.{frame-parts, lost-length}
+use Rattle.writing.proofs.Written.{frame-parts, lost-length}
 use Rattle.rules.specs.Exit.{Frame, frameOctets}
 use Rattle.rules.specs.Errors.{ownError, errorAt, errorsTaken, errorsFor}
 use Rattle.breaking.specs.Reports.{octetsFor, errorStart, begunBefore, begunAfter, filledBy, begunFor, reportedAfter, closed}

@@ -5,14 +5,13 @@ use calls::Emitted;
 use element::LostDestination;
 use element::RerrFields;
 use element::list;
-use element::write;
-use table::address::Address;
+use layout::address::Address;
 ghost use mathlib.Core.Path.{_≡_};
 ghost use mathlib.Core.List.{[], _∷_};
 ghost use Prim.Native.Nat.{_+_, _≤_};
 ghost use lib.ListN.{length};
 ghost use Rattle.octets.specs.LittleEndian.{overwrite};
-ghost use Rattle.table.specs.Layout.{mostRows};
+ghost use Rattle.layout.specs.Layout.{mostRows};
 ghost use Rattle.rules.specs.Errors.{errorsTaken};
 ghost use Rattle.breaking.specs.Reports.{begunAfter, begunBefore, begunFor, closed, errorStart};
 ghost use Rattle.breaking.specs.Reports.{filledBy, octetsFor, reportedAfter};
@@ -54,7 +53,7 @@ fn begin(out: &mut [u8], at: usize, n: usize) -> usize
     ensures { λ _. ⌜ now (out .exit) ≡ overwrite (now (out .entry)) at (errorStart n) ⌝ }
 {
     let fields = RerrFields { flags: 0 };
-    write::start_rerr(out, at, Address(list::ALL_ONES), fields, n)
+    writing::start_rerr(out, at, Address(list::ALL_ONES), fields, n)
 }
 
 // Begins a RERR after what was reported before, if that fills those begun.
@@ -83,7 +82,7 @@ pub fn add(out: &mut [u8], before: Reported, entry: LostDestination) -> Reported
     ensures { λ _. ⌜ now (out .exit) ≡ overwrite (now (out .entry)) (before .place) (begunAfter (before .lost) (entry ∷ [])) ⌝ }
 {
     let begun = begin_if_full(out, before);
-    let place = write::write_lost(out, begun.place, entry);
+    let place = writing::write_lost(out, begun.place, entry);
     let lost = before.lost + 1;
     let full = begun.full;
     Reported { lost, place, full }
@@ -103,7 +102,7 @@ pub fn close(out: &mut [u8], at: usize, reported: Reported)
     let n = reported.lost + MOST_LOST - reported.full;
     begin(
         out,
-        reported.place - (write::RERR_START + list::LOST * n),
+        reported.place - (writing::RERR_START + list::LOST * n),
         n,
     );
 }

@@ -1,13 +1,13 @@
 // The rows that a break loses.
-use table::address::Address;
-use table::row;
-use table::row::Row;
+use layout::address::Address;
+use layout::row;
+use layout::row::Row;
 use table::search;
 ghost use mathlib.Core.Path.{_≡_};
 ghost use Prim.Native.Nat.{_+_, _≤_};
 ghost use lib.ListN.{length};
-ghost use Rattle.table.specs.Layout.{place, rowOctets, Sized};
-ghost use Rattle.table.specs.Row.{isThrough};
+ghost use Rattle.layout.specs.Layout.{place, rowOctets, Sized};
+ghost use Rattle.layout.specs.Row.{isThrough};
 ghost use Rattle.table.specs.Table.{changeAt, changeBelow, changeWhere};
 ghost use Rattle.rules.specs.Errors.{broken, brokenEntries};
 

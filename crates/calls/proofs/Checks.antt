@@ -7,7 +7,7 @@ use lib.ListN.{length}
 use native.Mathlib.Omega.{arith}
 use borrow.Author.Tests.{eq-eqb, ne-eqb, lt-ltb, le-ltb, ltb-false, not-false}
 use Rattle.octets.specs.LittleEndian.{overwrite}
-use Rattle.table.specs.Layout.{sized, headOctets, Sized}
+use Rattle.layout.specs.Layout.{sized, headOctets, Sized}
 use Rattle.table.proofs.Cases.{of-size}
 use Rattle.rules.specs.Decision.{Decision, refused, accepted, Check, Ruling, judged, decide}
 use Rattle.rules.specs.Checks.{bufferChecks}

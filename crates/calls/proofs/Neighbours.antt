@@ -3,10 +3,10 @@ use Prim.Native.Nat.{ℕ, _≤_}
 use mathlib.Core.Path.{_≡_, ap, ap₂, _∙_}
 use mathlib.Core.List.{List}
 use lib.ListN.{length}
-use Rattle.table.specs.declared.address.Address.{Address}
-use Rattle.table.specs.declared.row.Head.{Head}
-use Rattle.table.specs.Row.{headWith}
-use Rattle.table.specs.Layout.{headAt, putHead, headOctets, Sized}
+use Rattle.layout.specs.declared.address.Address.{Address}
+use Rattle.layout.specs.declared.row.Head.{Head}
+use Rattle.layout.specs.Row.{headWith}
+use Rattle.layout.specs.Layout.{headAt, putHead, headOctets, Sized}
 use Rattle.table.specs.Table.{number}
 use Rattle.counters.specs.declared.SequenceNumber.{SequenceNumber}
 use Rattle.rules.specs.Checks.{operandChecks}

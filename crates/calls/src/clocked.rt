@@ -1,14 +1,14 @@
 // What receive and break have in common: an output, a neighbour, and a clock that is stored when the call is accepted.
 use crate::Answer;
 use counters::SequenceNumber;
-use table::address::Address;
+use layout::address::Address;
+use layout::row;
+use layout::row::Head;
 use table::legal;
-use table::row;
-use table::row::Head;
 ghost use mathlib.Core.Path.{_≡_};
 ghost use lib.ListN.{length};
-ghost use Rattle.table.specs.Row.{headWith};
-ghost use Rattle.table.specs.Layout.{putHead, Sized};
+ghost use Rattle.layout.specs.Row.{headWith};
+ghost use Rattle.layout.specs.Layout.{putHead, Sized};
 ghost use Rattle.rules.specs.Checks.{operandChecks, stateChecks};
 ghost use Rattle.calls.specs.Answers.{answerTo};
 
@@ -22,7 +22,7 @@ pub fn check_operands(table: &[u8], output: &[u8], clock: u64, neighbour: Addres
     if output.len() < crate::LEAST_OUTPUT {
         return Answer::Refused(refusals::SHORT_OUTPUT);
     }
-    if legal::MAX_CLOCK < clock {
+    if row::MAX_CLOCK < clock {
         return Answer::Refused(refusals::CLOCK_TOO_LARGE);
     }
     if !neighbour.is_individual() {

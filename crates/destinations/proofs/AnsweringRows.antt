@@ -7,11 +7,11 @@ use mathlib.Core.Option.{Option, none, some}
 use borrow.Author.Tests.{eq-eqb, ne-eqb, not-true, not-false}
 use Rattle.counters.specs.declared.SequenceNumber.{SequenceNumber}
 use Rattle.counters.specs.Numbers.{older}
-use Rattle.table.specs.declared.row.Row.{Row}
+use Rattle.layout.specs.declared.row.Row.{Row}
 use Rattle.table.specs.declared.search.Found.{Found}
 use Rattle.table.specs.declared.search.Found.the-variants.{At, Nothing}
-use Rattle.table.specs.Layout.{rowAt}
-use Rattle.table.specs.Row.{active}
+use Rattle.layout.specs.Layout.{rowAt}
+use Rattle.layout.specs.Row.{active}
 use Rattle.table.specs.Table.{findRow, rowFor}
 use Rattle.table.proofs.Cases.{row-at, row-none}
 use Rattle.element.specs.declared.PathInfo.{PathInfo}

@@ -12,10 +12,10 @@ use Rattle.octets.specs.LittleEndian.{overwrite}
 use Rattle.octets.proofs.OctetLists.{overwrite-append}
 use Rattle.counters.specs.declared.SequenceNumber.{SequenceNumber}
 use Rattle.counters.specs.Numbers.{nextNumber, newer}
-use Rattle.table.specs.declared.address.Address.{Address}
-use Rattle.table.specs.declared.row.Head.{Head}
-use Rattle.table.specs.declared.row.Row.{Row}
-use Rattle.table.specs.Layout.{headAt}
+use Rattle.layout.specs.declared.address.Address.{Address}
+use Rattle.layout.specs.declared.row.Head.{Head}
+use Rattle.layout.specs.declared.row.Row.{Row}
+use Rattle.layout.specs.Layout.{headAt}
 use Rattle.table.specs.Table.{own, rowFor}
 use Rattle.table.proofs.ByHead.{is-own, is-other}
 use Rattle.element.specs.declared.Kind.the-variants.{Rrep}
@@ -28,7 +28,7 @@ use Rattle.element.specs.Entries.{each, All, targetAt}
 use Rattle.element.specs.Octets.{frameStart, writeFrame}
 use Rattle.element.proofs.Scans.{each-next, each-end}
 use Rattle.element.proofs.Sizes.{frame-length}
-use Rattle.element.proofs.Written.{frame-parts}
+use Rattle.writing.proofs.Written.{frame-parts}
 use Rattle.rules.specs.declared.Arrival.{Arrival}
 use Rattle.element.specs.Flags.{replyWanted}
 use Rattle.rules.specs.Exit.{Frame, frameOctets}

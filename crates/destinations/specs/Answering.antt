@@ -4,7 +4,7 @@ use Prim.Native.Nat.{ℕ}
 use mathlib.Core.Bool.{cond}
 use mathlib.Core.List.{List}
 use mathlib.Core.Option.{Option, none, some}
-use Rattle.table.specs.declared.row.Row.{Row}
+use Rattle.layout.specs.declared.row.Row.{Row}
 use Rattle.table.specs.Table.{rowFor}
 use Rattle.element.specs.declared.Target.{Target}
 use Rattle.rules.specs.Destinations.{answersFor}

@@ -1,14 +1,14 @@
 // Whether this point answers for another.
 use element::Target;
 use element::flags;
-use table::row;
-use table::row::Row;
+use layout::row;
+use layout::row::Row;
 use table::search;
 use table::search::Found;
 ghost use mathlib.Core.Path.{_≡_};
 ghost use Rattle.rules.specs.Destinations.{answersFor};
 ghost use Rattle.destinations.specs.Answering.{answeringRow, answeringIn};
-ghost use Rattle.table.specs.Layout.{Sized};
+ghost use Rattle.layout.specs.Layout.{Sized};
 
 // The row that an intermediate reply is made from, if there is one.
 pub enum Answering {

@@ -10,18 +10,17 @@ use element::RrepFields;
 use element::Target;
 use element::flags;
 use element::list;
-use element::write;
+use layout::address::Address;
+use layout::row;
+use layout::row::Row;
 use rules::Arrival;
-use table::address::Address;
-use table::row;
-use table::row::Row;
 ghost use mathlib.Core.Path.{_≡_};
 ghost use mathlib.Core.List.{[], _∷_};
 ghost use Prim.Native.Nat.{_+_, _<_, _≤_};
 ghost use lib.ListN.{length};
 ghost use Rattle.octets.specs.LittleEndian.{overwrite};
 ghost use Rattle.table.specs.Table.{own, rowFor};
-ghost use Rattle.table.specs.Layout.{Sized};
+ghost use Rattle.layout.specs.Layout.{Sized};
 ghost use Rattle.element.specs.Layout.{PartOf};
 ghost use Rattle.element.specs.declared.Kind.{Kind};
 ghost use Rattle.element.specs.Element.{rrep};
@@ -86,7 +85,7 @@ fn write_reply(output: &mut [u8], at: usize, a: Arrival, f: RrepFields) -> usize
     ensures { λ _. ⌜ now (output .exit)
         ≡ overwrite (now (output .entry)) at (frameOctets (record { receiver = a .transmitter; element = rrep f [] } ∷ [])) ⌝ }
 {
-    write::start_rrep(output, at, a.transmitter, f, 0)
+    writing::start_rrep(output, at, a.transmitter, f, 0)
 }
 
 // The own number becomes the requested one if that is newer, then steps up by one.

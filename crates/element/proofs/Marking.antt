@@ -7,10 +7,10 @@ use lib.Dec.{eqb}
 use lib.ListN.{length, getD, set}
 use native.Mathlib.Omega.{arith}
 use borrow.Author.Tests.{eq-eqb, ne-eqb, eqb-true}
-use Rattle.table.specs.declared.address.Address.{Address}
-use Rattle.table.specs.Address.{same}
-use Rattle.table.specs.Marks.{mark}
-use Rattle.table.proofs.Marks.{Marked, marked-down, marked-none, unmarked}
+use Rattle.layout.specs.declared.address.Address.{Address}
+use Rattle.layout.specs.Address.{same}
+use Rattle.layout.specs.Marks.{mark}
+use Rattle.layout.proofs.Marks.{Marked, marked-down, marked-none, unmarked}
 use Rattle.element.specs.declared.list.ListKind.{ListKind}
 use Rattle.element.specs.Entries.{each, entriesIn}
 use Rattle.element.specs.Lists.{addressIn, addressesFrom, addressesIn, contains, hasDuplicate}

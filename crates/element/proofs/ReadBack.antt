@@ -16,12 +16,12 @@ use Rattle.element.specs.declared.Kind.the-variants.{Rann, Rreq, Rrep, R
 use Rattle.element.specs.Element.{Element, rann, rreq, rrep, rerr, kindOf, countOf, fieldNumbers}
 use Rattle.element.specs.Layout.{idOf, known, kindWith, lengthWith, countOk, fits, fieldWidths, lostWidths, numberedWidths, targetWidths}
 use Rattle.element.specs.Entries.{All, each, lostAt, numberedAt, targetAt}
-use Rattle.element.specs.Octets.{kindIn, countAs, wrongLength, otherId, misfit, fieldsAs, listAs, listPart, elementAs, readAs, readElement, fixedFields, reading, countPart, fixedOctets, listOctets, writeElement}
+use Rattle.element.specs.Octets.{kindIn, countAs, wrongLength, otherId, misfit, fieldsAs, listAs, listPart, elementAs, readAs, readElement, countPart, fixedOctets, listOctets, writeElement}
 use Rattle.element.proofs.Lengths.{least-length, id-octet, length-octet, count-octet}
 use Rattle.element.proofs.Scans.{each-length}
 use Rattle.element.proofs.ListParts.{FitsTarget, FitsNumbered, FitsLost, targets-octets, targets-read, targets-made, addresses-octets, addresses-read, addresses-made, losses-octets, losses-read, losses-made}
 use Rattle.element.proofs.Sizes.{fixed-length, element-length}
-use Rattle.element.proofs.Readings.{Passed, passed}
+use Rattle.element.proofs.Passing.{Passed, passed}
 
 -- ---- elements that octets can hold
 
@@ -122,11 +122,6 @@ pub passes-8 : (e : Element) → countOk (kindOf e) (countOf e) ≡ true → mis
 unfolding misfit fits
 passes-8 e h =
     rw (kind-there e, count-there e, length-there e, h, eq-eqb (lengthWith (kindOf e) (countOf e)) (lengthWith (kindOf e) (countOf e)) refl) refl
-
--- the reader answers the fixed fields that were written
-pub reads : (e : Element) → Fits e → reading (writeElement e) ≡ fixedFields e
-unfolding reading
-reads e f = rw (passes-6 e, passes-7 e, passes-8 e (f .count), read-back e f) refl
 
 -- ---- every octet written is one
 

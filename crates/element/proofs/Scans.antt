@@ -2,7 +2,7 @@
 use Prim.Native.Nat.{ℕ, zero, suc, _+_, _-_, _*_, _/_, _^_, _<_, _≤_}
 use mathlib.Core.Path.{_≡_, refl, sym, ap, _∙_}
 use mathlib.Core.Bool.{Bool, true, false, _&&_, _||_, not}
-use mathlib.Core.List.{List, [], _∷_, map}
+use mathlib.Core.List.{List, [], _∷_, _++_, append-assoc, flatMap, map}
 use lib.Dec.{ltb}
 use lib.ListN.{length}
 use native.Mathlib.Omega.{arith}
@@ -11,8 +11,8 @@ use mir.Syntax.{w64}
 use native.Mathlib.Nat.{add-zero, sub-zero}
 use borrow.Author.Tests.{eq-eqb, ne-eqb}
 use Rattle.octets.specs.LittleEndian.{numberAt, fieldsAt}
-use Rattle.table.specs.declared.address.Address.{Address}
-use Rattle.table.specs.Address.{same}
+use Rattle.layout.specs.declared.address.Address.{Address}
+use Rattle.layout.specs.Address.{same}
 use Rattle.element.specs.declared.list.ListKind.{ListKind}
 use Rattle.element.specs.declared.list.ListKind.the-variants.{Targets, Dependents, LostDestinations, Items}
 use Rattle.element.specs.declared.Item.{Item}
@@ -48,6 +48,13 @@ module _ {A : Type 0} (f : ℕ → A) where
 
   pub each-end : (i n : ℕ) → n ≤ i → each f i (n - i) ≡ []
   each-end i n l = let none : n - i ≡ 0 = omega arith in ap (λ (m : ℕ). each f i m) none ∙ each-none i
+
+-- the octets of two lists of entries
+pub listed-append : {A : Type 0} (write : A → List ℕ) (k l : List A) → flatMap write (k ++ l) ≡ flatMap write k ++ flatMap write l
+unfolding flatMap
+listed-append write [] l = refl
+listed-append write (x ∷ k) l =
+    ap (λ (m : List ℕ). write x ++ m) (listed-append write k l) ∙ sym (append-assoc (write x) (flatMap write k) (flatMap write l))
 
 pub map-each : {A B : Type 0} (g : A → B) (f : ℕ → A) (i n : ℕ) → map g (each f i n) ≡ each (λ (k : ℕ). g (f k)) i n
 unfolding each

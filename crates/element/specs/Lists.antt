@@ -5,8 +5,8 @@ use mathlib.Core.Bool.{Bool, false, _&&_, _||_, not}
 use mathlib.Core.List.{List, [], _∷_}
 use lib.Dec.{ltb}
 use lib.ListN.{length}
-use Rattle.table.specs.declared.address.Address.{Address}
-use Rattle.table.specs.Address.{individual, same}
+use Rattle.layout.specs.declared.address.Address.{Address}
+use Rattle.layout.specs.Address.{individual, same}
 use Rattle.element.specs.declared.list.ListKind.{ListKind}
 use Rattle.element.specs.declared.list.ListKind.the-variants.{Targets, Dependents, LostDestinations, Items}
 use Rattle.element.specs.Entries.{each, entriesIn, itemAt, lostAt, numberedAt, targetAt}

@@ -5,15 +5,13 @@ use mathlib.Core.List.{List, [], _∷_, _++_, flatMap}
 use lib.Dec.{eqb, ltb}
 use lib.ListN.{length, getD, drop}
 use Rattle.octets.specs.LittleEndian.{numberOctets, fieldsAt, fieldOctets}
-use Rattle.table.specs.declared.address.Address.{Address}
+use Rattle.layout.specs.declared.address.Address.{Address}
 use Rattle.element.specs.declared.Kind.{Kind}
 use Rattle.element.specs.declared.Kind.the-variants.{Rann, Rreq, Rrep, Rerr}
 use Rattle.element.specs.declared.PathInfo.{PathInfo}
 use Rattle.element.specs.declared.RreqFields.{RreqFields}
 use Rattle.element.specs.declared.RrepFields.{RrepFields}
 use Rattle.element.specs.declared.RerrFields.{RerrFields}
-use Rattle.element.specs.declared.read.Reading.{Reading}
-use Rattle.element.specs.declared.read.Reading.the-variants.{Announcement, Request, Reply, Error, Refused}
 use Rattle.element.specs.Element.{Element, rann, rreq, rrep, rerr, kindOf, countOf, fieldNumbers}
 use Rattle.element.specs.Layout.{idOf, kindWith, known, lengthWith, fits, fieldWidths}
 use Rattle.element.specs.Entries.{lostOctets, lostList, numberedOctets, numberedList, targetOctets, targetList}
@@ -90,19 +88,6 @@ listPart s = listAs (kindIn s) s
 
 unfoldable pub readElement : List ℕ → Element
 readElement s = readAs (kindIn s) s
-
--- what the reader answers: a refusal, or the fixed fields; the list part stays where it is
-abbrev pub fixedFields : Element → Reading
-fixedFields (rann p) = Announcement p
-fixedFields (rreq f targets) = Request f
-fixedFields (rrep f dependents) = Reply f
-fixedFields (rerr f destinations) = Error f
-
-unfoldable pub reading : List ℕ → Reading
-reading s =
-    cond (wrongLength s) (Refused 6)
-    (cond (otherId s) (Refused 7)
-    (cond (misfit s) (Refused 8) (fixedFields (readElement s))))
 
 -- ---- written
 

@@ -1,14 +1,12 @@
-// The elements RANN, RREQ, RREP and RERR: their fields as values, read from octets and written to them.
+// The elements RANN, RREQ, RREP and RERR: their fields as values, the bits of their flags, and their lists.
 pub mod flags;
 pub mod list;
-pub mod read;
-pub mod write;
 
 use counters::HopCount;
 use counters::Metric;
 use counters::RequestId;
 use counters::SequenceNumber;
-use table::address::Address;
+use layout::address::Address;
 
 // The four types of element.
 pub enum Kind {

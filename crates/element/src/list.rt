@@ -5,7 +5,7 @@ use crate::LostDestination;
 use crate::NumberedAddress;
 use crate::Target;
 use counters::SequenceNumber;
-use table::address::Address;
+use layout::address::Address;
 ghost use mathlib.Core.Path.{_≡_};
 ghost use mathlib.Core.Bool.{_&&_, not};
 ghost use Prim.Native.Nat.{_+_, _*_, _<_, _≤_};

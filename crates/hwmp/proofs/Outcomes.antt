@@ -3,8 +3,8 @@ use Prim.Native.Nat.{ℕ, _≤_}
 use mathlib.Core.Path.{_≡_, refl, sym, ap, _∙_}
 use mathlib.Core.List.{List}
 use Rattle.counters.specs.declared.Metric.{Metric}
-use Rattle.table.specs.declared.address.Address.{Address}
-use Rattle.table.specs.Address.{addressOf}
+use Rattle.layout.specs.declared.address.Address.{Address}
+use Rattle.layout.specs.Address.{addressOf}
 use native.Mathlib.Omega.{arith}
 use Rattle.rules.specs.Decision.{Decision, refused, accepted}
 use Rattle.rules.specs.Exit.{Lent, Effect, Exit, atExit}

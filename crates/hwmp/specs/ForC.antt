@@ -2,8 +2,8 @@
 use Prim.Native.Nat.{ℕ}
 use mathlib.Core.List.{List}
 use Rattle.octets.specs.LittleEndian.{zeros}
-use Rattle.table.specs.declared.address.Address.{Address}
-use Rattle.table.specs.Address.{octetsOf}
+use Rattle.layout.specs.declared.address.Address.{Address}
+use Rattle.layout.specs.Address.{octetsOf}
 use Rattle.rules.specs.Decision.{Decision, refused, accepted}
 use Rattle.rules.specs.Exit.{Lent, Exit}
 use Rattle.calls.specs.declared.Outcome.{Outcome}

@@ -3,11 +3,11 @@ use breaking::break_neighbour;
 use calls::Outcome;
 use counters::Metric;
 use counters::SequenceNumber;
+use layout::address;
 use originate::announce;
 use originate::ask;
 use originate::root_request;
 use rules::Arrival;
-use table::address;
 use table_calls::forget;
 use table_calls::fresh;
 use table_calls::next_hop;
@@ -15,7 +15,7 @@ use table_calls::next_hop::Hop;
 use walk::Walked;
 ghost use mathlib.Core.Path.{_≡_};
 ghost use Prim.Native.Nat.{_≤_};
-ghost use Rattle.table.specs.Address.{addressOf};
+ghost use Rattle.layout.specs.Address.{addressOf};
 ghost use Rattle.rules.specs.Exit.{lend};
 ghost use Rattle.rules.specs.Exits.{
   announceExit,

@@ -7,10 +7,10 @@ use lib.Dec.{ltb}
 use native.Mathlib.Nat.{add-zero}
 use native.Mathlib.Omega.{arith}
 use borrow.Author.Tests.{eq-eqb, ne-eqb, le-ltb}
-use Rattle.table.specs.declared.address.Address.{Address}
+use Rattle.layout.specs.declared.address.Address.{Address}
 use Rattle.table.specs.declared.search.Found.{Found}
 use Rattle.table.specs.declared.search.Found.the-variants.{At, Nothing}
-use Rattle.table.specs.Layout.{rowAt}
+use Rattle.layout.specs.Layout.{rowAt}
 use Rattle.table.specs.Places.{isNothing}
 use Rattle.table.specs.Table.{findRow, rowFor, newRows, freeRows}
 use Rattle.table.proofs.Cases.{row-at, row-none}

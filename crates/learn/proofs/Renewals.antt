@@ -8,12 +8,12 @@ use lib.Dec.{eqb, leb, ltb}
 use borrow.Author.Tests.{eq-eqb, ne-eqb, not-true, not-false}
 use Rattle.counters.specs.declared.Metric.{Metric}
 use Rattle.counters.specs.declared.HopCount.{HopCount}
-use Rattle.table.specs.declared.address.Address.{Address}
-use Rattle.table.specs.declared.row.Row.{Row}
+use Rattle.layout.specs.declared.address.Address.{Address}
+use Rattle.layout.specs.declared.row.Row.{Row}
 use Rattle.table.specs.declared.search.Found.{Found}
 use Rattle.table.specs.declared.search.Found.the-variants.{At, Nothing}
-use Rattle.table.specs.Layout.{rowAt}
-use Rattle.table.specs.Row.{active, renewed, numbered}
+use Rattle.layout.specs.Layout.{rowAt}
+use Rattle.layout.specs.Row.{active, renewed, numbered}
 use Rattle.table.specs.Places.{isNothing}
 use Rattle.table.specs.Table.{findRow, rowFor, store}
 use Rattle.table.proofs.Cases.{row-at, row-none}

@@ -6,10 +6,10 @@ use mathlib.Core.List.{List}
 use lib.Dec.{eqb, leb}
 use borrow.Author.Tests.{eq-eqb, ne-eqb}
 use Rattle.counters.specs.Numbers.{older}
-use Rattle.table.specs.declared.row.Row.{Row}
+use Rattle.layout.specs.declared.row.Row.{Row}
 use Rattle.table.specs.declared.search.Found.{Found}
 use Rattle.table.specs.declared.search.Found.the-variants.{At, Nothing}
-use Rattle.table.specs.Layout.{rowAt}
+use Rattle.layout.specs.Layout.{rowAt}
 use Rattle.table.specs.Table.{findRow}
 use Rattle.table.proofs.Cases.{row-at, row-none}
 use Rattle.element.specs.declared.PathInfo.{PathInfo}

@@ -9,7 +9,7 @@ ghost use Prim.Native.Nat.{_≤_};
 ghost use lib.Dec.{ltb};
 ghost use Rattle.table.specs.Places.{isNothing};
 ghost use Rattle.table.specs.Table.{findRow, freeRows};
-ghost use Rattle.table.specs.Layout.{Sized};
+ghost use Rattle.layout.specs.Layout.{Sized};
 ghost use Rattle.rules.specs.Receive.{rowsNeeded};
 
 // How many new rows a destination needs where its row was looked for: one if it has none.

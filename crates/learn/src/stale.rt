@@ -1,12 +1,12 @@
 // Refusal 25: an older number than that of the subject's row, or an equal one with a metric that is not smaller.
 use element::PathInfo;
+use layout::row;
+use layout::row::Row;
 use rules::Arrival;
-use table::row;
-use table::row::Row;
 use table::search::Found;
 ghost use mathlib.Core.Path.{_≡_};
 ghost use Rattle.rules.specs.Receive.{isStale, isStaleFor};
-ghost use Rattle.table.specs.Layout.{Sized};
+ghost use Rattle.layout.specs.Layout.{Sized};
 ghost use Rattle.table.specs.Table.{findRow};
 
 // By the row, active or not: an older number, or an equal one with a metric that is not smaller.

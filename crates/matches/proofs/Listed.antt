@@ -16,10 +16,10 @@ use Rattle.element.specs.Entries.{each, lostAt, lostIn, lostOctets}
 use Rattle.element.specs.Lists.{allOnes}
 use Rattle.element.specs.Octets.{frameStart}
 use Rattle.element.proofs.ListParts.{losses-length}
-use Rattle.element.proofs.Listing.{Listing, listing-more, listing-counted, listing-written, skipped-place, skipped-written}
+use Rattle.writing.proofs.Listing.{Listing, listing-more, listing-counted, listing-written, skipped-place, skipped-written}
 use Rattle.element.proofs.Scans.{each-length}
 use Rattle.element.proofs.Sizes.{frame-length}
-use Rattle.element.proofs.Written.{lost-length, started-last}
+use Rattle.writing.proofs.Written.{lost-length, started-last}
 use Rattle.rules.specs.declared.Arrival.{Arrival}
 use Rattle.rules.specs.Errors.{matches}
 use Rattle.rules.specs.Lists.{any, filter}

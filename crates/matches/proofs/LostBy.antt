@@ -4,16 +4,16 @@ use mathlib.Core.Path.{_≡_, sym, ap, _∙_}
 use mathlib.Core.Bool.{Bool, true, false, not, _&&_}
 use mathlib.Core.List.{List}
 use lib.Dec.{eqb}
-use Rattle.table.specs.declared.address.Address.{Address}
-use Rattle.table.specs.declared.row.Row.{Row}
+use Rattle.layout.specs.declared.address.Address.{Address}
+use Rattle.layout.specs.declared.row.Row.{Row}
 use Rattle.table.specs.declared.search.Found.{Found}
 use Rattle.table.specs.declared.search.Found.the-variants.{At, Nothing}
-use Rattle.table.specs.Layout.{rowAt}
+use Rattle.layout.specs.Layout.{rowAt}
 use Rattle.table.specs.Table.{findRow}
 use Rattle.table.proofs.Cases.{row-at, row-none}
 use Rattle.element.specs.declared.LostDestination.{LostDestination}
 use Rattle.element.specs.Entries.{each, lostAt}
-use Rattle.table.specs.Row.{isThrough}
+use Rattle.layout.specs.Row.{isThrough}
 use Rattle.rules.specs.Errors.{isLostBy, matches}
 use Rattle.rules.specs.Lists.{any}
 use Rattle.rules.proofs.AnyOf.{any-found, any-more, any-ended}

@@ -8,11 +8,11 @@ use native.Mathlib.Nat.{sub-zero}
 use borrow.Author.Tests.{eq-eqb, ne-eqb, not-true, not-false}
 use Rattle.counters.specs.declared.SequenceNumber.{SequenceNumber}
 use Rattle.counters.specs.Numbers.{newer}
-use Rattle.table.specs.declared.address.Address.{Address}
-use Rattle.table.specs.declared.row.Row.{Row}
-use Rattle.table.specs.Address.{same}
-use Rattle.table.specs.Row.{invalidated, raised}
-use Rattle.table.specs.Layout.{rowAt, putRow}
+use Rattle.layout.specs.declared.address.Address.{Address}
+use Rattle.layout.specs.declared.row.Row.{Row}
+use Rattle.layout.specs.Address.{same}
+use Rattle.layout.specs.Row.{invalidated, raised}
+use Rattle.layout.specs.Layout.{rowAt, putRow}
 use Rattle.table.specs.Table.{changeAt}
 use Rattle.table.proofs.Changes.{row-stays, row-changed}
 use Rattle.element.specs.declared.LostDestination.{LostDestination}

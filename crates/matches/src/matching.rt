@@ -1,9 +1,9 @@
 // The matches of a RERR: destinations that this point reaches through its transmitter.
 use element::LostDestination;
 use element::list;
+use layout::row;
+use layout::row::Row;
 use rules::Arrival;
-use table::row;
-use table::row::Row;
 use table::search;
 use table::search::Found;
 ghost use mathlib.Core.Path.{_≡_};
@@ -11,7 +11,7 @@ ghost use mathlib.Core.Bool.{not};
 ghost use Rattle.element.specs.Entries.{lostIn};
 ghost use Rattle.rules.specs.Errors.{isLostBy, matches};
 ghost use Rattle.rules.specs.Lists.{any};
-ghost use Rattle.table.specs.Layout.{Sized};
+ghost use Rattle.layout.specs.Layout.{Sized};
 
 // Whether the row is active, of known number, with the transmitter as next hop.
 pub fn is_lost_by(a: Arrival, r: Row) -> bool

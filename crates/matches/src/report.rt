@@ -3,9 +3,8 @@ use crate::matching;
 use element::LostDestination;
 use element::RerrFields;
 use element::list;
-use element::write;
+use layout::address::Address;
 use rules::Arrival;
-use table::address::Address;
 ghost use mathlib.Core.Path.{_≡_};
 ghost use mathlib.Core.List.{flatMap};
 ghost use Prim.Native.Nat.{_+_, _≤_};
@@ -21,7 +20,7 @@ ghost use Rattle.rules.specs.Lists.{filter};
 ghost use Rattle.rules.specs.Onward.{toAll};
 ghost use Rattle.rules.specs.Exit.{frameOctets};
 ghost use Rattle.matches.specs.Report.{matchOctets};
-ghost use Rattle.table.specs.Layout.{Sized};
+ghost use Rattle.layout.specs.Layout.{Sized};
 
 // Answers the place after it.
 fn write_if_match(
@@ -39,7 +38,7 @@ fn write_if_match(
     if !matching::is_match(table, a, m) {
         return at;
     }
-    write::write_lost(output, at, m)
+    writing::write_lost(output, at, m)
 }
 
 // The matches of part, from place at on; answers the place after them.
@@ -86,9 +85,9 @@ pub fn write_error(
         (frameOctets (toAll (rerr f
         (filter (matches (now (table .entry)) (a .clock) (a .transmitter)) (lostIn (now (part .entry))))))) ⌝ }
 {
-    let start = at + write::RERR_START;
+    let start = at + writing::RERR_START;
     let end = write_matches(output, start, table, a, part);
     let n = (end - start) / list::LOST;
-    write::start_rerr(output, at, Address(list::ALL_ONES), f, n);
+    writing::start_rerr(output, at, Address(list::ALL_ONES), f, n);
     end - at
 }

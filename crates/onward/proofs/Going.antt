@@ -8,12 +8,12 @@ use lib.ListN.{length}
 use native.Mathlib.Omega.{arith}
 use borrow.Author.Tests.{lt-ltb, le-ltb}
 use Rattle.octets.specs.LittleEndian.{overwrite}
-use Rattle.table.specs.declared.address.Address.{Address}
-use Rattle.table.specs.declared.row.Head.{Head}
+use Rattle.layout.specs.declared.address.Address.{Address}
+use Rattle.layout.specs.declared.row.Head.{Head}
 use Rattle.table.specs.declared.search.NextHop.{NextHop}
 use Rattle.table.specs.declared.search.NextHop.the-variants.{To, Nobody}
-use Rattle.table.specs.Address.{same}
-use Rattle.table.specs.Layout.{headAt}
+use Rattle.layout.specs.Address.{same}
+use Rattle.layout.specs.Layout.{headAt}
 use Rattle.table.specs.Table.{own, rowFor, activeNext, hopIn}
 use Rattle.table.proofs.ByHead.{is-own, is-other}
 use Rattle.element.specs.declared.NumberedAddress.{NumberedAddress}

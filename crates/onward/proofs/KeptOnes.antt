@@ -9,10 +9,10 @@ use native.Mathlib.Omega.{arith}
 use borrow.Author.Tests.{eq-eqb, ne-eqb, not-true, not-false}
 use Rattle.octets.specs.LittleEndian.{overwrite}
 use Rattle.counters.specs.declared.SequenceNumber.{SequenceNumber}
-use Rattle.table.specs.declared.row.Head.{Head}
-use Rattle.table.specs.declared.row.Row.{Row}
-use Rattle.table.specs.Address.{same}
-use Rattle.table.specs.Layout.{headAt}
+use Rattle.layout.specs.declared.row.Head.{Head}
+use Rattle.layout.specs.declared.row.Row.{Row}
+use Rattle.layout.specs.Address.{same}
+use Rattle.layout.specs.Layout.{headAt}
 use Rattle.table.specs.Table.{own}
 use Rattle.table.proofs.ByHead.{is-own, is-other}
 use Rattle.element.specs.declared.PathInfo.{PathInfo}
@@ -20,9 +20,9 @@ use Rattle.element.specs.declared.Target.{Target}
 use Rattle.element.specs.Entries.{each, All, targetAt, targetOctets, targetsIn}
 use Rattle.element.specs.Lists.{allOnes}
 use Rattle.element.proofs.ListParts.{targets-length}
-use Rattle.element.proofs.Scans.{each-length}
-use Rattle.element.proofs.Written.{target-length}
-use Rattle.element.proofs.Listing.{Listing, listed-append, listing-more, listing-counted, listing-written, skipped-place, skipped-written}
+use Rattle.element.proofs.Scans.{each-length, listed-append}
+use Rattle.writing.proofs.Written.{target-length}
+use Rattle.writing.proofs.Listing.{Listing, listing-more, listing-counted, listing-written, skipped-place, skipped-written}
 use Rattle.rules.specs.declared.Arrival.{Arrival}
 use Rattle.element.specs.Flags.{hasRF, withDO, replyWanted}
 use Rattle.rules.specs.Destinations.{Answered, keptAfterReply, forOneself, forAllOnes, answered, allAnswered}

@@ -8,7 +8,7 @@ use lib.ListN.{length}
 use native.Mathlib.Omega.{arith}
 use borrow.Author.Tests.{lt-ltb, le-ltb, ltb-false, not-true, not-false}
 use Rattle.octets.specs.LittleEndian.{overwrite}
-use Rattle.table.specs.declared.address.Address.{Address}
+use Rattle.layout.specs.declared.address.Address.{Address}
 use Rattle.table.specs.declared.search.NextHop.{NextHop}
 use Rattle.table.specs.declared.search.NextHop.the-variants.{To, Nobody}
 use Rattle.table.specs.Table.{rowFor, activeNext, hopIn}
@@ -21,7 +21,7 @@ use Rattle.element.specs.Entries.{each, All, targetAt, targetOctets}
 use Rattle.element.specs.Lists.{allOnes}
 use Rattle.element.specs.Layout.{PartOf}
 use Rattle.element.specs.Octets.{frameStart}
-use Rattle.element.proofs.Written.{started-last}
+use Rattle.writing.proofs.Written.{started-last}
 use Rattle.rules.specs.declared.Arrival.{Arrival}
 use Rattle.element.specs.Flags.{unicast}
 use Rattle.rules.specs.Onward.{onward, sentTo, toAll, rreqOnward}

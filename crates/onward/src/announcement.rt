@@ -2,9 +2,8 @@
 use calls::Emitted;
 use element::PathInfo;
 use element::list;
-use element::write;
+use layout::address::Address;
 use rules::Arrival;
-use table::address::Address;
 ghost use mathlib.Core.Path.{_≡_};
 ghost use Prim.Native.Nat.{_+_, _<_, _≤_};
 ghost use lib.ListN.{length};
@@ -25,6 +24,6 @@ pub fn send_on(output: &mut [u8], at: usize, a: Arrival, p: PathInfo) -> Emitted
         return Emitted::nothing();
     }
     let path = crate::onward(a, p);
-    let end = write::write_rann(output, at, Address(list::ALL_ONES), path);
+    let end = writing::write_rann(output, at, Address(list::ALL_ONES), path);
     Emitted::one_frame(end - at)
 }

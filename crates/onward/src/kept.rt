@@ -4,8 +4,7 @@ use destinations::answering::Answering;
 use element::Target;
 use element::flags;
 use element::list;
-use element::write;
-use table::row;
+use layout::row;
 ghost use mathlib.Core.Path.{_≡_};
 ghost use mathlib.Core.List.{flatMap};
 ghost use Prim.Native.Nat.{_+_, _*_, _≤_};
@@ -15,7 +14,7 @@ ghost use Rattle.element.specs.Layout.{PartOf};
 ghost use Rattle.element.specs.declared.Kind.{Kind};
 ghost use Rattle.element.specs.Entries.{targetOctets};
 ghost use Rattle.onward.specs.Kept.{keptAmong, keptIn, keptOctets, keptOf};
-ghost use Rattle.table.specs.Layout.{Sized};
+ghost use Rattle.layout.specs.Layout.{Sized};
 
 // What becomes of a destination in the RREQ that goes on.
 pub enum Kept {
@@ -51,7 +50,7 @@ fn write_if_kept(output: &mut [u8], at: usize, table: &[u8], clock: u64, q: Targ
     ensures { λ _. ⌜ now (output .exit) ≡ overwrite (now (output .entry)) at (keptOctets (now (table .entry)) clock q) ⌝ }
 {
     match kept_of(table, clock, q) {
-        Kept::As(k) => write::write_target(output, at, k),
+        Kept::As(k) => writing::write_target(output, at, k),
         Kept::Struck => at,
     }
 }

@@ -1,10 +1,9 @@
 // A RREP goes on towards its source, with its dependents unread.
 use calls::Emitted;
 use element::RrepFields;
-use element::write;
+use layout::address::Address;
+use layout::row;
 use rules::Arrival;
-use table::address::Address;
-use table::row;
 use table::search;
 use table::search::NextHop;
 ghost use mathlib.Core.Path.{_≡_};
@@ -20,7 +19,7 @@ ghost use Rattle.rules.specs.Onward.{rrepOnward, sentTo};
 ghost use Rattle.rules.specs.Exit.{frameOctets};
 ghost use Rattle.calls.specs.Answers.{emitted};
 ghost use Rattle.onward.specs.Sent.{replyReceiver, rrepForward};
-ghost use Rattle.table.specs.Layout.{Sized};
+ghost use Rattle.layout.specs.Layout.{Sized};
 ghost use Rattle.table.specs.Table.{hopIn};
 
 // To nobody if the source is this point.
@@ -55,7 +54,7 @@ fn send_to(output: &mut [u8], at: usize, receiver: NextHop, f: RrepFields, part:
     let NextHop::To(next) = receiver else {
         return Emitted::nothing();
     };
-    let end = write::write_rrep(output, at, next, f, part);
+    let end = writing::write_rrep(output, at, next, f, part);
     Emitted::one_frame(end - at)
 }
 

@@ -5,9 +5,8 @@ use element::PathInfo;
 use element::RreqFields;
 use element::flags;
 use element::list;
-use element::write;
+use layout::address::Address;
 use rules::Arrival;
-use table::address::Address;
 use table::search;
 use table::search::NextHop;
 ghost use mathlib.Core.Path.{_≡_};
@@ -23,7 +22,7 @@ ghost use Rattle.rules.specs.Exit.{frameOctets};
 ghost use Rattle.calls.specs.Answers.{emitted};
 ghost use Rattle.onward.specs.Kept.{keptAmong};
 ghost use Rattle.onward.specs.Sent.{requestReceiver, requestSent, rreqForward, sentWith, unicastToSeveral};
-ghost use Rattle.table.specs.Layout.{Sized};
+ghost use Rattle.layout.specs.Layout.{Sized};
 ghost use Rattle.table.specs.Table.{hopIn};
 
 // All ones, or if unicast the active next hop of its destination.
@@ -67,12 +66,12 @@ fn send_kept(
         ≡ overwrite (now (output .entry)) at
         (frameOctets (sentWith to f (keptAmong (now (table .entry)) clock (now (part .entry))))) ⌝ }
 {
-    let start = at + write::RREQ_START;
+    let start = at + writing::RREQ_START;
     let end = kept::write_kept(output, start, table, clock, part);
     if end == start {
         return Emitted::nothing();
     }
-    write::start_rreq(output, at, to, f, (end - start) / list::TARGET);
+    writing::start_rreq(output, at, to, f, (end - start) / list::TARGET);
     Emitted::one_frame(end - at)
 }
 

@@ -8,12 +8,12 @@ use lib.ListN.{length, length-map}
 use native.Mathlib.Nat.{sub-zero}
 use borrow.Author.Tests.{lt-ltb, le-ltb, leb-true, eq-eqb, ne-eqb, not-false}
 use Rattle.octets.specs.LittleEndian.{overwrite}
-use Rattle.table.specs.declared.address.Address.{Address}
-use Rattle.table.specs.declared.row.Head.{Head}
-use Rattle.table.specs.declared.row.Row.{Row}
+use Rattle.layout.specs.declared.address.Address.{Address}
+use Rattle.layout.specs.declared.row.Head.{Head}
+use Rattle.layout.specs.declared.row.Row.{Row}
 use Rattle.table.specs.declared.search.Found.{Found}
 use Rattle.table.specs.declared.search.Found.the-variants.{At, Nothing}
-use Rattle.table.specs.Layout.{headAt, putHead, rowAt, headOctets, Sized}
+use Rattle.layout.specs.Layout.{headAt, putHead, rowAt, headOctets, Sized}
 use Rattle.table.specs.Table.{own, findRow, rowFor}
 use Rattle.table.proofs.Cases.{row-at, row-none}
 use Rattle.element.specs.declared.Item.{Item}
@@ -24,7 +24,7 @@ use Rattle.element.specs.Entries.{each, itemAt, itemsIn, targetOctets}
 use Rattle.element.specs.Lists.{allOnes, contains}
 use Rattle.element.specs.Octets.{frameStart, writeFrame}
 use Rattle.element.proofs.Scans.{each-length}
-use Rattle.element.proofs.Written.{entries-more, target-length}
+use Rattle.writing.proofs.Written.{entries-more, target-length}
 use Rattle.rules.specs.Decision.{accepted, Check}
 use Rattle.rules.specs.Lists.{any}
 use Rattle.rules.specs.Exit.{lend, Exit, atExit}

@@ -6,8 +6,8 @@ use mathlib.Core.List.{List, [], _∷_, append-nil, flatMap}
 use lib.ListN.{length}
 use native.Mathlib.Omega.{arith}
 use Rattle.octets.specs.LittleEndian.{overwrite}
-use Rattle.table.specs.declared.row.Head.{Head}
-use Rattle.table.specs.Layout.{headAt, putHead}
+use Rattle.layout.specs.declared.row.Head.{Head}
+use Rattle.layout.specs.Layout.{headAt, putHead}
 use Rattle.element.specs.declared.Kind.the-variants.{Rreq}
 use Rattle.element.specs.declared.PathInfo.{PathInfo}
 use Rattle.element.specs.declared.Target.{Target}
@@ -16,7 +16,7 @@ use Rattle.element.specs.Entries.{targetOctets}
 use Rattle.element.specs.Lists.{allOnes}
 use Rattle.element.specs.Octets.{frameStart, writeFrame}
 use Rattle.element.proofs.Sizes.{frame-length}
-use Rattle.element.proofs.Written.{finished}
+use Rattle.writing.proofs.Written.{finished}
 use Rattle.rules.specs.Decision.{accepted}
 use Rattle.rules.specs.Exit.{lend, Exit, atExit}
 use Rattle.rules.specs.Onward.{toAll}

@@ -4,9 +4,8 @@ use calls::Answer;
 use calls::Emitted;
 use calls::Outcome;
 use element::list;
-use element::write;
-use table::address::Address;
-use table::row;
+use layout::address::Address;
+use layout::row;
 ghost use mathlib.Core.Path.{_≡_};
 ghost use Prim.Native.Nat.{_≤_};
 ghost use lib.ListN.{length};
@@ -15,7 +14,7 @@ ghost use Rattle.rules.specs.Exit.{atExit, lend, leastOutput};
 ghost use Rattle.rules.specs.Exits.{announceExit};
 ghost use Rattle.rules.specs.Originate.{announced};
 ghost use Rattle.calls.specs.Answers.{exitOf};
-ghost use Rattle.table.specs.Layout.{Sized};
+ghost use Rattle.layout.specs.Layout.{Sized};
 
 // The table and the frame of an announcement that is not refused.
 fn send(table: &mut [u8], output: &mut [u8], flags: u8, lifetime: u32) -> Outcome
@@ -28,7 +27,7 @@ fn send(table: &mut [u8], output: &mut [u8], flags: u8, lifetime: u32) -> Outcom
     let head = common::number_head(row::read_head(table), false);
     row::write_head(table, head);
     let path = common::own_path(head, flags, lifetime);
-    let octets = write::write_rann(output, 0, Address(list::ALL_ONES), path);
+    let octets = writing::write_rann(output, 0, Address(list::ALL_ONES), path);
     Outcome::Accepted(Emitted::one_frame(octets))
 }
 

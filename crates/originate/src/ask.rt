@@ -8,11 +8,10 @@ use element::Item;
 use element::Target;
 use element::list;
 use element::list::ListKind;
-use element::write;
-use table::address::Address;
+use layout::address::Address;
+use layout::row;
+use layout::row::Head;
 use table::legal;
-use table::row;
-use table::row::Head;
 use table::search;
 use table::search::Found;
 ghost use mathlib.Core.Path.{_≡_};
@@ -21,7 +20,7 @@ ghost use Prim.Native.Nat.{_+_, _*_, _/_, _≤_};
 ghost use lib.ListN.{length};
 ghost use Rattle.octets.specs.LittleEndian.{overwrite};
 ghost use Rattle.table.specs.Table.{rowFor};
-ghost use Rattle.table.specs.Layout.{Sized};
+ghost use Rattle.layout.specs.Layout.{Sized};
 ghost use Rattle.element.specs.Element.{rreq};
 ghost use Rattle.element.specs.Entries.{itemsIn, targetOctets};
 ghost use Rattle.element.specs.Lists.{allOnes};
@@ -145,7 +144,7 @@ fn write_targets(output: &mut [u8], at: usize, table: &[u8], items: &[u8]) -> us
     let mut place = at;
     let mut i = 0;
     while i < n {
-        place = write::write_target(output, place, asked_for(table, list::item_at(items, i)));
+        place = writing::write_target(output, place, asked_for(table, list::item_at(items, i)));
         i += 1;
     }
     place

@@ -8,10 +8,9 @@ use counters::own::OwnCounters;
 use element::PathInfo;
 use element::RreqFields;
 use element::list;
-use element::write;
-use table::address::Address;
+use layout::address::Address;
+use layout::row::Head;
 use table::legal;
-use table::row::Head;
 ghost use mathlib.Core.Path.{_≡_};
 ghost use Prim.Native.Nat.{_≤_};
 ghost use lib.ListN.{length};
@@ -85,5 +84,5 @@ pub fn start_request(output: &mut [u8], head: Head, flags: u8, lifetime: u32, n:
     let request = head.request;
     let path = own_path(head, flags, lifetime);
     let fields = RreqFields { request, path };
-    write::start_rreq(output, 0, Address(list::ALL_ONES), fields, n)
+    writing::start_rreq(output, 0, Address(list::ALL_ONES), fields, n)
 }

@@ -6,9 +6,8 @@ use calls::Outcome;
 use counters::SequenceNumber;
 use element::Target;
 use element::list;
-use element::write;
-use table::address::Address;
-use table::row;
+use layout::address::Address;
+use layout::row;
 ghost use mathlib.Core.Path.{_≡_};
 ghost use mathlib.Core.List.{[], _∷_};
 ghost use Prim.Native.Nat.{_≤_};
@@ -18,7 +17,7 @@ ghost use Rattle.rules.specs.Exit.{atExit, lend, leastOutput};
 ghost use Rattle.rules.specs.Exits.{rootRequestExit};
 ghost use Rattle.rules.specs.Originate.{allWithDOAndRF, isRootFlags, requested};
 ghost use Rattle.calls.specs.Answers.{exitOf};
-ghost use Rattle.table.specs.Layout.{Sized};
+ghost use Rattle.layout.specs.Layout.{Sized};
 
 // Portal and reply wanted may be set, unicast and the reserved bits may not.
 fn is_root_flags(flags: u8) -> bool
@@ -43,7 +42,7 @@ fn send(table: &mut [u8], output: &mut [u8], flags: u8, lifetime: u32) -> Outcom
         address: Address(list::ALL_ONES),
         number: SequenceNumber(0),
     };
-    let octets = write::write_target(output, place, target);
+    let octets = writing::write_target(output, place, target);
     Outcome::Accepted(Emitted::one_frame(octets))
 }
 

@@ -11,13 +11,14 @@ use Rattle.element.specs.declared.PathInfo.{PathInfo}
 use Rattle.element.specs.declared.RreqFields.{RreqFields}
 use Rattle.element.specs.declared.RrepFields.{RrepFields}
 use Rattle.element.specs.declared.RerrFields.{RerrFields}
-use Rattle.element.specs.declared.read.Reading.{Reading}
-use Rattle.element.specs.declared.read.Reading.the-variants.{Announcement, Request, Reply, Error, Refused}
+use Rattle.reading.specs.declared.Reading.{Reading}
+use Rattle.reading.specs.declared.Reading.the-variants.{Announcement, Request, Reply, Error, Refused}
 use Rattle.element.specs.Element.{Element, rann, rreq, rrep, rerr, kindOf, countOf, fieldNumbers, lostNumbers, numberedNumbers, rannNumbers, rerrNumbers, rrepNumbers, rreqNumbers, targetNumbers}
 use Rattle.element.specs.Entries.{lostAt, lostIn, numberedAt, numberedIn, targetAt, targetsIn}
-use Rattle.element.specs.Octets.{fixedNumbers, reading, listPart}
+use Rattle.element.specs.Octets.{fixedNumbers, listPart}
+use Rattle.reading.specs.Reading.{reading}
 use Rattle.element.proofs.Scans.{each-length}
-use Rattle.element.proofs.Readings.{announcement-element, request-element, reply-element, error-element}
+use Rattle.reading.proofs.Readings.{announcement-element, request-element, reply-element, error-element}
 use Rattle.probe.specs.Probes.{entryNumbers, elementNumbers, readNumbers}
 
 numbers-put : (e : Element) (s t u ys : List ℕ) → ys ≡ fixedNumbers (kindOf e) (countOf e) (fieldNumbers e) → t ≡ overwrite s 0 ys → u ≡ overwrite t (length ys) (entryNumbers e)

@@ -8,7 +8,7 @@ use Rattle.element.specs.declared.NumberedAddress.{NumberedAddress}
 use Rattle.element.specs.declared.Target.{Target}
 use Rattle.element.specs.Element.{lostNumbers, numberedNumbers, targetNumbers}
 use Rattle.element.specs.Entries.{each, lostAt, lostOctets, numberedAt, targetAt, targetOctets}
-use Rattle.element.proofs.Written.{entries-more, target-length, lost-length}
+use Rattle.writing.proofs.Written.{entries-more, target-length, lost-length}
 
 module _ (part : List ℕ) (n : ℕ) (s t g : List ℕ) (i at at′ : ℕ) (l : i < n) where
   pub target-numbers-more : (x : Target) → x ≡ targetAt part i → t ≡ overwrite s at (targetNumbers x) → at′ ≡ at + 3

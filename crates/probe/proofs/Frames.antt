@@ -8,7 +8,7 @@ use lib.ListN.{length}
 use native.Mathlib.Omega.{arith}
 use borrow.Author.Tests.{leb-true, leb-false, le-leb, lt-leb, not-true, not-false}
 use Rattle.octets.specs.LittleEndian.{overwrite}
-use Rattle.table.specs.declared.address.Address.{Address}
+use Rattle.layout.specs.declared.address.Address.{Address}
 use Rattle.element.specs.declared.Kind.the-variants.{Rreq, Rrep, Rerr}
 use Rattle.element.specs.declared.list.ListKind.{ListKind}
 use Rattle.element.specs.declared.list.ListKind.the-variants.{Targets, Dependents, LostDestinations}
@@ -16,16 +16,17 @@ use Rattle.element.specs.declared.PathInfo.{PathInfo}
 use Rattle.element.specs.declared.RreqFields.{RreqFields}
 use Rattle.element.specs.declared.RrepFields.{RrepFields}
 use Rattle.element.specs.declared.RerrFields.{RerrFields}
-use Rattle.element.specs.declared.read.Reading.{Reading}
-use Rattle.element.specs.declared.read.Reading.the-variants.{Announcement, Request, Reply, Error, Refused}
+use Rattle.reading.specs.declared.Reading.{Reading}
+use Rattle.reading.specs.declared.Reading.the-variants.{Announcement, Request, Reply, Error, Refused}
 use Rattle.element.specs.Element.{rann, rreq, rrep, rerr}
 use Rattle.element.specs.Entries.{lostAt, lostIn, numberedAt, numberedIn, targetAt, targetsIn}
 use Rattle.element.specs.Layout.{PartOf}
-use Rattle.element.specs.Octets.{reading, listPart, writeFrame}
+use Rattle.element.specs.Octets.{listPart, writeFrame}
+use Rattle.reading.specs.Reading.{reading}
 use Rattle.element.specs.Lists.{addressesIn, contains, anyForbidden, onesBesideOthers, hasDuplicate}
 use Rattle.element.proofs.Scans.{each-length}
 use Rattle.element.proofs.Sizes.{frame-length}
-use Rattle.element.proofs.Readings.{announcement-element, request-element, reply-element, error-element}
+use Rattle.reading.proofs.Readings.{announcement-element, request-element, reply-element, error-element}
 use Rattle.probe.specs.Probes.{Probed, faults, faultsIn, written, writtenAgain}
 
 -- ---- room

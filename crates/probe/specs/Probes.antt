@@ -5,11 +5,11 @@ use mathlib.Core.List.{List, [], _++_, flatMap}
 use lib.Dec.{leb}
 use lib.ListN.{length}
 use Rattle.octets.specs.LittleEndian.{overwrite}
-use Rattle.table.specs.declared.address.Address.{Address}
+use Rattle.layout.specs.declared.address.Address.{Address}
 use Rattle.element.specs.declared.list.ListKind.{ListKind}
 use Rattle.element.specs.declared.list.ListKind.the-variants.{Targets, Dependents, LostDestinations}
-use Rattle.element.specs.declared.read.Reading.{Reading}
-use Rattle.element.specs.declared.read.Reading.the-variants.{Announcement, Request, Reply, Error, Refused}
+use Rattle.reading.specs.declared.Reading.{Reading}
+use Rattle.reading.specs.declared.Reading.the-variants.{Announcement, Request, Reply, Error, Refused}
 use Rattle.element.specs.Element.{
   Element,
   rann,
@@ -23,7 +23,8 @@ use Rattle.element.specs.Element.{
   numberedNumbers,
   targetNumbers,
 }
-use Rattle.element.specs.Octets.{fixedNumbers, readElement, reading, listPart, writeFrame}
+use Rattle.element.specs.Octets.{fixedNumbers, readElement, listPart, writeFrame}
+use Rattle.reading.specs.Reading.{reading}
 use Rattle.element.specs.Lists.{addressesIn, contains, anyForbidden, onesBesideOthers, hasDuplicate}
 
 pub record Probed : Type 0 where

@@ -5,8 +5,7 @@ use element::RrepFields;
 use element::RreqFields;
 use element::list;
 use element::list::ListKind;
-use element::write;
-use table::address::Address;
+use layout::address::Address;
 ghost use mathlib.Core.Path.{_≡_};
 ghost use mathlib.Core.List.{flatMap};
 ghost use Prim.Native.Nat.{_+_, _≤_};
@@ -38,7 +37,7 @@ fn write_targets(out: &mut [u8], at: usize, part: &[u8])
     let mut place = at;
     let mut i = 0;
     while i < n {
-        place = write::write_target(out, place, list::target_at(part, i));
+        place = writing::write_target(out, place, list::target_at(part, i));
         i += 1;
     }
 }
@@ -51,7 +50,7 @@ fn write_losses(out: &mut [u8], at: usize, part: &[u8])
     let mut place = at;
     let mut i = 0;
     while i < n {
-        place = write::write_lost(out, place, list::lost_at(part, i));
+        place = writing::write_lost(out, place, list::lost_at(part, i));
         i += 1;
     }
 }
@@ -60,10 +59,10 @@ pub fn write_rann(out: &mut [u8], at: usize, to: Address, path: PathInfo) -> u32
     ensures { λ r. ⌜ record { answer = r; memory = now (out .exit) }
         ≡ written (now (out .entry)) at (writeFrame to (rann path)) ⌝ }
 {
-    if !has_room(out, at, write::RANN_START) {
+    if !has_room(out, at, writing::RANN_START) {
         return 2;
     }
-    write::write_rann(out, at, to, path);
+    writing::write_rann(out, at, to, path);
     0
 }
 
@@ -80,15 +79,15 @@ pub fn write_rreq(
     ensures { λ r. ⌜ record { answer = r; memory = now (out .exit) }
         ≡ written (now (out .entry)) at (writeFrame to (rreq f (targetsIn (now (part .entry))))) ⌝ }
 {
-    if !has_room(out, at, write::RREQ_START + part.len()) {
+    if !has_room(out, at, writing::RREQ_START + part.len()) {
         return 2;
     }
     if singly == 0 {
-        write::write_rreq(out, at, to, f, part);
+        writing::write_rreq(out, at, to, f, part);
         return 0;
     }
     let n = list::entries_in(part, ListKind::Targets);
-    let place = write::start_rreq(out, at, to, f, n);
+    let place = writing::start_rreq(out, at, to, f, n);
     write_targets(out, place, part);
     0
 }
@@ -98,10 +97,10 @@ pub fn write_rrep(out: &mut [u8], at: usize, to: Address, f: RrepFields, part: &
     ensures { λ r. ⌜ record { answer = r; memory = now (out .exit) }
         ≡ written (now (out .entry)) at (writeFrame to (rrep f (numberedIn (now (part .entry))))) ⌝ }
 {
-    if !has_room(out, at, write::RREP_START + part.len()) {
+    if !has_room(out, at, writing::RREP_START + part.len()) {
         return 2;
     }
-    write::write_rrep(out, at, to, f, part);
+    writing::write_rrep(out, at, to, f, part);
     0
 }
 
@@ -110,11 +109,11 @@ pub fn write_rerr(out: &mut [u8], at: usize, to: Address, f: RerrFields, part: &
     ensures { λ r. ⌜ record { answer = r; memory = now (out .exit) }
         ≡ written (now (out .entry)) at (writeFrame to (rerr f (lostIn (now (part .entry))))) ⌝ }
 {
-    if !has_room(out, at, write::RERR_START + part.len()) {
+    if !has_room(out, at, writing::RERR_START + part.len()) {
         return 2;
     }
     let n = list::entries_in(part, ListKind::LostDestinations);
-    let place = write::start_rerr(out, at, to, f, n);
+    let place = writing::start_rerr(out, at, to, f, n);
     write_losses(out, place, part);
     0
 }

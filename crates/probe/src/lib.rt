@@ -5,14 +5,13 @@ mod numbers;
 
 use element::list;
 use element::list::ListKind;
-use element::read;
-use element::read::Reading;
-use table::address;
-use table::address::Address;
+use layout::address;
+use layout::address::Address;
+use reading::Reading;
 ghost use mathlib.Core.Path.{_≡_};
 ghost use mathlib.Core.Bool.{cond};
 ghost use Prim.Native.Nat.{_≤_};
-ghost use Rattle.table.specs.Address.{addressOf};
+ghost use Rattle.layout.specs.Address.{addressOf};
 ghost use Rattle.element.specs.Lists.{addressesIn};
 ghost use Rattle.probe.specs.Probes.{faults, faultsIn, readNumbers, writtenAgain};
 
@@ -22,11 +21,11 @@ pub extern "C" fn probe_read(element: &[u8], numbers: &mut [u64; 71]) -> u32
     ensures { λ r. ⌜ record { answer = r; memory = now (numbers .exit) }
         ≡ readNumbers (now (element .entry)) (now (numbers .entry)) ⌝ }
 {
-    match read::read(element) {
+    match reading::read(element) {
         Reading::Announcement(path) => numbers::put_rann(numbers, path),
-        Reading::Request(f) => numbers::put_rreq(numbers, f, read::list_part(element)),
-        Reading::Reply(f) => numbers::put_rrep(numbers, f, read::list_part(element)),
-        Reading::Error(f) => numbers::put_rerr(numbers, f, read::list_part(element)),
+        Reading::Request(f) => numbers::put_rreq(numbers, f, reading::list_part(element)),
+        Reading::Reply(f) => numbers::put_rrep(numbers, f, reading::list_part(element)),
+        Reading::Error(f) => numbers::put_rerr(numbers, f, reading::list_part(element)),
         Reading::Refused(n) => n,
     }
 }
@@ -45,18 +44,18 @@ pub extern "C" fn probe_write(
         ≡ writtenAgain (now (element .entry)) (addressOf (now (to .entry))) (now (out .entry)) at ⌝ }
 {
     let receiver = address::read(to);
-    match read::read(element) {
+    match reading::read(element) {
         Reading::Announcement(path) => again::write_rann(out, at, receiver, path),
         Reading::Request(f) => again::write_rreq(
             out,
             at,
             receiver,
             f,
-            read::list_part(element),
+            reading::list_part(element),
             singly,
         ),
-        Reading::Reply(f) => again::write_rrep(out, at, receiver, f, read::list_part(element)),
-        Reading::Error(f) => again::write_rerr(out, at, receiver, f, read::list_part(element)),
+        Reading::Reply(f) => again::write_rrep(out, at, receiver, f, reading::list_part(element)),
+        Reading::Error(f) => again::write_rerr(out, at, receiver, f, reading::list_part(element)),
         Reading::Refused(n) => n,
     }
 }
@@ -84,11 +83,11 @@ pub extern "C" fn probe_faults(element: &[u8], address: &[u8; 6]) -> u32
     ensures { λ r. ⌜ r ≡ faultsIn (now (element .entry)) (addressOf (now (address .entry))) ⌝ }
 {
     let a = address::read(address);
-    match read::read(element) {
-        Reading::Announcement(_) => faults_of(read::list_part(element), ListKind::Dependents, a),
-        Reading::Request(_) => faults_of(read::list_part(element), ListKind::Targets, a),
-        Reading::Reply(_) => faults_of(read::list_part(element), ListKind::Dependents, a),
-        Reading::Error(_) => faults_of(read::list_part(element), ListKind::LostDestinations, a),
+    match reading::read(element) {
+        Reading::Announcement(_) => faults_of(reading::list_part(element), ListKind::Dependents, a),
+        Reading::Request(_) => faults_of(reading::list_part(element), ListKind::Targets, a),
+        Reading::Reply(_) => faults_of(reading::list_part(element), ListKind::Dependents, a),
+        Reading::Error(_) => faults_of(reading::list_part(element), ListKind::LostDestinations, a),
         Reading::Refused(_) => 0,
     }
 }

@@ -5,7 +5,6 @@ use element::RrepFields;
 use element::RreqFields;
 use element::list;
 use element::list::ListKind;
-use element::write;
 ghost use mathlib.Core.Path.{_≡_};
 ghost use mathlib.Core.List.{flatMap};
 ghost use Prim.Native.Nat.{_+_, _*_, _/_, _≤_};
@@ -84,7 +83,7 @@ pub fn put_rann(numbers: &mut [u64], path: PathInfo) -> u32
     ensures { λ r. ⌜ r ≡ 0 ⌝ }
     ensures { λ _. ⌜ now (numbers .exit) ≡ overwrite (now (numbers .entry)) 0 (elementNumbers (rann path)) ⌝ }
 {
-    let values = write::rann_numbers(path);
+    let values = writing::rann_numbers(path);
     put(numbers, 0, &values);
     0
 }
@@ -96,7 +95,7 @@ pub fn put_rreq(numbers: &mut [u64], f: RreqFields, part: &[u8]) -> u32
     ensures { λ _. ⌜ now (numbers .exit)
         ≡ overwrite (now (numbers .entry)) 0 (elementNumbers (rreq f (targetsIn (now (part .entry))))) ⌝ }
 {
-    let values = write::rreq_numbers(f, list::entries_in(part, ListKind::Targets));
+    let values = writing::rreq_numbers(f, list::entries_in(part, ListKind::Targets));
     put(numbers, 0, &values);
     put_targets(numbers, 11, part);
     0
@@ -109,7 +108,7 @@ pub fn put_rrep(numbers: &mut [u64], f: RrepFields, part: &[u8]) -> u32
     ensures { λ _. ⌜ now (numbers .exit)
         ≡ overwrite (now (numbers .entry)) 0 (elementNumbers (rrep f (numberedIn (now (part .entry))))) ⌝ }
 {
-    let values = write::rrep_numbers(f, list::entries_in(part, ListKind::Dependents));
+    let values = writing::rrep_numbers(f, list::entries_in(part, ListKind::Dependents));
     put(numbers, 0, &values);
     put_dependents(numbers, 12, part);
     0
@@ -122,7 +121,7 @@ pub fn put_rerr(numbers: &mut [u64], f: RerrFields, part: &[u8]) -> u32
     ensures { λ _. ⌜ now (numbers .exit)
         ≡ overwrite (now (numbers .entry)) 0 (elementNumbers (rerr f (lostIn (now (part .entry))))) ⌝ }
 {
-    let values = write::rerr_numbers(f, list::entries_in(part, ListKind::LostDestinations));
+    let values = writing::rerr_numbers(f, list::entries_in(part, ListKind::LostDestinations));
     put(numbers, 0, &values);
     put_losses(numbers, 4, part);
     0

@@ -10,12 +10,13 @@ use Rattle.element.specs.declared.PathInfo.{PathInfo}
 use Rattle.element.specs.declared.RreqFields.{RreqFields}
 use Rattle.element.specs.declared.RrepFields.{RrepFields}
 use Rattle.element.specs.declared.RerrFields.{RerrFields}
-use Rattle.element.specs.declared.read.Reading.{Reading}
-use Rattle.element.specs.declared.read.Reading.the-variants.{Announcement, Request, Reply, Error, Refused as Unread}
+use Rattle.reading.specs.declared.Reading.{Reading}
+use Rattle.reading.specs.declared.Reading.the-variants.{Announcement, Request, Reply, Error, Refused as Unread}
 use Rattle.element.specs.Element.{Element, rann, rreq, rrep, rerr}
 use Rattle.element.specs.Entries.{lostIn, numberedIn, targetsIn}
-use Rattle.element.specs.Octets.{wrongLength, otherId, misfit, readElement, fixedFields, reading, listPart}
-use Rattle.element.proofs.Readings.{announcement-element, request-element, reply-element, error-element}
+use Rattle.element.specs.Octets.{wrongLength, otherId, misfit, readElement, listPart}
+use Rattle.reading.specs.Reading.{fixedFields, reading}
+use Rattle.reading.proofs.Readings.{announcement-element, request-element, reply-element, error-element}
 use Rattle.rules.specs.declared.Arrival.{Arrival}
 use Rattle.rules.specs.Decision.{refused, decide}
 use Rattle.rules.specs.Exit.{lend, Exit, atExit}
@@ -26,7 +27,7 @@ use Rattle.calls.specs.declared.Answer.{Answer}
 use Rattle.calls.specs.declared.Answer.the-variants.{Accepted, Refused}
 use Rattle.calls.specs.Answers.{answerTo, exitOf}
 use Rattle.calls.proofs.Checks.{answer-passed, part-refused, part-decided, refusal, table-sized, output-long}
-use Rattle.table.specs.Layout.{headOctets, Sized}
+use Rattle.layout.specs.Layout.{headOctets, Sized}
 
 -- ---- the first checks
 

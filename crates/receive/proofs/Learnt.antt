@@ -2,8 +2,8 @@
 use Prim.Native.Nat.{ℕ}
 use mathlib.Core.Path.{_≡_, refl, ap, _∙_}
 use mathlib.Core.List.{List}
-use Rattle.table.specs.Address.{same}
-use Rattle.table.specs.Layout.{headAt}
+use Rattle.layout.specs.Address.{same}
+use Rattle.layout.specs.Layout.{headAt}
 use Rattle.table.specs.Table.{rowFor}
 use Rattle.table.proofs.Lookup.{store-head}
 use Rattle.element.specs.declared.PathInfo.{PathInfo}

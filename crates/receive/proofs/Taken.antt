@@ -7,9 +7,9 @@ use native.Mathlib.Omega.{arith}
 use Rattle.octets.specs.LittleEndian.{overwrite}
 use Rattle.octets.proofs.OctetLists.{overwrite-append}
 use Rattle.counters.specs.declared.SequenceNumber.{SequenceNumber}
-use Rattle.table.specs.declared.row.Head.{Head}
-use Rattle.table.specs.Layout.{headAt, putHead}
-use Rattle.table.specs.Row.{headWith}
+use Rattle.layout.specs.declared.row.Head.{Head}
+use Rattle.layout.specs.Layout.{headAt, putHead}
+use Rattle.layout.specs.Row.{headWith}
 use Rattle.table.specs.Table.{number, changeWhere}
 use Rattle.element.specs.declared.PathInfo.{PathInfo}
 use Rattle.element.specs.declared.RreqFields.{RreqFields}

@@ -5,20 +5,20 @@ use calls::Answer;
 use calls::Outcome;
 use calls::clocked;
 use element::PathInfo;
+use layout::row;
 use onward::announcement;
 use rules::Arrival;
-use table::row;
 ghost use mathlib.Core.Path.{_≡_};
 ghost use Prim.Native.Nat.{_≤_};
 ghost use lib.ListN.{length};
-ghost use Rattle.table.specs.Row.{maxClock};
+ghost use Rattle.layout.specs.Row.{maxClock};
 ghost use Rattle.element.specs.Element.{rann};
 ghost use Rattle.rules.specs.Decision.{decide};
 ghost use Rattle.rules.specs.Exit.{atExit, lend, leastOutput};
 ghost use Rattle.rules.specs.Receive.{judging};
 ghost use Rattle.calls.specs.Answers.{answerTo, exitOf};
 ghost use Rattle.receive.specs.Checks.{learntIf};
-ghost use Rattle.table.specs.Layout.{Sized};
+ghost use Rattle.layout.specs.Layout.{Sized};
 
 // Refuses it, or does steps 1 and 2. Takes the second answer apart too: a refusal then takes fewer instructions than if that
 // answer were handed on.

@@ -6,11 +6,11 @@ use calls::clocked;
 use element::RerrFields;
 use element::list;
 use element::list::ListKind;
+use layout::row;
 use matches::matching;
 use matches::report;
 use matches::rows;
 use rules::Arrival;
-use table::row;
 ghost use mathlib.Core.Path.{_≡_};
 ghost use Prim.Native.Nat.{_≤_};
 ghost use lib.ListN.{length};
@@ -23,7 +23,7 @@ ghost use Rattle.rules.specs.Exit.{atExit, lend, leastOutput};
 ghost use Rattle.rules.specs.Receive.{judging, received};
 ghost use Rattle.calls.specs.Answers.{answerTo, exitOf};
 ghost use Rattle.receive.specs.Checks.{errorStateChecks};
-ghost use Rattle.table.specs.Layout.{Sized};
+ghost use Rattle.layout.specs.Layout.{Sized};
 
 // By the state: 21 to 23, and 26.
 fn check_state(table: &[u8], a: Arrival, part: &[u8]) -> Answer

@@ -5,7 +5,7 @@ use element::RreqFields;
 use element::flags;
 use element::list;
 use element::list::ListKind;
-use table::address::Address;
+use layout::address::Address;
 ghost use mathlib.Core.Path.{_≡_};
 ghost use mathlib.Core.Bool.{_&&_};
 ghost use mathlib.Core.List.{[]};

@@ -9,19 +9,18 @@ mod request;
 use calls::Answer;
 use calls::Outcome;
 use calls::clocked;
-use element::read;
-use element::read::Reading;
+use reading::Reading;
 use rules::Arrival;
 ghost use mathlib.Core.Path.{_≡_};
 ghost use Prim.Native.Nat.{_≤_};
 ghost use lib.ListN.{length};
-ghost use Rattle.table.specs.Row.{maxClock};
+ghost use Rattle.layout.specs.Row.{maxClock};
 ghost use Rattle.rules.specs.Decision.{decide};
 ghost use Rattle.rules.specs.Exit.{atExit, lend, leastOutput};
 ghost use Rattle.rules.specs.Exits.{receiveExit};
 ghost use Rattle.rules.specs.Receive.{arrivalChecks, readingOctets};
 ghost use Rattle.calls.specs.Answers.{answerTo, exitOf};
-ghost use Rattle.table.specs.Layout.{Sized};
+ghost use Rattle.layout.specs.Layout.{Sized};
 
 // The refusals 1 to 5.
 fn check_arrival(table: &[u8], output: &[u8], a: Arrival) -> Answer
@@ -45,11 +44,11 @@ fn receive_element(table: &mut [u8], output: &mut [u8], a: Arrival, element: &[u
         ≡ atExit (lend (now (table .entry))) (now (output .entry))
         (decide (readingOctets (lend (now (table .entry))) a (now (element .entry)))) ⌝ }
 {
-    match read::read(element) {
+    match reading::read(element) {
         Reading::Announcement(p) => announcement::receive(table, output, a, p),
-        Reading::Request(f) => request::receive(table, output, a, f, read::list_part(element)),
-        Reading::Reply(f) => reply::receive(table, output, a, f, read::list_part(element)),
-        Reading::Error(f) => error::receive(table, output, a, f, read::list_part(element)),
+        Reading::Request(f) => request::receive(table, output, a, f, reading::list_part(element)),
+        Reading::Reply(f) => reply::receive(table, output, a, f, reading::list_part(element)),
+        Reading::Error(f) => error::receive(table, output, a, f, reading::list_part(element)),
         Reading::Refused(n) => Outcome::Refused(n),
     }
 }

@@ -3,23 +3,23 @@ use crate::faults::Faults;
 use calls::Answer;
 use calls::clocked;
 use element::PathInfo;
+use layout::row;
 use learn::room;
 use learn::stale;
 use learn::steps;
 use rules::Arrival;
-use table::row;
 use table::search;
 ghost use mathlib.Core.Path.{_≡_};
 ghost use mathlib.Core.Bool.{false};
 ghost use mathlib.Core.Option.{some};
 ghost use Prim.Native.Nat.{_+_, _<_, _≤_};
 ghost use lib.Dec.{ltb};
-ghost use Rattle.table.specs.Row.{maxClock};
+ghost use Rattle.layout.specs.Row.{maxClock};
 ghost use Rattle.rules.specs.Learn.{metricHere, Extends, maxMetric};
 ghost use Rattle.rules.specs.Receive.{fieldChecks, rowChecks};
 ghost use Rattle.calls.specs.Answers.{answerTo};
 ghost use Rattle.receive.specs.Checks.{learntIf, pathStateChecks};
-ghost use Rattle.table.specs.Layout.{Sized};
+ghost use Rattle.layout.specs.Layout.{Sized};
 
 // Received metric + link metric above 4,294,967,294.
 fn is_too_far(a: Arrival, p: PathInfo) -> bool

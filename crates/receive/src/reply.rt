@@ -5,13 +5,13 @@ use calls::Answer;
 use calls::Outcome;
 use calls::clocked;
 use element::RrepFields;
+use layout::row;
 use onward::reply;
 use rules::Arrival;
-use table::row;
 ghost use mathlib.Core.Path.{_≡_};
 ghost use Prim.Native.Nat.{_≤_};
 ghost use lib.ListN.{length};
-ghost use Rattle.table.specs.Row.{maxClock};
+ghost use Rattle.layout.specs.Row.{maxClock};
 ghost use Rattle.element.specs.Layout.{PartOf};
 ghost use Rattle.element.specs.declared.Kind.{Kind};
 ghost use Rattle.element.specs.Element.{rrep};
@@ -21,7 +21,7 @@ ghost use Rattle.rules.specs.Exit.{atExit, lend, leastOutput};
 ghost use Rattle.rules.specs.Receive.{judging};
 ghost use Rattle.calls.specs.Answers.{answerTo, exitOf};
 ghost use Rattle.receive.specs.Checks.{learntIf};
-ghost use Rattle.table.specs.Layout.{Sized};
+ghost use Rattle.layout.specs.Layout.{Sized};
 
 // Refuses it, or does steps 1 and 2. Dependents play no part; the contract names the element.
 fn check_and_learn(table: &mut [u8], a: Arrival, f: RrepFields, part: &[u8]) -> Answer

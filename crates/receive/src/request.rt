@@ -9,14 +9,14 @@ use counters::SequenceNumber;
 use destinations::replies;
 use destinations::replies::Replied;
 use element::RreqFields;
+use layout::row;
 use onward::request;
 use rules::Arrival;
-use table::row;
 ghost use mathlib.Core.Bool.{false};
 ghost use mathlib.Core.Path.{_≡_};
 ghost use Prim.Native.Nat.{_+_, _<_, _≤_};
 ghost use lib.ListN.{length};
-ghost use Rattle.table.specs.Row.{maxClock};
+ghost use Rattle.layout.specs.Row.{maxClock};
 ghost use Rattle.rules.specs.Learn.{Extends};
 ghost use Rattle.octets.specs.LittleEndian.{overwrite};
 ghost use Rattle.element.specs.Layout.{PartOf};
@@ -31,7 +31,7 @@ ghost use Rattle.calls.specs.Answers.{answerTo, exitOf};
 ghost use Rattle.receive.specs.Checks.{learntIf};
 ghost use Rattle.onward.specs.Sent.{unicastToSeveral};
 ghost use Rattle.receive.specs.Sent.{framesAfter, sentFor, together};
-ghost use Rattle.table.specs.Layout.{Sized};
+ghost use Rattle.layout.specs.Layout.{Sized};
 
 // What a RREQ was answered with: the own number after it, and what was written.
 pub struct Sent {

@@ -9,9 +9,9 @@ use native.Mathlib.Omega.{arith}
 use borrow.Author.Tests.{ltb-false, eqb-false, not-false}
 use Rattle.octets.specs.LittleEndian.{Octets}
 use Rattle.octets.proofs.Laws.{FitFields}
-use Rattle.table.specs.declared.address.Address.{Address}
-use Rattle.table.specs.Address.{individual, same}
-use Rattle.table.specs.Row.{isOther}
+use Rattle.layout.specs.declared.address.Address.{Address}
+use Rattle.layout.specs.Address.{individual, same}
+use Rattle.layout.specs.Row.{isOther}
 use Rattle.table.specs.Table.{own, freeRows}
 use Rattle.element.specs.declared.PathInfo.{PathInfo}
 use Rattle.element.specs.declared.list.ListKind.the-variants.{Targets}

@@ -12,8 +12,8 @@ use borrow.Author.Tests.{ltb-true, leb-true, eqb-true}
 use Rattle.counters.specs.declared.SequenceNumber.{SequenceNumber}
 use Rattle.counters.specs.Numbers.{newer}
 use Rattle.counters.proofs.Rank.{Window, AtLeast, level, not-stale, newer-ahead, next-ahead}
-use Rattle.table.specs.declared.row.Row.{Row}
-use Rattle.table.specs.Row.{active, invalidated, raised}
+use Rattle.layout.specs.declared.row.Row.{Row}
+use Rattle.layout.specs.Row.{active, invalidated, raised}
 use Rattle.table.specs.Table.{rowFor}
 use Rattle.element.specs.declared.LostDestination.{LostDestination}
 use Rattle.element.specs.declared.PathInfo.{PathInfo}

@@ -14,12 +14,12 @@ use Rattle.counters.specs.declared.SequenceNumber.{SequenceNumber}
 use Rattle.counters.specs.declared.RequestId.{RequestId}
 use Rattle.counters.specs.Numbers.{stepped, nextNumber, nextRequest}
 use Rattle.counters.specs.Numbering.{advancedFor}
-use Rattle.table.specs.declared.address.Address.{Address}
-use Rattle.table.specs.declared.row.Row.{Row}
-use Rattle.table.specs.Row.{headWith, isThrough}
-use Rattle.table.specs.Layout.{headAt, putHead}
+use Rattle.layout.specs.declared.address.Address.{Address}
+use Rattle.layout.specs.declared.row.Row.{Row}
+use Rattle.layout.specs.Row.{headWith, isThrough}
+use Rattle.layout.specs.Layout.{headAt, putHead}
 use Rattle.table.specs.Table.{number, requestId, clock, rowFor}
-use Rattle.table.proofs.HeadAndRows.{FitRow}
+use Rattle.layout.proofs.HeadAndRows.{FitRow}
 use Rattle.table.proofs.Lookup.{row-fits-its-octets}
 use Rattle.element.specs.declared.Item.{Item}
 use Rattle.element.specs.declared.Kind.the-variants.{Rreq, Rrep, Rerr}

@@ -4,9 +4,9 @@ use mathlib.Core.List.{flatMap}
 use Rattle.octets.specs.LittleEndian.{numberOctets, numberAt, overwrite, withNumber, fieldsAt, withFields, fieldOctets}
 use Rattle.counters.specs.Numbers.{stepped, wrapped, newer, older}
 use Rattle.counters.specs.Numbering.{advancedFor}
-use Rattle.table.specs.Address.{individual}
-use Rattle.table.specs.Layout.{sized, headAt, putHead, allZero, rowAt, putRow}
-use Rattle.table.specs.Row.{headWith, headOk, isFree, isUnnumbered, isOther, statusOk, boundsOk, isHeld, rowOk, active, renewed, numbered, invalidated, raised, isThrough}
+use Rattle.layout.specs.Address.{individual}
+use Rattle.layout.specs.Layout.{sized, headAt, putHead, allZero, rowAt, putRow}
+use Rattle.layout.specs.Row.{headWith, headOk, isFree, isUnnumbered, isOther, statusOk, boundsOk, isHeld, rowOk, active, renewed, numbered, invalidated, raised, isThrough}
 use Rattle.table.specs.Places.{first, count, every}
 use Rattle.table.specs.Table.{vacant, holds, findRow, rowFor, activeNext, freeRows, firstFree, alone, isTable, fresh, placeFor, store, freed, changeBelow, changeWhere}
 use Rattle.element.specs.Layout.{known, kindWith, fits}

@@ -10,14 +10,14 @@ use borrow.Author.Tests.{eqb-true}
 use Rattle.octets.proofs.Laws.{FitFields}
 use Rattle.counters.specs.declared.SequenceNumber.{SequenceNumber}
 use Rattle.counters.specs.Numbers.{stepped, nextNumber, newer}
-use Rattle.table.specs.declared.address.Address.{Address}
-use Rattle.table.specs.declared.row.Row.{Row}
-use Rattle.table.specs.Address.{same}
-use Rattle.table.specs.Row.{active, isHeld, invalidated, raised, isThrough}
+use Rattle.layout.specs.declared.address.Address.{Address}
+use Rattle.layout.specs.declared.row.Row.{Row}
+use Rattle.layout.specs.Address.{same}
+use Rattle.layout.specs.Row.{active, isHeld, invalidated, raised, isThrough}
 use Rattle.table.specs.Table.{own, changeWhere}
 use Rattle.table.proofs.Changes.{KeepsRows, change-length, change-head, change-octets, change-legal}
-use Rattle.table.proofs.HeadAndRows.{FitRow}
-use Rattle.table.proofs.HeldRows.{Held, held-says, held-is, invalid-fits, raised-fits, invalid-held, raised-held}
+use Rattle.layout.proofs.HeadAndRows.{FitRow}
+use Rattle.layout.proofs.HeldRows.{Held, held-says, held-is, invalid-fits, raised-fits, invalid-held, raised-held}
 use Rattle.element.specs.declared.LostDestination.{LostDestination}
 use Rattle.element.specs.Entries.{All}
 use Rattle.element.proofs.ListParts.{FitsLost}

@@ -2,7 +2,7 @@
 use mathlib.Core.Path.{_≡_, refl}
 use mathlib.Core.List.{List, [], _∷_, _++_, append-nil, flatMap}
 use Rattle.element.specs.Octets.{writeFrame}
-use Rattle.element.proofs.Listing.{listed-append}
+use Rattle.element.proofs.Scans.{listed-append}
 use Rattle.rules.specs.Exit.{Frame, frameOctets}
 
 pub no-frame : frameOctets [] ≡ []

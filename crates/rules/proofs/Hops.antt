@@ -4,8 +4,8 @@ use mathlib.Core.Path.{_≡_, ap}
 use mathlib.Core.List.{List}
 use mathlib.Core.Option.{Option, none, some}
 use native.Mathlib.Omega.{arith}
-use Rattle.table.specs.declared.address.Address.{Address}
-use Rattle.table.specs.Address.{same}
+use Rattle.layout.specs.declared.address.Address.{Address}
+use Rattle.layout.specs.Address.{same}
 use Rattle.table.specs.Table.{activeNext}
 use Rattle.rules.specs.Decision.{accepted}
 use Rattle.rules.specs.Walk.{Walked, tablesIn, rowOfPoint, leadsTo, goOn, follow, walking, walk}

@@ -10,14 +10,14 @@ use lib.ListN.{length}
 use native.Mathlib.Omega.{arith}
 use borrow.Author.Tests.{eqb-true}
 use Rattle.octets.proofs.Laws.{FitFields}
-use Rattle.table.specs.declared.address.Address.{Address}
-use Rattle.table.specs.declared.row.Head.{Head}
-use Rattle.table.specs.declared.row.Row.{Row}
-use Rattle.table.specs.Address.{same}
-use Rattle.table.specs.Row.{isUnnumbered, isOther, isHeld, active, renewed, numbered}
+use Rattle.layout.specs.declared.address.Address.{Address}
+use Rattle.layout.specs.declared.row.Head.{Head}
+use Rattle.layout.specs.declared.row.Row.{Row}
+use Rattle.layout.specs.Address.{same}
+use Rattle.layout.specs.Row.{isUnnumbered, isOther, isHeld, active, renewed, numbered}
 use Rattle.table.specs.Table.{own, rowFor, newRows, freeRows, store}
-use Rattle.table.proofs.HeadAndRows.{FitRow}
-use Rattle.table.proofs.HeldRows.{Held, held-says, held-is}
+use Rattle.layout.proofs.HeadAndRows.{FitRow}
+use Rattle.layout.proofs.HeldRows.{Held, held-says, held-is}
 use Rattle.table.proofs.Lookup.{row-destination, row-is-held, row-fits-its-octets, store-found, store-other, store-free, store-legal, store-length, store-head, store-octets}
 use Rattle.table.proofs.WellFormed.{same-itself, differ, not-same, equal-or-not}
 use Rattle.element.specs.declared.PathInfo.{PathInfo}

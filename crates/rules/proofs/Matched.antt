@@ -8,9 +8,9 @@ use mathlib.Core.Option.{Option, some}
 use Prim.Native.Nat.{ℕ}
 use borrow.Author.Tests.{eq-eqb, ne-eqb, eqb-false}
 use Rattle.counters.specs.declared.SequenceNumber.{SequenceNumber}
-use Rattle.table.specs.declared.address.Address.{Address}
-use Rattle.table.specs.declared.row.Row.{Row}
-use Rattle.table.specs.Address.{same}
+use Rattle.layout.specs.declared.address.Address.{Address}
+use Rattle.layout.specs.declared.row.Row.{Row}
+use Rattle.layout.specs.Address.{same}
 use Rattle.table.specs.Table.{rowFor}
 use Rattle.table.proofs.Lookup.{row-destination}
 use Rattle.element.specs.declared.LostDestination.{LostDestination}

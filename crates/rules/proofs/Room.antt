@@ -9,9 +9,9 @@ use native.Mathlib.Omega.{arith}
 use native.Mathlib.Nat.{mul-zero, mul-suc}
 use borrow.Author.Tests.{leb-true, not-false}
 use Rattle.octets.specs.LittleEndian.{Octets}
-use Rattle.table.specs.declared.address.Address.{Address}
-use Rattle.table.specs.declared.row.Row.{Row}
-use Rattle.table.specs.Layout.{sized, rows, rowAt}
+use Rattle.layout.specs.declared.address.Address.{Address}
+use Rattle.layout.specs.declared.row.Row.{Row}
+use Rattle.layout.specs.Layout.{sized, rows, rowAt}
 use Rattle.table.specs.Table.{number}
 use Rattle.table.proofs.Cases.{of-size}
 use Rattle.element.specs.declared.LostDestination.{LostDestination}
@@ -31,7 +31,7 @@ use Rattle.rules.specs.declared.Arrival.{Arrival}
 use Rattle.rules.specs.Learn.{learnt}
 use Rattle.rules.specs.Destinations.{Answered, reply, allAnswered}
 use Rattle.rules.specs.Onward.{rreqOnward}
-use Rattle.table.specs.Row.{isThrough}
+use Rattle.layout.specs.Row.{isThrough}
 use Rattle.rules.specs.Errors.{brokenEntry, brokenEntries}
 use Rattle.rules.specs.Receive.{rannReceived, rrepReceived, rreqReceived, rerrReceived, received, receiving, receive}
 use Rattle.rules.specs.Originate.{announced, requested, asking, ask, announcing, announce, requestingAsRoot, rootRequest}

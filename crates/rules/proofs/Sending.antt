@@ -14,13 +14,13 @@ use Rattle.counters.specs.declared.SequenceNumber.{SequenceNumber}
 use Rattle.counters.specs.declared.HopCount.{HopCount}
 use Rattle.counters.specs.declared.Metric.{Metric}
 use Rattle.counters.specs.Numbers.{nextNumber}
-use Rattle.table.specs.declared.address.Address.{Address}
-use Rattle.table.specs.declared.row.Row.{Row}
-use Rattle.table.specs.Address.{same}
-use Rattle.table.specs.Row.{invalidated, raised, isThrough}
-use Rattle.table.specs.Layout.{rows, rowAt}
+use Rattle.layout.specs.declared.address.Address.{Address}
+use Rattle.layout.specs.declared.row.Row.{Row}
+use Rattle.layout.specs.Address.{same}
+use Rattle.layout.specs.Row.{invalidated, raised, isThrough}
+use Rattle.layout.specs.Layout.{rows, rowAt}
 use Rattle.table.specs.Table.{own, rowFor}
-use Rattle.table.proofs.HeadAndRows.{FitRow, row-fits}
+use Rattle.layout.proofs.HeadAndRows.{FitRow, row-fits}
 use Rattle.table.proofs.Lookup.{row-fits-its-octets}
 use Rattle.element.specs.declared.LostDestination.{LostDestination}
 use Rattle.element.specs.declared.NumberedAddress.{NumberedAddress}

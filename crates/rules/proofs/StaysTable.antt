@@ -7,9 +7,9 @@ use lib.ListN.{length}
 use borrow.Author.Tests.{not-false}
 use Rattle.octets.specs.LittleEndian.{Octets}
 use Rattle.counters.specs.declared.SequenceNumber.{SequenceNumber}
-use Rattle.table.specs.declared.address.Address.{Address}
-use Rattle.table.specs.Address.{individual}
-use Rattle.table.specs.Layout.{sized}
+use Rattle.layout.specs.declared.address.Address.{Address}
+use Rattle.layout.specs.Address.{individual}
+use Rattle.layout.specs.Layout.{sized}
 use Rattle.table.specs.Table.{isTable, freed}
 use Rattle.table.proofs.WellFormed.{legal-of, legal-is}
 use Rattle.table.proofs.Cases.{of-size}

@@ -11,13 +11,13 @@ use Rattle.octets.specs.LittleEndian.{Octets}
 use Rattle.octets.proofs.Laws.{FitFields}
 use Rattle.counters.specs.declared.SequenceNumber.{SequenceNumber}
 use Rattle.counters.specs.declared.RequestId.{RequestId}
-use Rattle.table.specs.declared.row.Head.{Head}
-use Rattle.table.specs.Address.{individual}
-use Rattle.table.specs.Row.{headOk, headWith}
-use Rattle.table.specs.Layout.{sized, headAt, putHead, headOctets}
+use Rattle.layout.specs.declared.row.Head.{Head}
+use Rattle.layout.specs.Address.{individual}
+use Rattle.layout.specs.Row.{headOk, headWith}
+use Rattle.layout.specs.Layout.{sized, headAt, putHead, headOctets}
 use Rattle.table.specs.Table.{own, number, requestId, clock, isTable}
 use Rattle.table.proofs.Cases.{of-size}
-use Rattle.table.proofs.HeadAndRows.{FitHead, head-fits, head-same, head-octets, length-head}
+use Rattle.layout.proofs.HeadAndRows.{FitHead, head-fits, head-same, head-octets, length-head}
 use Rattle.table.proofs.Heads.{head-legal}
 use Rattle.table.proofs.WellFormed.{Legal, legal-of}
 

@@ -2,13 +2,13 @@
 use Prim.Native.Nat.{ℕ}
 use mathlib.Core.Bool.{Bool}
 use mathlib.Core.List.{List}
-use Rattle.table.specs.declared.address.Address.{Address}
-use Rattle.table.specs.declared.row.Row.{Row}
+use Rattle.layout.specs.declared.address.Address.{Address}
+use Rattle.layout.specs.declared.row.Row.{Row}
 use Rattle.table.specs.Table.{number, changeWhere}
 use Rattle.rules.specs.Decision.{Decision, Ruling, decide, accept, _>>_}
 use Rattle.rules.specs.Checks.{operandChecks, stateChecks}
 use Rattle.rules.specs.Exit.{Lent, withTable, Effect, underHead}
-use Rattle.table.specs.Row.{isThrough}
+use Rattle.layout.specs.Row.{isThrough}
 use Rattle.rules.specs.Errors.{broken, brokenEntries, errorsFor}
 
 -- the rows that pass the test break, the clock is stored, and those rows are announced

@@ -2,7 +2,7 @@
 use Prim.Native.Nat.{ℕ, _^_, _<_}
 use mathlib.Core.List.{List}
 use Rattle.octets.specs.LittleEndian.{Octets}
-use Rattle.table.specs.declared.address.Address.{Address}
+use Rattle.layout.specs.declared.address.Address.{Address}
 use Rattle.rules.specs.Decision.{Decision}
 use Rattle.rules.specs.Exit.{Lent, Effect}
 use Rattle.rules.specs.declared.Arrival.{Arrival}

@@ -3,10 +3,10 @@ use Prim.Native.Nat.{ℕ}
 use mathlib.Core.Bool.{not}
 use mathlib.Core.List.{List}
 use Rattle.rules.specs.Exit.{leastOutput}
-use Rattle.table.specs.Row.{maxClock}
-use Rattle.table.specs.declared.address.Address.{Address}
-use Rattle.table.specs.Address.{individual, same}
-use Rattle.table.specs.Layout.{sized}
+use Rattle.layout.specs.Row.{maxClock}
+use Rattle.layout.specs.declared.address.Address.{Address}
+use Rattle.layout.specs.Address.{individual, same}
+use Rattle.layout.specs.Layout.{sized}
 use Rattle.table.specs.Table.{own, clock, isTable}
 use Rattle.rules.specs.Decision.{Check, refuse_when_, _then_, _above_, _below_}
 

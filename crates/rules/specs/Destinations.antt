@@ -8,10 +8,10 @@ use Rattle.counters.specs.declared.SequenceNumber.{SequenceNumber}
 use Rattle.counters.specs.declared.Metric.{Metric}
 use Rattle.counters.specs.declared.HopCount.{HopCount}
 use Rattle.counters.specs.Numbers.{nextNumber, newer, older}
-use Rattle.table.specs.declared.address.Address.{Address}
-use Rattle.table.specs.declared.row.Row.{Row}
-use Rattle.table.specs.Address.{same}
-use Rattle.table.specs.Row.{active}
+use Rattle.layout.specs.declared.address.Address.{Address}
+use Rattle.layout.specs.declared.row.Row.{Row}
+use Rattle.layout.specs.Address.{same}
+use Rattle.layout.specs.Row.{active}
 use Rattle.table.specs.Table.{own, rowFor}
 use Rattle.element.specs.declared.PathInfo.{PathInfo}
 use Rattle.element.specs.declared.Target.{Target}

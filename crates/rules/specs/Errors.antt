@@ -7,11 +7,11 @@ use lib.Dec.{eqb}
 use lib.ListN.{length, take, drop}
 use Rattle.counters.specs.declared.SequenceNumber.{SequenceNumber}
 use Rattle.counters.specs.Numbers.{nextNumber, newer}
-use Rattle.table.specs.declared.address.Address.{Address}
-use Rattle.table.specs.declared.row.Row.{Row}
-use Rattle.table.specs.Address.{same}
-use Rattle.table.specs.Row.{isThrough, invalidated, raised}
-use Rattle.table.specs.Layout.{rows, rowAt}
+use Rattle.layout.specs.declared.address.Address.{Address}
+use Rattle.layout.specs.declared.row.Row.{Row}
+use Rattle.layout.specs.Address.{same}
+use Rattle.layout.specs.Row.{isThrough, invalidated, raised}
+use Rattle.layout.specs.Layout.{rows, rowAt}
 use Rattle.table.specs.Table.{rowFor}
 use Rattle.element.specs.declared.Kind.the-variants.{Rerr}
 use Rattle.element.specs.declared.LostDestination.{LostDestination}

@@ -4,9 +4,9 @@ use mathlib.Core.List.{List, flatMap}
 use lib.ListN.{length}
 use Rattle.octets.specs.LittleEndian.{overwrite}
 use Rattle.counters.specs.declared.SequenceNumber.{SequenceNumber}
-use Rattle.table.specs.declared.address.Address.{Address}
-use Rattle.table.specs.Row.{headWith}
-use Rattle.table.specs.Layout.{headAt, putHead}
+use Rattle.layout.specs.declared.address.Address.{Address}
+use Rattle.layout.specs.Row.{headWith}
+use Rattle.layout.specs.Layout.{headAt, putHead}
 use Rattle.table.specs.Table.{requestId}
 use Rattle.element.specs.Element.{Element}
 use Rattle.element.specs.Octets.{writeFrame}

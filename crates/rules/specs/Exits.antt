@@ -5,7 +5,7 @@ use Prim.Native.Nat.{ℕ}
 use mathlib.Core.List.{List}
 use lib.ListN.{length}
 use Rattle.counters.specs.declared.SequenceNumber.{SequenceNumber}
-use Rattle.table.specs.declared.address.Address.{Address}
+use Rattle.layout.specs.declared.address.Address.{Address}
 use Rattle.rules.specs.declared.Arrival.{Arrival}
 use Rattle.rules.specs.Exit.{Lent, Exit, atExit, TableExit, tableAtExit}
 use Rattle.rules.specs.Fresh.{makeFresh}

@@ -2,9 +2,9 @@
 use Prim.Native.Nat.{ℕ}
 use mathlib.Core.Bool.{not}
 use mathlib.Core.List.{List}
-use Rattle.table.specs.declared.address.Address.{Address}
-use Rattle.table.specs.Address.{individual}
-use Rattle.table.specs.Layout.{sized}
+use Rattle.layout.specs.declared.address.Address.{Address}
+use Rattle.layout.specs.Address.{individual}
+use Rattle.layout.specs.Layout.{sized}
 use Rattle.table.specs.Table.{isTable, rowFor, freed}
 use Rattle.rules.specs.Decision.{Decision, Ruling, decide, refuse_when_, accept, _>>_}
 use Rattle.rules.specs.Lists.{isSome}

@@ -4,9 +4,9 @@ use mathlib.Core.Bool.{not}
 use mathlib.Core.List.{List}
 use lib.ListN.{length}
 use Rattle.counters.specs.declared.SequenceNumber.{SequenceNumber}
-use Rattle.table.specs.declared.address.Address.{Address}
-use Rattle.table.specs.Address.{individual}
-use Rattle.table.specs.Layout.{sized}
+use Rattle.layout.specs.declared.address.Address.{Address}
+use Rattle.layout.specs.Address.{individual}
+use Rattle.layout.specs.Layout.{sized}
 use Rattle.table.specs.Table.{fresh}
 use Rattle.rules.specs.Decision.{Decision, Ruling, decide, refuse_when_, accept, _>>_}
 

@@ -7,10 +7,10 @@ use mathlib.Core.Option.{Option, none, some}
 use lib.Dec.{eqb, leb, ltb}
 use Rattle.counters.specs.declared.Metric.{Metric}
 use Rattle.counters.specs.declared.HopCount.{HopCount}
-use Rattle.table.specs.declared.address.Address.{Address}
-use Rattle.table.specs.declared.row.Row.{Row}
-use Rattle.table.specs.Address.{same}
-use Rattle.table.specs.Row.{active, renewed, numbered}
+use Rattle.layout.specs.declared.address.Address.{Address}
+use Rattle.layout.specs.declared.row.Row.{Row}
+use Rattle.layout.specs.Address.{same}
+use Rattle.layout.specs.Row.{active, renewed, numbered}
 use Rattle.table.specs.Table.{rowFor, store}
 use Rattle.element.specs.declared.PathInfo.{PathInfo}
 use Rattle.rules.specs.declared.Arrival.{Arrival}

@@ -3,10 +3,10 @@ use Prim.Native.Nat.{ℕ, _-_, _^_}
 use mathlib.Core.Bool.{not}
 use mathlib.Core.List.{List}
 use mathlib.Core.Option.{Option, Option·getD}
-use Rattle.table.specs.Row.{maxClock}
-use Rattle.table.specs.declared.address.Address.{Address}
-use Rattle.table.specs.Address.{individual}
-use Rattle.table.specs.Layout.{sized}
+use Rattle.layout.specs.Row.{maxClock}
+use Rattle.layout.specs.declared.address.Address.{Address}
+use Rattle.layout.specs.Address.{individual}
+use Rattle.layout.specs.Layout.{sized}
 use Rattle.table.specs.Table.{clock, isTable, rowFor, activeNext}
 use Rattle.rules.specs.Lists.{isSome}
 use Rattle.rules.specs.Decision.{Decision, Ruling, decide, refuse_when_, _above_, _below_, accept, _>>_}

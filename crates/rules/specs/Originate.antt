@@ -8,10 +8,10 @@ use lib.ListN.{length}
 use Rattle.counters.specs.declared.SequenceNumber.{SequenceNumber}
 use Rattle.counters.specs.declared.own.OwnCounters.{OwnCounters}
 use Rattle.counters.specs.Numbering.{advancedFor}
-use Rattle.table.specs.declared.row.Head.{Head}
-use Rattle.table.specs.declared.row.Row.{Row}
-use Rattle.table.specs.Row.{headWith}
-use Rattle.table.specs.Layout.{headAt, putHead}
+use Rattle.layout.specs.declared.row.Head.{Head}
+use Rattle.layout.specs.declared.row.Row.{Row}
+use Rattle.layout.specs.Row.{headWith}
+use Rattle.layout.specs.Layout.{headAt, putHead}
 use Rattle.table.specs.Table.{own, isTable, rowFor}
 use Rattle.element.specs.declared.Item.{Item}
 use Rattle.element.specs.declared.PathInfo.{PathInfo}

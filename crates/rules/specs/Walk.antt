@@ -6,11 +6,11 @@ use mathlib.Core.List.{List, [], _∷_, map}
 use mathlib.Core.Option.{Option, none, some}
 use lib.Dec.{eqb, leb}
 use lib.ListN.{length, take, drop}
-use Rattle.table.specs.Row.{maxClock}
-use Rattle.table.specs.declared.address.Address.{Address}
-use Rattle.table.specs.declared.row.Row.{Row}
-use Rattle.table.specs.Address.{individual, same, addressOf}
-use Rattle.table.specs.Layout.{sized}
+use Rattle.layout.specs.Row.{maxClock}
+use Rattle.layout.specs.declared.address.Address.{Address}
+use Rattle.layout.specs.declared.row.Row.{Row}
+use Rattle.layout.specs.Address.{individual, same, addressOf}
+use Rattle.layout.specs.Layout.{sized}
 use Rattle.table.specs.Table.{clock, isTable, rowFor, activeNext}
 use Rattle.element.specs.Entries.{each}
 use Rattle.element.specs.Lists.{contains, hasDuplicate}

@@ -5,10 +5,10 @@ use mathlib.Core.Bool.{true, false}
 use mathlib.Core.List.{List}
 use lib.Dec.{ltb}
 use borrow.Author.Tests.{eq-eqb, ne-eqb, lt-ltb, le-ltb}
-use Rattle.table.specs.declared.address.Address.{Address}
-use Rattle.table.specs.declared.row.Head.{Head}
-use Rattle.table.specs.Address.{same}
-use Rattle.table.specs.Layout.{headAt}
+use Rattle.layout.specs.declared.address.Address.{Address}
+use Rattle.layout.specs.declared.row.Head.{Head}
+use Rattle.layout.specs.Address.{same}
+use Rattle.layout.specs.Layout.{headAt}
 use Rattle.table.specs.Table.{own, clock}
 
 module _ (t : List ℕ) (h : Head) (he : h ≡ headAt t) where

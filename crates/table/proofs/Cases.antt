@@ -8,13 +8,13 @@ use borrow.Author.Tests.{leb-true, eqb-true, eq-eqb, ne-eqb, not-true, not-false
 use mathlib.Core.Bool.{Bool, true, false, _&&_, _||_, not, and-comm, and-true, and-false, and-eq-true-iff}
 use mathlib.Core.List.{List}
 use mathlib.Core.Option.{none, some}
-use Rattle.table.specs.declared.address.Address.{Address}
-use Rattle.table.specs.declared.row.Head.{Head}
-use Rattle.table.specs.declared.row.Row.{Row}
+use Rattle.layout.specs.declared.address.Address.{Address}
+use Rattle.layout.specs.declared.row.Head.{Head}
+use Rattle.layout.specs.declared.row.Row.{Row}
 use Rattle.table.specs.declared.search.Found.{Found}
-use Rattle.table.specs.Address.{individual, same}
-use Rattle.table.specs.Row.{headOk, isFree, isUnnumbered, isOther, statusOk, boundsOk, isHeld, rowOk, isThrough, active}
-use Rattle.table.specs.Layout.{headOctets, rowOctets, mostRows, place, sized, Sized, rows, allZero, rowAt, headAt, putRow}
+use Rattle.layout.specs.Address.{individual, same}
+use Rattle.layout.specs.Row.{headOk, isFree, isUnnumbered, isOther, statusOk, boundsOk, isHeld, rowOk, isThrough, active}
+use Rattle.layout.specs.Layout.{headOctets, rowOctets, mostRows, place, sized, Sized, rows, allZero, rowAt, headAt, putRow}
 use Rattle.table.specs.declared.search.Found.the-variants.{At, Nothing}
 use Rattle.table.proofs.Places.{first-below}
 use Rattle.table.specs.Places.{first, every, isNothing, orElse}
@@ -148,16 +148,6 @@ module _ (t : List ℕ) where
       pub row-marked : (m ≡ 0 → ⊥) → (b : Bool) → b ≡ alone t i → b ≡ (rowOk own (rowAt t i) && (eqb m 0 || alone t i))
       row-marked n b be = cc (ne-eqb m 0 n)
 
--- a head by its own address, and then the rest
-module _ (h : Head) (a : Bool) (ae : a ≡ individual (h .own)) where
-  pub head-stranger : a ≡ false → false ≡ headOk h
-  unfolding headOk
-  head-stranger no-a = cc
-
-  pub head-rest : a ≡ true → (eqb (h .zero2) 0 && leb (h .clock) 281474976710655 && eqb (h .zero8) 0) ≡ headOk h
-  unfolding headOk
-  head-rest yes-a = cc
-
 -- row i is free or held
 module _ (t : List ℕ) (own : Address) (i : ℕ) (a b : Bool) (ae : a ≡ vacant t i) where
   pub row-free : a ≡ true → b ≡ isFree (rowAt t i) → b ≡ rowOk own (rowAt t i)
@@ -171,39 +161,3 @@ module _ (t : List ℕ) (own : Address) (i : ℕ) (a b : Bool) (ae : a ≡ vacan
   pub row-held : (r : Row) → r ≡ rowAt t i → a ≡ false → b ≡ isHeld own r → b ≡ rowOk own (rowAt t i)
   unfolding rowOk isFree allZero vacant
   row-held r re v e = rw (sym ae ∙ v, ← re) e
-
--- a held row by its parts, the first that fails deciding
-module _ (own : Address) (r : Row) (a : Bool) (ae : a ≡ statusOk r) where
-  pub held-status-bad : a ≡ false → false ≡ isHeld own r
-  unfolding isHeld
-  held-status-bad no-a = cc
-
-  module _ (yes-a : a ≡ true) (b : Bool) (be : b ≡ isOther own (r .destination)) where
-    pub held-destination : b ≡ false → false ≡ isHeld own r
-    unfolding isHeld
-    held-destination no-b = cc
-
-    module _ (yes-b : b ≡ true) (c : Bool) (ce : c ≡ isOther own (r .next)) where
-      pub held-next : c ≡ false → false ≡ isHeld own r
-      unfolding isHeld
-      held-next no-c = cc
-
-      module _ (yes-c : c ≡ true) (e : Bool) (ee : e ≡ boundsOk r) where
-        pub held-bounds-bad : e ≡ false → false ≡ isHeld own r
-        unfolding isHeld
-        held-bounds-bad no-e = cc
-
-        module _ (yes-e : e ≡ true) where
-          pub held-numbered : r .known ≡ 1 → true ≡ isHeld own r
-          unfolding isHeld
-          held-numbered k = cc (eq-eqb (r .known) 1 k)
-
-          pub held-unnumbered : (f : Bool) → (r .known ≡ 1 → ⊥) → f ≡ isUnnumbered r → f ≡ isHeld own r
-          unfolding isHeld
-          held-unnumbered f k fe = cc (ne-eqb (r .known) 1 k)
-
--- ---- a row through a neighbour
-
-pub through-is : (c : ℕ) (hop : Address) (r : Row) (b : Bool) → b ≡ active c r → (b && same (r .next) hop) ≡ isThrough c hop r
-unfolding isThrough
-through-is c hop r b e = ap (λ (a : Bool). a && same (r .next) hop) e

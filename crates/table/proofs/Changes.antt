@@ -12,15 +12,15 @@ use native.Mathlib.Nat.{eq-or-lt-of-le, le-of-suc-le-suc, not-suc-le-zero}
 use native.Mathlib.Numerals.{add-one}
 use native.Mathlib.Omega.{arith}
 use Rattle.octets.specs.LittleEndian.{Octets}
-use Rattle.table.specs.declared.address.Address.{Address}
-use Rattle.table.specs.declared.row.Head.{Head}
-use Rattle.table.specs.declared.row.Row.{Row}
+use Rattle.layout.specs.declared.address.Address.{Address}
+use Rattle.layout.specs.declared.row.Head.{Head}
+use Rattle.layout.specs.declared.row.Row.{Row}
 use Rattle.table.specs.declared.search.Found.{Found}
 use Rattle.table.specs.declared.search.Found.the-variants.{At, Nothing}
-use Rattle.table.specs.Row.{isFree, isHeld, rowOk}
-use Rattle.table.specs.Layout.{rows, place, headAt, rowAt, putRow}
+use Rattle.layout.specs.Row.{isFree, isHeld, rowOk}
+use Rattle.layout.specs.Layout.{rows, place, headAt, rowAt, putRow}
 use Rattle.table.specs.Table.{own, vacant, holds, findRow, rowIn, rowFor, freeRows, changeAt, changeBelow, changeWhere}
-use Rattle.table.proofs.HeadAndRows.{FitRow, length-row, row-same, row-other, head-stays, row-octets, row-fits}
+use Rattle.layout.proofs.HeadAndRows.{FitRow, length-row, row-same, row-other, head-stays, row-octets, row-fits}
 use Rattle.table.proofs.Places.{first-cong, count-cong}
 use Rattle.table.proofs.WellFormed.{Legal}
 use Rattle.table.proofs.Lookup.{found-here, held-of}

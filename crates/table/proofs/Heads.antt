@@ -14,15 +14,15 @@ use borrow.Rule.Slice.PartMut.{midOf, putMid, same-len-mid}
 use Rattle.octets.specs.LittleEndian.{zeros, total, Octets}
 use Rattle.octets.proofs.Laws.{FitFields, octet-zero, octet-apart, octet-inside, octets-zero}
 use Rattle.counters.specs.declared.SequenceNumber.{SequenceNumber}
-use Rattle.table.specs.declared.address.Address.{Address}
-use Rattle.table.specs.declared.row.Head.{Head}
+use Rattle.layout.specs.declared.address.Address.{Address}
+use Rattle.layout.specs.declared.row.Head.{Head}
 use Rattle.table.specs.declared.search.Found.{Found}
 use Rattle.table.specs.declared.search.Found.the-variants.{At, Nothing}
-use Rattle.table.specs.Address.{individual, same}
-use Rattle.table.specs.Row.{freshHead, freeRow, headOk, isFree, rowOk}
-use Rattle.table.specs.Layout.{rows, allZero, headWidths, headNumbers, headAt, putHead, rowAt, headOctets}
+use Rattle.layout.specs.Address.{individual, same}
+use Rattle.layout.specs.Row.{freshHead, freeRow, headOk, isFree, rowOk}
+use Rattle.layout.specs.Layout.{rows, allZero, headWidths, headNumbers, headAt, putHead, rowAt, headOctets}
 use Rattle.table.specs.Table.{own, vacant, holds, findRow, rowIn, rowFor, freeRows, isTable, fresh}
-use Rattle.table.proofs.HeadAndRows.{FitHead, length-head, head-same, row-stays, head-octets, row-zero}
+use Rattle.layout.proofs.HeadAndRows.{FitHead, length-head, head-same, row-stays, head-octets, row-zero}
 use Rattle.table.proofs.Places.{first-cong, first-nowhere, count-cong, count-all}
 use Rattle.table.proofs.WellFormed.{Legal, legal-is, true-not-false}
 

@@ -2,10 +2,8 @@
 pub mod ByHead
 pub mod Cases
 pub mod Changes
-pub mod HeadAndRows
 pub mod Heads
 pub mod Lookup
 pub mod WellFormed
-pub mod HeldRows
-pub mod Marks
+mod MarkedRows
 pub mod Places

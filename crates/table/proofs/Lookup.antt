@@ -9,18 +9,18 @@ use lib.Dec.{eqb}
 use native.Mathlib.Decide.{ℕ-discrete}
 use native.Mathlib.Omega.{arith}
 use borrow.Author.Tests.{eqb-true}
-use Rattle.table.specs.declared.address.Address.{Address}
-use Rattle.table.specs.declared.row.Head.{Head}
-use Rattle.table.specs.declared.row.Row.{Row}
+use Rattle.layout.specs.declared.address.Address.{Address}
+use Rattle.layout.specs.declared.row.Head.{Head}
+use Rattle.layout.specs.declared.row.Row.{Row}
 use Rattle.table.specs.declared.search.Found.{Found}
 use Rattle.table.specs.declared.search.Found.the-variants.{At, Nothing}
 use Rattle.octets.specs.LittleEndian.{Octets}
-use Rattle.table.specs.Address.{same}
-use Rattle.table.specs.Row.{freeRow, isFree, statusOk, isHeld, rowOk}
+use Rattle.layout.specs.Address.{same}
+use Rattle.layout.specs.Row.{freeRow, isFree, statusOk, isHeld, rowOk}
 use Rattle.octets.proofs.Laws.{FitFields}
-use Rattle.table.specs.Layout.{rows, allZero, place, headAt, rowAt, putRow, rowOctets}
+use Rattle.layout.specs.Layout.{rows, allZero, place, headAt, rowAt, putRow, rowOctets}
 use Rattle.table.specs.Table.{own, vacant, holds, findRow, firstFree, rowIn, rowFor, newRows, freeRows, placeFor, putAt, store, freed}
-use Rattle.table.proofs.HeadAndRows.{FitRow, length-row, row-same, row-other, head-stays, row-octets, row-fits}
+use Rattle.layout.proofs.HeadAndRows.{FitRow, length-row, row-same, row-other, head-stays, row-octets, row-fits}
 use Rattle.table.proofs.Places.{first-below, first-true, first-not, first-only, first-nowhere, first-cong, count-cong, count-drop, count-nowhere}
 use Rattle.table.proofs.WellFormed.{Legal, true-not-false, false-of, same-is, same-itself, held-row}
 

@@ -7,12 +7,12 @@ use mathlib.Core.Logic.{_⊎_, inl, inr}
 use native.Mathlib.Decide.{ℕ-discrete}
 use native.Mathlib.Omega.{arith, ne-cases}
 use borrow.Author.Tests.{eqb-true, eqb-false, eq-eqb, ne-eqb, not-true}
-use Rattle.table.specs.declared.address.Address.{Address}
+use Rattle.layout.specs.declared.address.Address.{Address}
 use Rattle.table.specs.declared.search.Found.{Found}
 use Rattle.table.specs.declared.search.Found.the-variants.{At, Nothing}
-use Rattle.table.specs.Address.{same}
-use Rattle.table.specs.Row.{headOk, rowOk}
-use Rattle.table.specs.Layout.{rows, rowAt, headAt}
+use Rattle.layout.specs.Address.{same}
+use Rattle.layout.specs.Row.{headOk, rowOk}
+use Rattle.layout.specs.Layout.{rows, rowAt, headAt}
 use Rattle.table.specs.Places.{first, every}
 use Rattle.table.specs.Table.{own, vacant, holds, alone, passes, isTable}
 use Rattle.table.proofs.Places.{every-at, every-of, first-not, first-nowhere}

@@ -1,6 +1,2 @@
-pub mod Address
-pub mod Layout
-pub mod Marks
-pub mod Row
 pub mod Places
 pub mod Table

@@ -7,15 +7,15 @@ use lib.Dec.{eqb}
 use Rattle.counters.specs.declared.SequenceNumber.{SequenceNumber}
 use Rattle.counters.specs.declared.RequestId.{RequestId}
 use Rattle.octets.specs.LittleEndian.{zeros}
-use Rattle.table.specs.declared.address.Address.{Address}
-use Rattle.table.specs.declared.row.Row.{Row}
+use Rattle.layout.specs.declared.address.Address.{Address}
+use Rattle.layout.specs.declared.row.Row.{Row}
 use Rattle.table.specs.declared.search.Found.{Found}
 use Rattle.table.specs.declared.search.Found.the-variants.{At, Nothing}
 use Rattle.table.specs.declared.search.NextHop.{NextHop}
 use Rattle.table.specs.declared.search.NextHop.the-variants.{To, Nobody}
-use Rattle.table.specs.Address.{same}
-use Rattle.table.specs.Row.{freshHead, freeRow, headOk, rowOk, active}
-use Rattle.table.specs.Layout.{rows, headAt, putHead, rowAt, putRow}
+use Rattle.layout.specs.Address.{same}
+use Rattle.layout.specs.Row.{freshHead, freeRow, headOk, rowOk, active}
+use Rattle.layout.specs.Layout.{rows, headAt, putHead, rowAt, putRow}
 use Rattle.table.specs.Places.{first, count, every, isNothing, orElse}
 
 -- ---- the head

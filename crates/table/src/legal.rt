@@ -1,27 +1,19 @@
 // Whether octets are a table.
-use crate::address::Address;
-use crate::row;
-use crate::row::HEAD_OCTETS;
-use crate::row::Head;
-use crate::row::MOST_ROWS;
-use crate::row::ROW_OCTETS;
-use crate::row::Row;
 use crate::search;
+use layout::address::Address;
+use layout::row;
+use layout::row::HEAD_OCTETS;
+use layout::row::MOST_ROWS;
+use layout::row::ROW_OCTETS;
 ghost use mathlib.Core.Path.{_≡_};
 ghost use mathlib.Core.Bool.{_&&_, _||_};
-ghost use Prim.Native.Nat.{_+_, _*_, _/_, _%_, _^_, _≤_};
+ghost use Prim.Native.Nat.{_+_, _≤_};
 ghost use lib.ListN.{length};
 ghost use lib.Dec.{eqb};
-ghost use Rattle.table.specs.Row.{headOk, boundsOk, isFree, isHeld, statusOk, isOther, isUnnumbered, rowOk};
-ghost use Rattle.table.specs.Layout.{place, rowAt, rowOctets, sized, Sized};
+ghost use Rattle.layout.specs.Row.{isFree, rowOk};
+ghost use Rattle.layout.specs.Layout.{place, rowAt, rowOctets, sized, Sized};
 ghost use Rattle.table.specs.Places.{every};
 ghost use Rattle.table.specs.Table.{alone, isTable, passes};
-
-// Clocks have 48 bits.
-pub const MAX_CLOCK: u64 = 281474976710655;
-
-// 2^48 + 2^32.
-const MAX_EXPIRY: u64 = 281479271677952;
 
 // Octets of the shortest table and of the longest.
 const SHORTEST: usize = HEAD_OCTETS + ROW_OCTETS;
@@ -33,69 +25,6 @@ pub fn is_sized(table: &[u8]) -> bool
 {
     let octets = table.len();
     (octets % ROW_OCTETS == HEAD_OCTETS % ROW_OCTETS) & (SHORTEST <= octets) & (octets <= LONGEST)
-}
-
-impl Address {
-    fn is_other(self, own: Address) -> bool
-        ensures { λ r. ⌜ r ≡ isOther own self ⌝ }
-    {
-        self.is_individual() & (self.0 != own.0)
-    }
-}
-
-impl Head {
-    fn is_ok(self) -> bool
-        ensures { λ r. ⌜ r ≡ headOk self ⌝ }
-    {
-        let own = self.own;
-        if !own.is_individual() {
-            return false;
-        }
-        (self.zero2 == 0) & (self.clock <= MAX_CLOCK) & (self.zero8 == 0)
-    }
-}
-
-impl Row {
-    fn is_unnumbered(self) -> bool
-        ensures { λ r. ⌜ r ≡ isUnnumbered self ⌝ }
-    {
-        (self.number.0 == 0) & (self.hops.0 == 1) & (self.next.0 == self.destination.0)
-    }
-
-    fn status_ok(self) -> bool
-        ensures { λ r. ⌜ r ≡ statusOk self ⌝ }
-    {
-        (1 <= self.status) & (self.status <= 2) & (self.known <= 1) & (self.zero == 0)
-    }
-
-    fn bounds_ok(self) -> bool
-        ensures { λ r. ⌜ r ≡ boundsOk self ⌝ }
-    {
-        (1 <= self.metric.0) & (self.expiry <= MAX_EXPIRY)
-    }
-
-    fn is_held(self, own: Address) -> bool
-        ensures { λ r. ⌜ r ≡ isHeld own self ⌝ }
-    {
-        if !self.status_ok() {
-            return false;
-        }
-        let destination = self.destination;
-        if !destination.is_other(own) {
-            return false;
-        }
-        let next = self.next;
-        if !next.is_other(own) {
-            return false;
-        }
-        if !self.bounds_ok() {
-            return false;
-        }
-        if self.known == 1 {
-            return true;
-        }
-        self.is_unnumbered()
-    }
 }
 
 // Whether row i is all zero, eight octets at a time.

@@ -1,6 +1,4 @@
 // The table of a mesh point in lent octets: a head of 32 octets, and rows of 32.
-pub mod address;
 pub mod legal;
-pub mod row;
 pub mod search;
 pub mod store;

@@ -1,13 +1,13 @@
 // Rows by destination, and free rows.
-use crate::address::Address;
-use crate::row;
-use crate::row::HEAD_OCTETS;
-use crate::row::ROW_OCTETS;
+use layout::address::Address;
+use layout::row;
+use layout::row::HEAD_OCTETS;
+use layout::row::ROW_OCTETS;
 ghost use mathlib.Core.Path.{_≡_};
 ghost use mathlib.Core.Bool.{cond};
 ghost use Prim.Native.Nat.{_+_, _≤_, _<_};
 ghost use lib.ListN.{length};
-ghost use Rattle.table.specs.Layout.{mostRows, place, rowOctets, rows, Sized};
+ghost use Rattle.layout.specs.Layout.{mostRows, place, rowOctets, rows, Sized};
 ghost use Rattle.table.specs.Places.{count, first, isNothing, orElse};
 ghost use Rattle.table.specs.Table.{activeNext, findRow, firstFree, freeRows, holds, hopIn, rowFor, vacant};
 

@@ -1,16 +1,16 @@
 // What calls do to a table.
-use crate::address::Address;
-use crate::row;
-use crate::row::HEAD_OCTETS;
-use crate::row::Head;
-use crate::row::Row;
 use crate::search;
 use crate::search::Found;
 use counters::SequenceNumber;
+use layout::address::Address;
+use layout::row;
+use layout::row::HEAD_OCTETS;
+use layout::row::Head;
+use layout::row::Row;
 ghost use mathlib.Core.Path.{_≡_};
 ghost use lib.ListN.{length};
 ghost use Rattle.table.specs.Table.{findRow, fresh, store};
-ghost use Rattle.table.specs.Layout.{Sized};
+ghost use Rattle.layout.specs.Layout.{Sized};
 
 // Makes a fresh table of whatever stood there.
 pub fn make_fresh(table: &mut [u8], own: Address, number: SequenceNumber)

@@ -6,16 +6,16 @@ use mathlib.Core.List.{List}
 use lib.ListN.{length}
 use borrow.Author.Tests.{lt-ltb, le-ltb}
 use Rattle.counters.specs.declared.SequenceNumber.{SequenceNumber}
-use Rattle.table.specs.declared.address.Address.{Address}
-use Rattle.table.specs.declared.row.Head.{Head}
-use Rattle.table.specs.declared.row.Row.{Row as TableRow}
+use Rattle.layout.specs.declared.address.Address.{Address}
+use Rattle.layout.specs.declared.row.Head.{Head}
+use Rattle.layout.specs.declared.row.Row.{Row as TableRow}
 use Rattle.table.specs.declared.search.Found.{Found}
 use Rattle.table.specs.declared.search.Found.the-variants.{At, Nothing}
 use Rattle.table.specs.declared.search.NextHop.{NextHop}
 use Rattle.table.specs.declared.search.NextHop.the-variants.{To, Nobody}
-use Rattle.table.specs.Address.{individual}
-use Rattle.table.specs.Row.{freeRow}
-use Rattle.table.specs.Layout.{sized, place, headAt, rowAt, putRow, rowOctets}
+use Rattle.layout.specs.Address.{individual}
+use Rattle.layout.specs.Row.{freeRow}
+use Rattle.layout.specs.Layout.{sized, place, headAt, rowAt, putRow, rowOctets}
 use Rattle.table.specs.Table.{isTable, findRow, rowFor, activeNext, hopIn, fresh, freed}
 use Rattle.table.proofs.Cases.{found-within, row-at, row-none}
 use Rattle.rules.specs.Exit.{tableAtExit}

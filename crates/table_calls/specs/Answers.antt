@@ -1,5 +1,5 @@
 -- Document 01's values for a next hop.
-use Rattle.table.specs.declared.address.Address.{Address}
+use Rattle.layout.specs.declared.address.Address.{Address}
 use Rattle.rules.specs.Decision.{Decision, refused, accepted}
 use Rattle.table_calls.specs.declared.next_hop.Hop.{Hop}
 use Rattle.table_calls.specs.declared.next_hop.Hop.the-variants.{Via, Refused}

@@ -3,9 +3,9 @@ use Prim.Native.Nat.{ℕ, _+_, _≤_}
 use mathlib.Core.Path.{_≡_}
 use mathlib.Core.List.{List}
 use lib.ListN.{length}
-use Rattle.table.specs.declared.address.Address.{Address}
-use Rattle.table.specs.Row.{freeRow}
-use Rattle.table.specs.Layout.{place, putRow, rowOctets}
+use Rattle.layout.specs.declared.address.Address.{Address}
+use Rattle.layout.specs.Row.{freeRow}
+use Rattle.layout.specs.Layout.{place, putRow, rowOctets}
 use Rattle.rules.specs.Decision.{refused, accepted}
 use Rattle.rules.specs.Forget.{forget}
 use Rattle.table_calls.specs.declared.forget.Check.{Check}

@@ -1,9 +1,9 @@
 // Forget a destination.
 use calls::Answer;
-use table::address::Address;
+use layout::address::Address;
+use layout::row;
+use layout::row::Row;
 use table::legal;
-use table::row;
-use table::row::Row;
 use table::search;
 use table::search::Found;
 ghost use mathlib.Core.Path.{_≡_};

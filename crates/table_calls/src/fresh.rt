@@ -1,7 +1,7 @@
 // Make a fresh table.
 use calls::Answer;
 use counters::SequenceNumber;
-use table::address::Address;
+use layout::address::Address;
 use table::legal;
 use table::store;
 ghost use mathlib.Core.Path.{_≡_};

@@ -1,7 +1,7 @@
 // Find a next hop.
-use table::address::Address;
+use layout::address::Address;
+use layout::row;
 use table::legal;
-use table::row;
 use table::search;
 use table::search::NextHop;
 ghost use mathlib.Core.Path.{_≡_};
@@ -20,7 +20,7 @@ pub fn next_hop(table: &[u8], clock: u64, destination: Address) -> Hop
     if !legal::is_sized(table) {
         return Hop::Refused(refusals::TABLE_LENGTH);
     }
-    if legal::MAX_CLOCK < clock {
+    if row::MAX_CLOCK < clock {
         return Hop::Refused(refusals::CLOCK_TOO_LARGE);
     }
     if !destination.is_individual() {

@@ -3,8 +3,8 @@ use mathlib.Core.Path.{_≡_, refl, sym, ap, _∙_}
 use mathlib.Core.Bool.{Bool, true, false, cond}
 use mathlib.Core.List.{List, [], _∷_, List·Memᴰ, List·Memᴰ·head, List·Memᴰ·tail}
 use mathlib.Core.Option.{Option, some, Option·none-ne-some, Option·some-injective}
-use Rattle.table.specs.declared.address.Address.{Address}
-use Rattle.table.specs.Address.{same}
+use Rattle.layout.specs.declared.address.Address.{Address}
+use Rattle.layout.specs.Address.{same}
 use Rattle.table.specs.Table.{own}
 use Rattle.table.proofs.WellFormed.{same-is, same-itself, differ}
 use Rattle.rules.specs.Exit.{Lent}

@@ -6,11 +6,11 @@ use mathlib.Core.List.{List, _++_, List·Memᴰ}
 use mathlib.Core.Option.{some, Option·map}
 use mathlib.Core.Logic.{inl, inr}
 use Rattle.octets.specs.LittleEndian.{Octets}
-use Rattle.table.specs.declared.address.Address.{Address}
-use Rattle.table.specs.declared.row.Head.{Head}
-use Rattle.table.specs.declared.row.Row.{Row}
-use Rattle.table.specs.Row.{active, headWith, isThrough}
-use Rattle.table.specs.Layout.{putHead}
+use Rattle.layout.specs.declared.address.Address.{Address}
+use Rattle.layout.specs.declared.row.Head.{Head}
+use Rattle.layout.specs.declared.row.Row.{Row}
+use Rattle.layout.specs.Row.{active, headWith, isThrough}
+use Rattle.layout.specs.Layout.{putHead}
 use Rattle.table.specs.Table.{own, number, rowFor, changeWhere}
 use Rattle.table.proofs.Heads.{head-found}
 use Rattle.table.proofs.Changes.{KeepsRows, changed, by-test, change-found}

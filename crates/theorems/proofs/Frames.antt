@@ -12,8 +12,8 @@ use Rattle.counters.specs.declared.HopCount.{HopCount}
 use Rattle.counters.specs.declared.Metric.{Metric}
 use Rattle.counters.specs.Numbers.{nextNumber}
 use Rattle.counters.proofs.Rank.{level}
-use Rattle.table.specs.declared.address.Address.{Address}
-use Rattle.table.specs.declared.row.Row.{Row}
+use Rattle.layout.specs.declared.address.Address.{Address}
+use Rattle.layout.specs.declared.row.Row.{Row}
 use Rattle.table.specs.Table.{own, rowFor}
 use Rattle.table.proofs.Lookup.{row-destination}
 use Rattle.element.specs.declared.PathInfo.{PathInfo}

@@ -12,8 +12,8 @@ use mathlib.Core.Logic.{_⊎_, ⊎-elim, ⊎-map}
 use lib.Dec.{eqb}
 use Rattle.counters.specs.declared.SequenceNumber.{SequenceNumber}
 use Rattle.counters.proofs.Rank.{AtLeast, Above}
-use Rattle.table.specs.declared.address.Address.{Address}
-use Rattle.table.specs.declared.row.Row.{Row}
+use Rattle.layout.specs.declared.address.Address.{Address}
+use Rattle.layout.specs.declared.row.Row.{Row}
 use Rattle.table.specs.Table.{own, rowFor}
 use Rattle.table.proofs.WellFormed.{equal-or-not}
 use Rattle.element.specs.declared.PathInfo.{PathInfo}

@@ -11,11 +11,11 @@ use borrow.Author.Tests.{ltb-true}
 use Rattle.octets.specs.LittleEndian.{Octets}
 use Rattle.octets.proofs.Laws.{FitFields}
 use Rattle.counters.specs.declared.Metric.{Metric}
-use Rattle.table.specs.declared.address.Address.{Address}
-use Rattle.table.specs.declared.row.Row.{Row}
-use Rattle.table.specs.Address.{same}
+use Rattle.layout.specs.declared.address.Address.{Address}
+use Rattle.layout.specs.declared.row.Row.{Row}
+use Rattle.layout.specs.Address.{same}
 use Rattle.table.specs.Table.{own, number, rowFor}
-use Rattle.table.proofs.HeadAndRows.{FitHead, FitRow, head-fits}
+use Rattle.layout.proofs.HeadAndRows.{FitHead, FitRow, head-fits}
 use Rattle.table.proofs.Heads.{fresh-none, fresh-octets}
 use Rattle.table.proofs.Lookup.{row-fits-its-octets}
 use Rattle.element.specs.Octets.{writeElement}

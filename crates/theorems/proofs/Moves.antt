@@ -10,10 +10,10 @@ use native.Mathlib.Omega.{arith}
 use borrow.Author.Tests.{not-true}
 use Rattle.counters.specs.declared.SequenceNumber.{SequenceNumber}
 use Rattle.counters.proofs.Rank.{level, at-least-trans}
-use Rattle.table.specs.declared.address.Address.{Address}
-use Rattle.table.specs.declared.row.Row.{Row}
-use Rattle.table.specs.Address.{individual, same}
-use Rattle.table.specs.Row.{isOther, renewed, numbered}
+use Rattle.layout.specs.declared.address.Address.{Address}
+use Rattle.layout.specs.declared.row.Row.{Row}
+use Rattle.layout.specs.Address.{individual, same}
+use Rattle.layout.specs.Row.{isOther, renewed, numbered}
 use Rattle.table.specs.Table.{own, rowFor}
 use Rattle.table.proofs.WellFormed.{not-same}
 use Rattle.element.specs.declared.PathInfo.{PathInfo}

@@ -7,9 +7,9 @@ use mathlib.Core.Option.{Option, none, some, Option·none-ne-some, Option·some-
 use mathlib.Core.Logic.{_⊎_, inl, inr, ⊎-map}
 use lib.Dec.{eqb}
 use Rattle.counters.proofs.Rank.{Above, at-least-trans, at-least-above, weaken, not-above-itself}
-use Rattle.table.specs.declared.address.Address.{Address}
-use Rattle.table.specs.declared.row.Row.{Row}
-use Rattle.table.specs.Address.{same}
+use Rattle.layout.specs.declared.address.Address.{Address}
+use Rattle.layout.specs.declared.row.Row.{Row}
+use Rattle.layout.specs.Address.{same}
 use Rattle.table.specs.Table.{rowFor}
 use Rattle.table.proofs.WellFormed.{same-is}
 use Rattle.element.specs.Lists.{contains, hasDuplicate}

@@ -7,11 +7,11 @@ use lib.Dec.{eqb}
 use lib.ListN.{length, getD}
 use Rattle.octets.specs.LittleEndian.{zeros}
 use Rattle.counters.specs.Numbers.{newer, older}
-use Rattle.table.specs.declared.address.Address.{Address}
-use Rattle.table.specs.declared.row.Row.{Row}
-use Rattle.table.specs.Address.{same}
-use Rattle.table.specs.Layout.{putRow}
-use Rattle.table.specs.Row.{freeRow}
+use Rattle.layout.specs.declared.address.Address.{Address}
+use Rattle.layout.specs.declared.row.Row.{Row}
+use Rattle.layout.specs.Address.{same}
+use Rattle.layout.specs.Layout.{putRow}
+use Rattle.layout.specs.Row.{freeRow}
 use Rattle.table.specs.Places.{every}
 use Rattle.table.specs.Table.{number, rowFor, holds, fresh}
 use Rattle.element.specs.declared.LostDestination.{LostDestination}

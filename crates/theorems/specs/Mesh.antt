@@ -7,9 +7,9 @@ use lib.Dec.{eqb}
 use lib.ListN.{getElem?}
 use Rattle.counters.specs.declared.SequenceNumber.{SequenceNumber}
 use Rattle.counters.specs.declared.Metric.{Metric}
-use Rattle.table.specs.declared.address.Address.{Address}
-use Rattle.table.specs.declared.row.Row.{Row}
-use Rattle.table.specs.Address.{same}
+use Rattle.layout.specs.declared.address.Address.{Address}
+use Rattle.layout.specs.declared.row.Row.{Row}
+use Rattle.layout.specs.Address.{same}
 use Rattle.table.specs.Table.{own, rowFor, fresh}
 use Rattle.element.specs.Octets.{writeElement}
 use Rattle.rules.specs.Lists.{isSome}

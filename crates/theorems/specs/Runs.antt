@@ -9,8 +9,8 @@ use lib.Dec.{eqb}
 use lib.ListN.{length, take}
 use Rattle.octets.specs.LittleEndian.{numberOctets}
 use Rattle.counters.specs.declared.SequenceNumber.{SequenceNumber}
-use Rattle.table.specs.declared.address.Address.{Address}
-use Rattle.table.specs.Address.{same}
+use Rattle.layout.specs.declared.address.Address.{Address}
+use Rattle.layout.specs.Address.{same}
 use Rattle.element.specs.Lists.{hasDuplicate}
 use Rattle.rules.specs.Decision.{Decision, refused}
 use Rattle.rules.specs.Exit.{Lent, lend, Effect, Exit, atExit, leastOutput}

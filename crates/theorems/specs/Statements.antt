@@ -12,8 +12,8 @@ use mathlib.Core.List.{List, _++_, map}
 use lib.ListN.{length}
 use Rattle.octets.specs.LittleEndian.{Octets}
 use Rattle.counters.specs.declared.SequenceNumber.{SequenceNumber}
-use Rattle.table.specs.declared.address.Address.{Address}
-use Rattle.table.specs.Address.{individual}
+use Rattle.layout.specs.declared.address.Address.{Address}
+use Rattle.layout.specs.Address.{individual}
 use Rattle.table.specs.Table.{isTable}
 use Rattle.element.specs.Element.{Element}
 use Rattle.element.specs.Entries.{All}

@@ -10,10 +10,10 @@ use native.Mathlib.Omega.{arith}
 use native.Mathlib.Nat.{sub-zero, mul-zero, mul-suc, mul-comm, mul-le-mul-left, min-eq-left, div-le-self, mod-add-div}
 use borrow.Author.Tests.{eq-eqb, ne-eqb, lt-ltb, le-ltb, eqb-true, le-leb, lt-leb, leb-true, not-false}
 use Rattle.octets.specs.LittleEndian.{numberAt}
-use Rattle.table.specs.declared.address.Address.{Address}
-use Rattle.table.specs.Address.{addressOf}
-use Rattle.table.specs.declared.row.Head.{Head}
-use Rattle.table.specs.Layout.{sized, headAt, headOctets, Sized}
+use Rattle.layout.specs.declared.address.Address.{Address}
+use Rattle.layout.specs.Address.{addressOf}
+use Rattle.layout.specs.declared.row.Head.{Head}
+use Rattle.layout.specs.Layout.{sized, headAt, headOctets, Sized}
 use Rattle.table.specs.Table.{clock, isTable}
 use Rattle.table.proofs.Cases.{both, of-size}
 use Rattle.element.specs.Entries.{each}

@@ -8,11 +8,11 @@ use lib.ListN.{length}
 use native.Mathlib.Omega.{arith}
 use native.Mathlib.Nat.{sub-zero}
 use borrow.Author.Tests.{eq-eqb, ne-eqb, not-true, not-false}
-use Rattle.table.specs.declared.address.Address.{Address}
-use Rattle.table.specs.declared.row.Row.{Row}
+use Rattle.layout.specs.declared.address.Address.{Address}
+use Rattle.layout.specs.declared.row.Row.{Row}
 use Rattle.table.specs.declared.search.NextHop.{NextHop}
 use Rattle.table.specs.declared.search.NextHop.the-variants.{To, Nobody}
-use Rattle.table.specs.Address.{addressOf, same}
+use Rattle.layout.specs.Address.{addressOf, same}
 use Rattle.table.specs.Table.{rowFor, activeNext, hopIn}
 use Rattle.element.specs.Entries.{each}
 use Rattle.element.specs.Lists.{contains, hasDuplicate}

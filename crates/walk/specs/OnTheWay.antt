@@ -2,8 +2,8 @@
 use Prim.Native.Nat.{ℕ}
 use mathlib.Core.Bool.{cond, _||_}
 use mathlib.Core.List.{List}
-use Rattle.table.specs.declared.address.Address.{Address}
-use Rattle.table.specs.Address.{same}
+use Rattle.layout.specs.declared.address.Address.{Address}
+use Rattle.layout.specs.Address.{same}
 use Rattle.element.specs.Lists.{contains}
 use Rattle.rules.specs.Walk.{Walked, stopped, points, follow}
 

@@ -4,9 +4,9 @@ use Prim.Native.Nat.{ℕ, _*_, _≤_}
 use mathlib.Core.Path.{_≡_}
 use mathlib.Core.List.{List}
 use lib.ListN.{length}
-use Rattle.table.specs.declared.address.Address.{Address}
-use Rattle.table.specs.Address.{addressOf}
-use Rattle.table.specs.Layout.{headOctets, mostRows, place}
+use Rattle.layout.specs.declared.address.Address.{Address}
+use Rattle.layout.specs.Address.{addressOf}
+use Rattle.layout.specs.Layout.{headOctets, mostRows, place}
 use Rattle.element.specs.Entries.{each}
 use Rattle.rules.specs.Walk.{tableAt}
 

@@ -4,8 +4,9 @@ mod way;
 
 use calls::Answer;
 use counters::HopCount;
+use layout::address::Address;
+use layout::row;
 use pieces::table_at;
-use table::address::Address;
 use table::legal;
 ghost use mathlib.Core.Path.{_≡_};
 ghost use Rattle.rules.specs.Walk.{sideBySide, tableChecks, walk, walkedAtExit, walking};
@@ -91,7 +92,7 @@ fn check(tables: &[u8], count: usize, clock: u64, start: Address, destination: A
     if !are_side_by_side(tables, count) {
         return Answer::Refused(refusals::TABLE_LENGTH);
     }
-    if legal::MAX_CLOCK < clock {
+    if row::MAX_CLOCK < clock {
         return Answer::Refused(refusals::CLOCK_TOO_LARGE);
     }
     if !destination.is_individual() {

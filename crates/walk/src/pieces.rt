@@ -1,7 +1,7 @@
 // The tables side by side, one by one: pieces of one length, and what the checks ask of them.
-use table::address::Address;
+use layout::address::Address;
+use layout::row;
 use table::legal;
-use table::row;
 ghost use mathlib.Core.Path.{_≡_};
 ghost use mathlib.Core.Bool.{not};
 ghost use Prim.Native.Nat.{_+_, _-_, _*_, _<_, _≤_};

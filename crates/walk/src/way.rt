@@ -3,7 +3,7 @@ use crate::Ending;
 use crate::pieces;
 use crate::pieces::table_at;
 use counters::HopCount;
-use table::address::Address;
+use layout::address::Address;
 use table::search;
 use table::search::NextHop;
 ghost use mathlib.Core.Path.{_≡_};

@@ -1,6 +1,6 @@
 -- `probe::probe_read` meets its contract: answer by answer of the reader.
 use borrow.Author.Needs.{needs}
-use Rattle.element.proofs.Readings.{request-part, reply-part, error-part}
+use Rattle.reading.proofs.Readings.{request-part, reply-part, error-part}
 use Rattle.probe.proofs.Elements.{read-rann, read-rreq, read-rrep, read-rerr, read-refused}
 use Rattle.probe.proofs.probe_read.Statement.{statement}
 use Rattle.probe.proofs.probe_read.Tie as tie

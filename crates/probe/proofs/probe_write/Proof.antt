@@ -1,6 +1,6 @@
 -- `probe::probe_write` meets its contract: answer by answer of the reader.
 use borrow.Author.Needs.{needs}
-use Rattle.element.proofs.Readings.{request-part, reply-part, error-part}
+use Rattle.reading.proofs.Readings.{request-part, reply-part, error-part}
 use Rattle.probe.proofs.Frames.{again-rann, again-rreq, again-rrep, again-rerr, again-refused}
 use Rattle.probe.proofs.probe_write.Statement.{statement}
 use Rattle.probe.proofs.probe_write.Tie as tie

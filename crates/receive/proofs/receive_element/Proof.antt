@@ -1,6 +1,6 @@
 -- `receive::receive_element` meets its contract: by what is read.
 use borrow.Author.Needs.{needs}
-use Rattle.element.proofs.Readings.{request-part, reply-part, error-part}
+use Rattle.reading.proofs.Readings.{request-part, reply-part, error-part}
 use Rattle.receive.proofs.Calling.{rann-read, rreq-read, rrep-read, rerr-read, read-refused}
 use Rattle.receive.proofs.receive_element.Statement.{statement}
 use Rattle.receive.proofs.receive_element.Tie as tie

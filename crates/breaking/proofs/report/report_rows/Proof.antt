@@ -3,7 +3,7 @@ use Prim.Native.Nat.{_-_}
 use mathlib.Core.Path.{_≡_}
 use lib.ListN.{length}
 use borrow.Author.Needs.{needs}
-use Rattle.table.specs.Row.{isThrough}
+use Rattle.layout.specs.Row.{isThrough}
 use Rattle.breaking.proofs.Broken.{Reporting, reporting-start, reporting-row, reporting-few, reporting-filled, reporting-room, reporting-more, all-counted, all-written}
 use Rattle.breaking.proofs.report.report_rows.Statement.{statement}
 use Rattle.breaking.proofs.report.report_rows.Tie as tie

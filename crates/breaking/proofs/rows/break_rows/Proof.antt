@@ -3,7 +3,7 @@ use Prim.Native.Nat.{_-_, _≤_}
 use mathlib.Core.Path.{_≡_}
 use lib.ListN.{length}
 use borrow.Author.Needs.{needs}
-use Rattle.table.specs.Row.{isThrough}
+use Rattle.layout.specs.Row.{isThrough}
 use Rattle.table.specs.Table.{changeBelow}
 use Rattle.table.proofs.Changes.{below-start, below-more, below-ended}
 use Rattle.rules.specs.Errors.{broken}

@@ -4,7 +4,7 @@ use mathlib.Core.Path.{_≡_}
 use mathlib.Core.Bool.{false}
 use lib.ListN.{length}
 use borrow.Author.Needs.{needs}
-use Rattle.table.proofs.Marks.{Marked, mark-in}
+use Rattle.layout.proofs.Marks.{Marked, mark-in}
 use Rattle.element.specs.Entries.{entriesIn}
 use Rattle.element.specs.Lists.{addressIn, addressesFrom, hasDuplicate}
 use Rattle.element.proofs.Marking.{no-duplicate, none-marked, before-within, again-found, before-marked, still-once, all-once}

@@ -4,7 +4,7 @@ use mathlib.Core.Path.{_≡_}
 use lib.ListN.{length}
 use native.Mathlib.Omega.{arith}
 use borrow.Author.Needs.{needs}
-use Rattle.element.proofs.Listing.{listing-start}
+use Rattle.writing.proofs.Listing.{listing-start}
 use Rattle.matches.proofs.Listed.{Reporting, reporting-room, reporting-more, all-counted, all-written}
 use Rattle.matches.proofs.report.write_matches.Statement.{statement}
 use Rattle.matches.proofs.report.write_matches.Tie as tie

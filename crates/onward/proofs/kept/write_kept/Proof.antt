@@ -4,7 +4,7 @@ use mathlib.Core.Path.{_≡_}
 use lib.ListN.{length}
 use native.Mathlib.Omega.{arith}
 use borrow.Author.Needs.{needs}
-use Rattle.element.proofs.Listing.{listing-start}
+use Rattle.writing.proofs.Listing.{listing-start}
 use Rattle.onward.proofs.KeptOnes.{Keeping, keeping-room, keeping-more, all-counted, all-written}
 use Rattle.onward.proofs.kept.write_kept.Statement.{statement}
 use Rattle.onward.proofs.kept.write_kept.Tie as tie

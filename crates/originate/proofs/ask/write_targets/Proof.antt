@@ -6,7 +6,7 @@ use lib.ListN.{length}
 use borrow.Author.Needs.{needs}
 use Rattle.octets.specs.LittleEndian.{overwrite}
 use Rattle.element.specs.Entries.{each, itemAt, targetOctets}
-use Rattle.element.proofs.Written.{entries-ended}
+use Rattle.writing.proofs.Written.{entries-ended}
 use Rattle.rules.specs.Originate.{askedFor}
 use Rattle.originate.proofs.Asked.{askedOctets, asked-start, asked-more}
 use Rattle.originate.proofs.ask.write_targets.Statement.{statement}

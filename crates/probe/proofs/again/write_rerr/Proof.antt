@@ -1,6 +1,6 @@
 -- `probe::again::write_rerr` meets its contract: written if it fits, the start and then the list.
 use borrow.Author.Needs.{needs}
-use Rattle.element.proofs.Written.{rerr-listed}
+use Rattle.writing.proofs.Written.{rerr-listed}
 use Rattle.probe.proofs.Frames.{start-room, list-room, no-room, wrote, rerr-size}
 use Rattle.probe.proofs.again.write_rerr.Statement.{statement}
 use Rattle.probe.proofs.again.write_rerr.Tie as tie

@@ -1,6 +1,6 @@
 -- `probe::again::write_rreq` meets its contract: written if it fits, both ways alike.
 use borrow.Author.Needs.{needs}
-use Rattle.element.proofs.Written.{rreq-listed}
+use Rattle.writing.proofs.Written.{rreq-listed}
 use Rattle.probe.proofs.Frames.{whole-room, start-room, list-room, no-room, wrote, rreq-size}
 use Rattle.probe.proofs.again.write_rreq.Statement.{statement}
 use Rattle.probe.proofs.again.write_rreq.Tie as tie

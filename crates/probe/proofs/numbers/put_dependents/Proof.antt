@@ -7,7 +7,7 @@ use borrow.Author.Needs.{needs}
 use Rattle.octets.specs.LittleEndian.{overwrite}
 use Rattle.element.specs.Element.{numberedNumbers}
 use Rattle.element.specs.Entries.{each, numberedAt}
-use Rattle.element.proofs.Written.{entries-start, entries-ended}
+use Rattle.writing.proofs.Written.{entries-start, entries-ended}
 use Rattle.probe.proofs.Entries.{numbered-numbers-more}
 use Rattle.probe.proofs.numbers.put_dependents.Statement.{statement}
 use Rattle.probe.proofs.numbers.put_dependents.Tie as tie

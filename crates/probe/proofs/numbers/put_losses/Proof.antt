@@ -7,7 +7,7 @@ use borrow.Author.Needs.{needs}
 use Rattle.octets.specs.LittleEndian.{overwrite}
 use Rattle.element.specs.Element.{lostNumbers}
 use Rattle.element.specs.Entries.{each, lostAt}
-use Rattle.element.proofs.Written.{entries-start, entries-ended}
+use Rattle.writing.proofs.Written.{entries-start, entries-ended}
 use Rattle.probe.proofs.Entries.{lost-numbers-more}
 use Rattle.probe.proofs.numbers.put_losses.Statement.{statement}
 use Rattle.probe.proofs.numbers.put_losses.Tie as tie

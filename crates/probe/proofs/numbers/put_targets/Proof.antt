@@ -7,7 +7,7 @@ use borrow.Author.Needs.{needs}
 use Rattle.octets.specs.LittleEndian.{overwrite}
 use Rattle.element.specs.Element.{targetNumbers}
 use Rattle.element.specs.Entries.{each, targetAt}
-use Rattle.element.proofs.Written.{entries-start, entries-ended}
+use Rattle.writing.proofs.Written.{entries-start, entries-ended}
 use Rattle.probe.proofs.Entries.{target-numbers-more}
 use Rattle.probe.proofs.numbers.put_targets.Statement.{statement}
 use Rattle.probe.proofs.numbers.put_targets.Tie as tie

@@ -1,6 +1,6 @@
 -- `table::legal::is_blank` meets its contract: the fields of the row are zero where the octets are.
 use borrow.Author.Needs.{needs}
-use Rattle.table.proofs.HeadAndRows.{blank}
+use Rattle.layout.proofs.HeadAndRows.{blank}
 use Rattle.table.proofs.legal.is_blank.Statement.{statement}
 use Rattle.table.proofs.legal.is_blank.Tie as tie
 

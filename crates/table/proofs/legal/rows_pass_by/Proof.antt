@@ -7,7 +7,8 @@ use lib.ListN.{length}
 use borrow.Author.Tests.{not-true, not-false}
 use Rattle.table.specs.Places.{every}
 use Rattle.table.specs.Table.{passes}
-use Rattle.table.proofs.Marks.{Marked, mark-in, marked-none, destinationIn, destination-marked, passes-by}
+use Rattle.layout.proofs.Marks.{Marked, mark-in, marked-none}
+use Rattle.table.proofs.MarkedRows.{destinationIn, destination-marked, passes-by}
 use Rattle.table.proofs.Places.{every-none, every-more, every-stops, every-ended}
 use Rattle.table.proofs.legal.rows_pass_by.Statement.{statement}
 use Rattle.table.proofs.legal.rows_pass_by.Tie as tie

@@ -1,0 +1,20 @@
+// The bench's link metrics: one for every pair of points, both ways.
+ghost use mathlib.Core.Path.{_≡_};
+ghost use Prim.Native.Nat.{_<_};
+ghost use Rattle.bench_links.specs.Links.{linked, metricOf};
+
+// Both ways: a frame goes over a link in either.
+pub fn set_both_ways(links: &mut [[u32; 16]; 16], p: usize, q: usize, metric: u32)
+    requires { ⌜ (p < 16) × (q < 16) ⌝ }
+    ensures { λ _. ⌜ now (links .exit) ≡ linked (now (links .entry)) p q metric ⌝ }
+{
+    links[p][q] = metric;
+    links[q][p] = metric;
+}
+
+pub fn metric_between(links: &[[u32; 16]; 16], p: usize, q: usize) -> u32
+    requires { ⌜ (p < 16) × (q < 16) ⌝ }
+    ensures { λ r. ⌜ r ≡ metricOf (now (links .entry)) p q ⌝ }
+{
+    links[p][q]
+}

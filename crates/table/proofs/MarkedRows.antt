@@ -1,0 +1,47 @@
+-- The destinations of rows, marked from the first row on: that of a row is looked for among those of the rows below it.
+use Prim.Native.Nat.{ℕ, _+_, _<_}
+use mathlib.Core.Path.{_≡_, refl, sym, ap, _∙_}
+use mathlib.Core.Bool.{Bool, true, false, _&&_, _||_, or-true}
+use mathlib.Core.List.{List}
+use lib.ListN.{length, getD, set}
+use lib.Dec.{eqb}
+use native.Mathlib.Omega.{arith}
+use borrow.Author.Tests.{eqb-true, ne-eqb}
+use Rattle.layout.specs.Layout.{rowAt}
+use Rattle.layout.specs.Marks.{mark}
+use Rattle.table.specs.Table.{vacant, holds, alone, passes}
+use Rattle.layout.specs.Row.{rowOk}
+use Rattle.layout.specs.declared.address.Address.{Address}
+use Rattle.layout.proofs.Marks.{Marked, marked-up, unmarked}
+use Rattle.table.proofs.Places.{first-nowhere}
+
+-- a test may be spared where another implies it
+spared : (x a : Bool) → (x ≡ true → a ≡ true) → (x || a) ≡ a
+spared true a f = sym (f refl)
+spared false a f = refl
+
+unfoldable pub destinationIn : List ℕ → ℕ → Address
+destinationIn t i = rowAt t i .destination
+
+module _ (t seen : List ℕ) (last i : ℕ) (d : Address) (de : d ≡ rowAt t i .destination) (h : ℕ) (he : h ≡ mark last d)
+    (m : Marked (destinationIn t) seen last 0 i) where
+  -- a row whose destination is not marked has another one than each row below it, and so stands alone
+  other : getD seen h 0 ≡ 0 → (k : ℕ) → k < i → holds t (rowAt t i .destination) k ≡ false
+  unfolding holds destinationIn
+  other e k l =
+      let apart = ne-eqb (rowAt t k .destination .0) (rowAt t i .destination .0)
+      (unmarked (destinationIn t) seen last 0 i m (rowAt t i .destination) h (he ∙ ap (mark last) de) e k (omega arith) l) in
+      rw apart
+
+  stands-alone : getD seen h 0 ≡ 0 → alone t i ≡ true
+  unfolding alone
+  stands-alone e = rw (first-nowhere (holds t (rowAt t i .destination)) i (other e)) (or-true (vacant t i))
+
+  -- so a test of the mark spares that of the rows before
+  pub passes-by : (a : Address) (b : Bool) → b ≡ (rowOk a (rowAt t i) && (eqb (getD seen h 0) 0 || alone t i)) → b ≡ passes t a i
+  passes-by a b be =
+      be ∙ ap (_&&_ (rowOk a (rowAt t i))) (spared (eqb (getD seen h 0) 0) (alone t i) (λ q. stands-alone (eqb-true (getD seen h 0) 0 q)))
+
+  pub destination-marked : length seen ≡ last + 1 → Marked (destinationIn t) (set seen h 1) last 0 (i + 1)
+  unfolding destinationIn
+  destination-marked le = marked-up (destinationIn t) seen last 0 i h le m (he ∙ ap (mark last) de)

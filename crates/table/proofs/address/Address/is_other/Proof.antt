@@ -1,9 +1,0 @@
--- `table::address::Address::is_other` meets its contract: by what its definition unfolds to.
-use borrow.Author.Needs.{needs}
-use Rattle.table.specs.Row.{isOther}
-use Rattle.table.proofs.address.Address.is_other.Statement.{statement}
-use Rattle.table.proofs.address.Address.is_other.Tie as tie
-
-pub is-other-spec : {M : Type 1} → statement M
-unfolding isOther
-is-other-spec = tie.close (tie.spec (λ c κs. search needs) (λ c. cc))

@@ -1,7 +1,0 @@
--- `table::address::read` meets its contract: by what it calls.
-use borrow.Author.Needs.{needs}
-use Rattle.table.proofs.address.read.Statement.{statement}
-use Rattle.table.proofs.address.read.Tie as tie
-
-pub read-spec : {M : Type 1} → statement M
-read-spec = tie.close (tie.spec (λ c κs. search needs) (λ c. cc))

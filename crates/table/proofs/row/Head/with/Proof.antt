@@ -1,8 +1,0 @@
--- `table::row::Head::with` meets its contract: by what its definition unfolds to.
-use Rattle.table.specs.Row.{headWith}
-use Rattle.table.proofs.row.Head.with.Statement.{statement}
-use Rattle.table.proofs.row.Head.with.Tie as tie
-
-pub with-spec : {M : Type 1} → statement M
-unfolding headWith
-with-spec = tie.close (tie.spec (λ c. cc))

@@ -1,8 +1,0 @@
--- `table::row::Row::bounds_ok` meets its contract: by what its definition unfolds to.
-use Rattle.table.specs.Row.{boundsOk}
-use Rattle.table.proofs.row.Row.bounds_ok.Statement.{statement}
-use Rattle.table.proofs.row.Row.bounds_ok.Tie as tie
-
-pub bounds-ok-spec : {M : Type 1} → statement M
-unfolding boundsOk
-bounds-ok-spec = tie.close (tie.spec (λ c. cc))

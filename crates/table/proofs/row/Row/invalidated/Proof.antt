@@ -1,8 +1,0 @@
--- `table::row::Row::invalidated` meets its contract: by what its definition unfolds to.
-use Rattle.table.specs.Row.{invalidated}
-use Rattle.table.proofs.row.Row.invalidated.Statement.{statement}
-use Rattle.table.proofs.row.Row.invalidated.Tie as tie
-
-pub invalidated-spec : {M : Type 1} → statement M
-unfolding invalidated
-invalidated-spec = tie.close (tie.spec (λ c. cc))

@@ -1,8 +1,0 @@
--- `table::row::Row::is_active` meets its contract: by what its definition unfolds to.
-use Rattle.table.specs.Row.{active}
-use Rattle.table.proofs.row.Row.is_active.Statement.{statement}
-use Rattle.table.proofs.row.Row.is_active.Tie as tie
-
-pub is-active-spec : {M : Type 1} → statement M
-unfolding active
-is-active-spec = tie.close (tie.spec (λ c. cc))

@@ -1,8 +1,0 @@
--- `table::row::Row::renewed` meets its contract: by what its definition unfolds to.
-use Rattle.table.specs.Row.{renewed}
-use Rattle.table.proofs.row.Row.renewed.Statement.{statement}
-use Rattle.table.proofs.row.Row.renewed.Tie as tie
-
-pub renewed-spec : {M : Type 1} → statement M
-unfolding renewed
-renewed-spec = tie.close (tie.spec (λ c. cc))

@@ -1,8 +1,0 @@
--- `table::row::Row::status_ok` meets its contract: by what its definition unfolds to.
-use Rattle.table.specs.Row.{statusOk}
-use Rattle.table.proofs.row.Row.status_ok.Statement.{statement}
-use Rattle.table.proofs.row.Row.status_ok.Tie as tie
-
-pub status-ok-spec : {M : Type 1} → statement M
-unfolding statusOk
-status-ok-spec = tie.close (tie.spec (λ c. cc))

@@ -1,9 +1,0 @@
--- Marks of addresses, by which a function sees that an address is new to it: for the code's own contracts, no part of what a
--- table is.
-use Prim.Native.Nat.{ℕ, _*_, _/_, _%_, _^_}
-use lib.Bits.{bitAnd}
-use Rattle.table.specs.declared.address.Address.{Address}
-
--- the mark of an address, of those up to the last; two addresses may share a mark
-unfoldable pub mark : ℕ → Address → ℕ
-mark last a = bitAnd (a .0 % 2 ^ 48 * 40503 / 2 ^ 40) last

@@ -1,0 +1,3 @@
+-- The laws of the writers, for this crate's proofs and its callers'.
+pub mod Written
+pub mod Listing

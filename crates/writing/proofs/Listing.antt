@@ -1,0 +1,63 @@
+-- Entries written one after another, where some may write nothing: what stands before entry i, and with what is left the
+-- whole.
+use Prim.Native.Nat.{ℕ, _+_, _-_, _*_, _<_, _≤_}
+use mathlib.Core.Path.{_≡_, refl, sym, ap, _∙_}
+use mathlib.Core.List.{List, [], _∷_, _++_, append-assoc, flatMap}
+use lib.ListN.{length, length-append}
+use native.Mathlib.Omega.{arith}
+use native.Mathlib.Nat.{add-zero, sub-zero, mul-zero, mul-suc}
+use native.Mathlib.Numerals.{add-one}
+use Rattle.octets.specs.LittleEndian.{overwrite}
+use Rattle.element.specs.Entries.{each}
+use Rattle.element.proofs.Scans.{each-next, each-end}
+use Rattle.writing.proofs.Written.{entries-more, entries-ended}
+
+-- n entries, each of at most so many octets, from place at of the output out₀ on
+module _ {A : Type 0} (write : A → List ℕ) (entry : ℕ → A) (n size : ℕ) (out₀ : List ℕ) (at : ℕ) where
+  abbrev listFrom : ℕ → List ℕ
+  listFrom i = flatMap write (each entry i (n - i))
+
+  abbrev wholeList : List ℕ
+  wholeList = flatMap write (each entry 0 n)
+
+  pub record Listing (i place : ℕ) (out : List ℕ) : Type 0 where
+    pub few : place ≤ at + size * i
+    pub counted : place + length (listFrom i) ≡ at + length wholeList
+    pub written : overwrite out place (listFrom i) ≡ overwrite out₀ at wholeList
+
+  pub listing-start : Listing 0 at out₀
+  listing-start = record { few = omega (arith, mul-zero size); counted = rw (sub-zero n); written = rw (sub-zero n) }
+
+  module _ (i place : ℕ) (out : List ℕ) (so-far : Listing i place out) where
+    pub listing-more : i < n → length (write (entry i)) ≤ size → (x : A) → x ≡ entry i → (place′ : ℕ) → place′ ≡ place + length (write x)
+        → (out′ : List ℕ) → out′ ≡ overwrite out place (write x) → Listing (i + 1) place′ out′
+    unfolding flatMap
+    listing-more l short x xe place′ pe out′ oe =
+        let this : List ℕ = write (entry i) in
+        let left : listFrom i ≡ this ++ listFrom (i + 1) = ap (flatMap write) (each-next entry i n l) in
+        let after : place′ ≡ place + length this = pe ∙ ap (λ (y : A). place + length (write y)) xe in
+        let next : size * (i + 1) ≡ size * i + size = ap (λ (k : ℕ). size * k) (add-one i) ∙ mul-suc size i in
+        record {
+          few = omega (arith, so-far .few, after, short, next);
+          counted = omega (arith, so-far .counted, after, ap length left, length-append this (listFrom (i + 1)));
+          written =
+              entries-more write entry n out out′ (overwrite out₀ at wholeList) i place place′ l
+              (oe ∙ ap (λ (y : A). overwrite out place (write y)) xe) after (so-far .written);
+        }
+
+    module _ (l : n ≤ i) where
+      pub listing-counted : place ≡ at + length wholeList
+      unfolding flatMap
+      listing-counted = omega (arith, so-far .counted, ap (λ (m : List A). length (flatMap write m)) (each-end entry i n l))
+
+      pub listing-written : out ≡ overwrite out₀ at wholeList
+      listing-written = entries-ended write entry n out (overwrite out₀ at wholeList) i place l (so-far .written)
+
+-- one that writes nothing
+module _ (s : List ℕ) (at : ℕ) (p : List ℕ) (none : [] ≡ p) where
+  pub skipped-place : at ≡ at + length p
+  skipped-place = sym (add-zero at) ∙ ap (λ (l : List ℕ). at + length l) none
+
+  pub skipped-written : s ≡ overwrite s at p
+  unfolding overwrite
+  skipped-written = ap (overwrite s at) none
