@@ -8,6 +8,7 @@ use lib.ListN.{length, take, drop}
 use native.Mathlib.Omega.{arith}
 use native.Mathlib.Nat.{pos-of-ne-zero}
 use borrow.Author.Tests.{ltb-true, ltb-false, eqb-false}
+use Rattle.octets.proofs.Clash.{clash}
 use Rattle.octets.specs.LittleEndian.{numberAt}
 use Rattle.counters.specs.declared.SequenceNumber.{SequenceNumber}
 use Rattle.layout.specs.declared.address.Address.{Address}
@@ -119,8 +120,8 @@ module _ (b : Bench) (links : List (List ℕ)) (s : List ℕ) where
 
       by : (x : Bool) → eqb n 0 ≡ x → (y : Bool) → ltb (length s) n ≡ y
           → cond (x || y) (leavingLinks links fault) (obeyed b links s (numberAt 1 s 0)) .done ≡ line answer third b′ → (0 < n) × (n ≤ length s)
-      by true xe y ye e = let z : _≡_ {A = ℕ} 0 1 = cc in absurd (omega arith)
-      by false xe true ye e = let z : _≡_ {A = ℕ} 0 1 = cc in absurd (omega arith)
+      by true xe y ye e = clash cc
+      by false xe true ye e = clash cc
       by false xe false ye e = (pos-of-ne-zero (eqb-false n 0 xe), ltb-false (length s) n ye)
 
 -- as the loop over the commands asks it

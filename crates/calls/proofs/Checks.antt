@@ -6,6 +6,7 @@ use mathlib.Core.List.{List, [], _∷_, _++_, append-nil}
 use lib.ListN.{length}
 use native.Mathlib.Omega.{arith}
 use borrow.Author.Tests.{eq-eqb, ne-eqb, lt-ltb, le-ltb, ltb-false, not-false}
+use Rattle.octets.proofs.Clash.{clash}
 use Rattle.octets.specs.LittleEndian.{overwrite}
 use Rattle.layout.specs.Layout.{sized, headOctets, Sized}
 use Rattle.table.proofs.Cases.{of-size}
@@ -37,7 +38,7 @@ all-passed = refl
 -- a part of the list by itself
 pub part-refused : (part checks : List Check) (n : ℕ) → Refused n ≡ answerTo part → Refused n ≡ answerTo (part ++ checks)
 unfolding answerTo
-part-refused [] checks n e = let z : _≡_ {A = ℕ} 0 1 = cc in absurd (omega arith)
+part-refused [] checks n e = clash cc
 part-refused (k ∷ part) checks n e = by (k .applies) e (part-refused part checks n)
   where
     by : (b : Bool) → Refused n ≡ cond b (Refused (k .number)) (answerTo part) → (Refused n ≡ answerTo part → Refused n ≡ answerTo (part ++ checks))
@@ -52,7 +53,7 @@ part-passed (k ∷ part) checks e = by (k .applies) e (part-passed part checks)
   where
     by : (b : Bool) → Accepted ≡ cond b (Refused (k .number)) (answerTo part) → (Accepted ≡ answerTo part → answerTo checks ≡ answerTo (part ++ checks))
         → answerTo checks ≡ cond b (Refused (k .number)) (answerTo (part ++ checks))
-    by true e rest = let z : _≡_ {A = ℕ} 0 1 = cc in absurd (omega arith)
+    by true e rest = clash cc
     by false e rest = rest e
 
 pub part-decided : {A : Type 0} (x : A) (part checks : List Check) → Accepted ≡ answerTo part → judged checks x ≡ judged (part ++ checks) x
@@ -62,7 +63,7 @@ part-decided x (k ∷ part) checks e = by (k .applies) e (part-decided x part ch
   where
     by : (b : Bool) → Accepted ≡ cond b (Refused (k .number)) (answerTo part) → (Accepted ≡ answerTo part → judged checks x ≡ judged (part ++ checks) x)
         → judged checks x ≡ cond b (refused (k .number)) (judged (part ++ checks) x)
-    by true e rest = let z : _≡_ {A = ℕ} 0 1 = cc in absurd (omega arith)
+    by true e rest = clash cc
     by false e rest = rest e
 
 -- as a check that begins with that of another function asks it

@@ -7,6 +7,7 @@ use lib.Dec.{eqb, ltb}
 use lib.ListN.{length, getD}
 use native.Mathlib.Omega.{arith}
 use borrow.Author.Tests.{ltb-false, eqb-true, not-false}
+use Rattle.octets.proofs.Clash.{clash}
 use Rattle.element.specs.declared.Kind.{Kind}
 use Rattle.element.specs.declared.Kind.the-variants.{Rann, Rreq, Rrep, Rerr}
 use Rattle.element.specs.Layout.{known, kindWith, fits, idOf, lengthWith, countOk}
@@ -26,7 +27,7 @@ known-is id = by (eqb id 126) (eqb id 130) (eqb id 131) refl refl refl
     by false false false ae be ce = refl
 
 either-false : (a b : Bool) → (a || b) ≡ false → (a ≡ false) × (b ≡ false)
-either-false true b e = let z : _≡_ {A = ℕ} 0 1 = cc in absurd (omega arith)
+either-false true b e = clash cc
 either-false false b e = (refl, e)
 
 -- octets that pass 6 are as many as Length says

@@ -6,6 +6,7 @@ use mathlib.Core.List.{List}
 use lib.ListN.{length}
 use native.Mathlib.Omega.{arith}
 use borrow.Author.Tests.{ltb-false}
+use Rattle.octets.proofs.Clash.{clash}
 use Rattle.element.specs.declared.PathInfo.{PathInfo}
 use Rattle.element.specs.declared.RreqFields.{RreqFields}
 use Rattle.element.specs.declared.RrepFields.{RrepFields}
@@ -62,10 +63,10 @@ module _ (t output : List ℕ) (a : Arrival) (r : Answer) (re : r ≡ answerTo (
 
 module _ (t : List ℕ) (a : Arrival) (s : List ℕ) (r : Reading) (re : r ≡ reading s) where
   never-unread : (e : Element) (n : ℕ) → Unread n ≡ fixedFields e → ⊥
-  never-unread (rann p) n h = let z : _≡_ {A = ℕ} 0 1 = cc in omega arith
-  never-unread (rreq f targets) n h = let z : _≡_ {A = ℕ} 0 1 = cc in omega arith
-  never-unread (rrep f dependents) n h = let z : _≡_ {A = ℕ} 0 1 = cc in omega arith
-  never-unread (rerr f destinations) n h = let z : _≡_ {A = ℕ} 0 1 = cc in omega arith
+  never-unread (rann p) n h = clash cc
+  never-unread (rreq f targets) n h = clash cc
+  never-unread (rrep f dependents) n h = clash cc
+  never-unread (rerr f destinations) n h = clash cc
 
   unread : (n : ℕ) → r ≡ Unread n → refused n ≡ decide (readingOctets (lend t) a s)
   unfolding reading readingOctets octetChecks

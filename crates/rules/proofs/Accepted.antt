@@ -7,6 +7,7 @@ use mathlib.Core.Option.{some, Option·none-ne-some, Option·some-injective}
 use lib.Dec.{eqb, ltb}
 use native.Mathlib.Omega.{arith}
 use borrow.Author.Tests.{ltb-false, eqb-false, not-false}
+use Rattle.octets.proofs.Clash.{clash}
 use Rattle.octets.specs.LittleEndian.{Octets}
 use Rattle.octets.proofs.Laws.{FitFields}
 use Rattle.layout.specs.declared.address.Address.{Address}
@@ -61,7 +62,7 @@ path-fits (rerr g destinations) f p is = absurd (Option·none-ne-some p is)
 
 first-false : (b c : Bool) → (not b || c) ≡ false → b ≡ true
 first-false true c e = refl
-first-false false c e = let z : _≡_ {A = ℕ} 0 1 = cc in absurd (omega arith)
+first-false false c e = clash cc
 
 subject-individual : (e : Element) → hasBadAddress e ≡ false → (p : PathInfo) → pathOf e ≡ some p → individual (p .subject) ≡ true
 unfolding hasBadAddress

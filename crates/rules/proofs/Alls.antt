@@ -5,6 +5,7 @@ use mathlib.Core.Bool.{Bool, true, false, _||_, cond}
 use mathlib.Core.List.{List, [], _∷_, _++_, map, flatMap}
 use lib.ListN.{length, take, drop, length-append}
 use native.Mathlib.Omega.{arith}
+use Rattle.octets.proofs.Clash.{clash}
 use Rattle.element.specs.Entries.{each, All}
 use Rattle.rules.specs.Lists.{any, filter}
 use Rattle.rules.proofs.Branches.{cond-cases}
@@ -82,7 +83,7 @@ module _ {A : Type 0} (p : A → Bool) where
 
   pub filter-some : (l : List A) → any p l ≡ true → 1 ≤ length (filter p l)
   unfolding filter any
-  filter-some [] e = let z : _≡_ {A = ℕ} 0 1 = cc in absurd (omega arith)
+  filter-some [] e = clash cc
   filter-some (x ∷ l) e = by (p x) e (filter-some l)
     where
       by : (b : Bool) → (b || any p l) ≡ true → (any p l ≡ true → 1 ≤ length (filter p l)) → 1 ≤ length (cond b (x ∷ filter p l) (filter p l))

@@ -9,6 +9,7 @@ use lib.Dec.{eqb, ltb}
 use lib.ListN.{length}
 use native.Mathlib.Omega.{arith}
 use borrow.Author.Tests.{eqb-true}
+use Rattle.octets.proofs.Clash.{clash}
 use Rattle.octets.proofs.Laws.{FitFields}
 use Rattle.layout.specs.declared.address.Address.{Address}
 use Rattle.layout.specs.declared.row.Head.{Head}
@@ -67,7 +68,7 @@ unnumbered-number r e k = by (eqb (r .number .0) 0) refl (rw k at e)
   where
     by : (b : Bool) → eqb (r .number .0) 0 ≡ b → (b && eqb (r .hops .0) 1 && same (r .next) (r .destination)) ≡ true → r .number .0 ≡ 0
     by true q e = eqb-true (r .number .0) 0 q
-    by false q e = let z : _≡_ {A = ℕ} 0 1 = cc in absurd (omega arith)
+    by false q e = clash cc
 
 basis : (t : List ℕ) → Whole t → (d : Address) → d .0 < 256 ^ 6 → (o : Option Row) → rowFor t d ≡ o → Basis d (rowOrNew d o)
 unfolding FitRow FitFields

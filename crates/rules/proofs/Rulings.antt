@@ -5,6 +5,7 @@ use mathlib.Core.List.{List, [], _∷_}
 use Prim.Native.Nat.{ℕ}
 use native.Mathlib.Omega.{arith}
 use lib.Dec.{eqb}
+use Rattle.octets.proofs.Clash.{clash}
 use Rattle.rules.specs.Decision.{refused, accepted, Check, Ruling, judged, decide}
 use Rattle.rules.specs.Checks.{operandChecks, stateChecks}
 use Rattle.rules.specs.Receive.{arrivalChecks, octetChecks, fieldChecks, judging, readingOctets}
@@ -28,7 +29,7 @@ judged-accepted (k ∷ checks) a u e = by (k .applies) refl e (judged-accepted c
   where
     by : (b : Bool) → k .applies ≡ b → cond b (refused (k .number)) (judged checks a) ≡ accepted u
         → (judged checks a ≡ accepted u → Passed checks × (a ≡ u)) → ((k .applies ≡ false) × Passed checks) × (a ≡ u)
-    by true q e rest = let z : _≡_ {A = ℕ} 0 1 = cc in absurd (omega arith)
+    by true q e rest = clash cc
     by false q e rest = ((q, rest e .0), rest e .1)
 
 -- an accepted call passed all checks, and came to its outcome

@@ -9,6 +9,7 @@ use lib.Dec.{eqb}
 use native.Mathlib.Decide.{ℕ-discrete}
 use native.Mathlib.Omega.{arith}
 use borrow.Author.Tests.{eqb-true}
+use Rattle.octets.proofs.Clash.{clash}
 use Rattle.layout.specs.declared.address.Address.{Address}
 use Rattle.layout.specs.declared.row.Head.{Head}
 use Rattle.layout.specs.declared.row.Row.{Row}
@@ -54,7 +55,7 @@ module _ (t : List ℕ) (d : Address) (r : Row) (e : rowFor t d ≡ some r) wher
     where
       by : (f : Found) → findRow t d ≡ f → (i : ℕ) × (findRow t d ≡ At i) × (rowAt t i ≡ r)
       by (At i) q = (i, q, cc)
-      by Nothing q = let z : _≡_ {A = ℕ} 0 1 = cc in absurd (omega arith)
+      by Nothing q = clash cc
 
   -- it has that destination, and in a table it is as a held row should be
   pub row-destination : r .destination ≡ d

@@ -7,6 +7,7 @@ use mathlib.Core.Logic.{⊎-elim}
 use native.Mathlib.Nat.{eq-or-lt-of-le, le-of-suc-le-suc, not-suc-le-zero, le-antisymm}
 use native.Mathlib.Numerals.{add-one}
 use native.Mathlib.Omega.{arith}
+use Rattle.octets.proofs.Clash.{clash}
 use Rattle.table.specs.declared.search.Found.{Found}
 use Rattle.table.specs.declared.search.Found.the-variants.{At, Nothing}
 use Rattle.table.specs.Places.{first, count, every}
@@ -47,13 +48,13 @@ module _ (p : ℕ → Bool) where
 
   pub first-below : (n i : ℕ) → first p n ≡ At i → i < n
   unfolding first
-  first-below zero i e = let z : _≡_ {A = ℕ} 0 1 = cc in omega arith
+  first-below zero i e = clash cc
   first-below (suc n) i e = go (first p n) refl (p n) refl (first-below n i)
     where
       go : (f : Found) → first p n ≡ f → (b : Bool) → p n ≡ b → (first p n ≡ At i → i < n) → i < suc n
       go (At j) fe b be ih = let l = ih (cc) in omega arith
       go Nothing fe true be ih = let q : n ≡ i = cc in omega arith
-      go Nothing fe false be ih = let z : _≡_ {A = ℕ} 0 1 = cc in omega arith
+      go Nothing fe false be ih = clash cc
 
   pub every-none : every p 0 ≡ true
   unfolding every
@@ -105,19 +106,19 @@ module _ (p : ℕ → Bool) where
   first-not (suc n) k e l = go (first p n) refl (p n) refl (first-not n k)
     where
       go : (f : Found) → first p n ≡ f → (b : Bool) → p n ≡ b → (first p n ≡ Nothing → k < n → p k ≡ false) → p k ≡ false
-      go (At j) fe b be ih = let z : _≡_ {A = ℕ} 0 1 = cc in absurd (omega arith)
-      go Nothing fe true be ih = let z : _≡_ {A = ℕ} 0 1 = cc in absurd (omega arith)
+      go (At j) fe b be ih = clash cc
+      go Nothing fe true be ih = clash cc
       go Nothing fe false be ih = ⊎-elim (λ q. rw q be) (λ h. ih fe h) (eq-or-lt-of-le (le-of-suc-le-suc l))
 
   pub first-true : (n i : ℕ) → first p n ≡ At i → p i ≡ true
   unfolding first
-  first-true zero i e = let z : _≡_ {A = ℕ} 0 1 = cc in absurd (omega arith)
+  first-true zero i e = clash cc
   first-true (suc n) i e = go (first p n) refl (p n) refl (first-true n i)
     where
       go : (f : Found) → first p n ≡ f → (b : Bool) → p n ≡ b → (first p n ≡ At i → p i ≡ true) → p i ≡ true
       go (At j) fe b be ih = ih (cc)
       go Nothing fe true be ih = let q : n ≡ i = cc in rw (← q) be
-      go Nothing fe false be ih = let z : _≡_ {A = ℕ} 0 1 = cc in absurd (omega arith)
+      go Nothing fe false be ih = clash cc
 
   -- the only place is the first
   pub first-only : (n i : ℕ) → i < n → p i ≡ true → ((k : ℕ) → k < n → (k ≡ i → ⊥) → p k ≡ false) → first p n ≡ At i

@@ -7,6 +7,7 @@ use mathlib.Core.Logic.{_⊎_, inl, inr}
 use native.Mathlib.Decide.{ℕ-discrete}
 use native.Mathlib.Omega.{arith, ne-cases}
 use borrow.Author.Tests.{eqb-true, eqb-false, eq-eqb, ne-eqb, not-true}
+use Rattle.octets.proofs.Clash.{clash}
 use Rattle.layout.specs.declared.address.Address.{Address}
 use Rattle.table.specs.declared.search.Found.{Found}
 use Rattle.table.specs.declared.search.Found.the-variants.{At, Nothing}
@@ -20,7 +21,7 @@ use Rattle.table.proofs.Places.{every-at, every-of, first-not, first-no
 -- ---- tests
 
 pub true-not-false : {b : Bool} → b ≡ true → b ≡ false → ⊥
-true-not-false p q = let z : _≡_ {A = ℕ} 0 1 = cc in omega arith
+true-not-false p q = clash cc
 
 pub false-of : (b : Bool) → (b ≡ true → ⊥) → b ≡ false
 false-of true h = absurd (h refl)
@@ -79,7 +80,7 @@ alone-first t k a v = go (first (holds t (rowAt t k .destination)) k) refl
   where
     go : (f : Found) → first (holds t (rowAt t k .destination)) k ≡ f → first (holds t (rowAt t k .destination)) k ≡ Nothing
     go Nothing e = e
-    go (At j) e = let z : _≡_ {A = ℕ} 0 1 = cc in absurd (omega arith)
+    go (At j) e = clash cc
 
 -- so no row before it is held for the same destination
 not-before : (t : List ℕ) (d : Address) (j k : ℕ) → alone t k ≡ true → j < k → holds t d j ≡ true → holds t d k ≡ true → ⊥
