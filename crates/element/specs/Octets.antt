@@ -1,4 +1,9 @@
--- Elements as octets: what is turned away (6, 7, 8), what is read, and what is written.
+-- Elements as octets: what is turned away (6, 7, 8), what is read, and what is written. What is defined here:
+--   wrongLength, otherId, misfit          what refusals 6, 7 and 8 ask
+--   kindIn, countAs, listPart             the type, N, and the octets of the list
+--   readElement                           the element in octets
+--   writeElement, writeFrame              the octets of an element, and of a frame
+--   fixedOctets, frameStart               those before the list
 use Prim.Native.Nat.{ℕ, _+_}
 use mathlib.Core.Bool.{Bool, _||_, not, cond}
 use mathlib.Core.List.{List, [], _∷_, _++_, flatMap}

@@ -1,4 +1,9 @@
--- The head and the rows of a table as values: which are as they should be, and the steps that change them.
+-- The head and the rows of a table as values: which are as they should be, and the steps that change them. What is defined here:
+--   freshHead, headWith, headOk           a head: of a fresh table, with other counters and clock, as it should be
+--   freeRow, isFree, isHeld, rowOk        a row: free or held, and as it should be
+--   active, isThrough                     a valid row that has not expired, and one whose next hop is a neighbour
+--   renewed, numbered                     what steps 1 and 2 of receiving make of a row
+--   invalidated, raised                   what an error or a break makes of it
 use Prim.Native.Nat.{ℕ, _+_, _-_, _^_}
 use mathlib.Core.Bool.{Bool, _&&_, _||_, not}
 use lib.Dec.{eqb, leb, ltb}

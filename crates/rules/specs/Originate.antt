@@ -1,4 +1,11 @@
 -- 'Originating': ask, announce and root request. Each takes the next own number; hop count 0, TTL 31, metric 0, to all ones.
+-- What is defined here:
+--   numberedHead, ownPath                         the counters advanced, and what a point says of itself
+--   announced, requested                          what an accepted announcement or request does
+--   itemChecks, askedFor, asking, ask             an ask: its items' checks, a destination of it, its ruling and decision
+--   originating                                   the checks of the other two
+--   announcing, announce                          an announcement: its ruling and decision
+--   requestingAsRoot, rootRequest                 a root request: its ruling and decision
 use Prim.Native.Nat.{ℕ, _%_}
 use mathlib.Core.Bool.{Bool, true, false, not, _&&_, _||_, cond}
 use mathlib.Core.List.{List, [], _∷_, map}

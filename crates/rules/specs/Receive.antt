@@ -1,4 +1,11 @@
--- Receive an element.
+-- Receive an element. What is defined here:
+--   arrivalChecks, octetChecks, fieldChecks, rowChecks   refusals 1 to 5, 6 to 8, 9 to 14, 24 to 27 (21 to 23 are `stateChecks`)
+--   hasBadAddress, hasBadList, isLowTtlReply             what 9, 10 and 14 ask of each type
+--   isStale, matchesNothing, rowsNeeded                  what 25, 26 and 27 ask
+--   rannReceived, rreqReceived, rrepReceived,            what an accepted element of each type does;
+--   rerrReceived, received                               of any type
+--   judging, readingOctets, receiving                    the rulings of an element, of octets and of the whole call
+--   receive                                              the decision
 use Prim.Native.Nat.{ℕ, _+_, _-_, _^_}
 use mathlib.Core.Bool.{Bool, false, not, _&&_, _||_, cond}
 use mathlib.Core.List.{List, _++_, map}

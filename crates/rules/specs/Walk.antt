@@ -1,5 +1,10 @@
 -- The walk of document 01 over tables side by side, along rows that are active at a clock. (The walk of demand 3 goes along
--- valid rows, expired or not: `met` in crate `theorems`.)
+-- valid rows, expired or not: `met` in crate `theorems`.) What is defined here:
+--   sideBySide, tablesIn, points     octets as 1 to 16 tables of one length, these, and the addresses of their points
+--   Walked                           an answer, 0, 41 or 42, with the hops walked: arrived, stopped, tooLong
+--   leadsTo, follow                  where a row leads, and the way from an address on
+--   tableChecks, walking, walk       the checks of the tables, the ruling and the decision
+--   walkedAtExit                     the numbers that are returned
 use Prim.Native.Nat.{ℕ, zero, suc, _+_, _-_, _*_, _/_, _%_, _^_}
 use mathlib.Core.Bool.{Bool, not, _&&_, _||_, cond}
 use mathlib.Core.List.{List, [], _∷_, map}

@@ -1,4 +1,10 @@
--- What makes octets a table, what is to be seen of one, and what calls do to it.
+-- What makes octets a table, what is to be seen of one, and what calls do to it. What is defined here:
+--   own, number, requestId, clock         the fields of the head
+--   vacant, holds, findRow, rowFor        rows by destination, and the row held for one
+--   activeNext                            the next hop of a row that is there and active
+--   freeRows, firstFree, newRows          free rows, and how many rows a destination needs
+--   alone, passes, isTable                what refusal 21 asks
+--   fresh, store, freed, changeWhere      a fresh table; a row stored, freed; the rows that pass a test changed
 use Prim.Native.Nat.{ℕ, zero, suc}
 use mathlib.Core.Bool.{Bool, _&&_, _||_, not, cond}
 use mathlib.Core.List.{List}

@@ -1,4 +1,8 @@
--- A mesh: points with what they lend to their calls, the elements that they have sent, and lists of calls.
+-- A mesh: points with what they lend to their calls, the elements that they have sent, and lists of calls. What is defined here:
+--   Point, Sent, Mesh, start              a point, an element sent, all boxes with the log, and the mesh at first
+--   Action, Event, callOf                 what a point does, and the call that it makes
+--   afterCall, happen, run, throughout    the mesh after a call, an event and a list of them; a test passed all along
+--   validNext, nextAt, met                the next hop of a valid row, and the points that a walk along those meets
 use Prim.Native.Nat.{ℕ, zero, suc, _+_, _*_}
 use mathlib.Core.Bool.{Bool, true, false, _&&_, cond}
 use mathlib.Core.List.{List, [], _∷_, _++_, map}

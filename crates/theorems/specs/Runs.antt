@@ -1,6 +1,12 @@
 -- Runs as data, and what is shown of them by computation: two within the premise of demand 3 that find their ways, five under
 -- wrong rules that loop, and one outside the premise that loops under the rules. In comments a row for D is written
--- number/metric via next hop, 'largest' is 4,294,967,295, and elements are named by their place in the log.
+-- number/metric via next hop, 'largest' is 4,294,967,295, and elements are named by their place in the log. What is defined here:
+--   _gets_over_at_, _asks-for_lasting_, ..        events, in words
+--   Run                                           points, events and a destination
+--   isWithinWindow, endOf, way, walked, lines     the premise for a run, its last mesh, the walks there, and the bench's lines
+--   workedCase, worked; roundZero, wentRound      the two that find their ways, and the tests that they pass
+--   Counterexample, loops, counterexamples        those under wrong rules
+--   outside, outsideLoops                         the one outside the premise
 use Prim.Native.Nat.{ℕ, _+_, _-_, _*_, _^_}
 use mathlib.Core.Bool.{Bool, true, false, _&&_}
 use mathlib.Core.List.{List, [], _∷_, map, flatMap}
