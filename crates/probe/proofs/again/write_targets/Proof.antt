@@ -1,20 +1,14 @@
 -- `probe::again::write_targets` meets its contract: what is left to write makes the whole.
-use Prim.Native.Nat.{_+_, _-_, _*_, _≤_}
-use mathlib.Core.Path.{_≡_}
-use mathlib.Core.List.{flatMap}
-use lib.ListN.{length}
+use Prim.Native.Nat.{_-_}
 use borrow.Author.Needs.{needs}
-use Rattle.octets.specs.LittleEndian.{overwrite}
-use Rattle.element.specs.Entries.{each, targetAt, targetOctets}
-use Rattle.writing.proofs.Written.{entries-start, entries-ended}
-use Rattle.probe.proofs.Entries.{target-octets-more}
+use Rattle.element.specs.Entries.{targetAt, targetOctets}
+use Rattle.writing.proofs.Written.{entries-start, entries-ended, target-length}
+use Rattle.probe.proofs.Entries.{Left, entry-more}
 use Rattle.probe.proofs.again.write_targets.Statement.{statement}
 use Rattle.probe.proofs.again.write_targets.Tie as tie
 
 abbrev Inv-loop : tie.InvT-loop
-Inv-loop out₀ at part n place₀ i₀ out place i =
-    (i ≤ n) × (length out ≡ length out₀) × (place ≡ at + 11 * i)
-    × (overwrite out place (flatMap targetOctets (each (targetAt part) i (n - i))) ≡ overwrite out₀ at (flatMap targetOctets (each (targetAt part) 0 n)))
+Inv-loop out₀ at part n place₀ i₀ out place i = Left targetOctets 11 (targetAt part) n at out₀ out place i
 
 abbrev μ-loop : tie.MeasureT-loop
 μ-loop out₀ at part n place₀ i₀ out place i = n - i
@@ -30,6 +24,6 @@ write-targets-spec =
     (λ c κs. search needs)
     (λ c. search needs)
     (λ c. search needs)
-    (λ c. search (needs, target-octets-more))
+    (λ c. search (needs, entry-more targetOctets 11 target-length))
     (λ c. search needs)
     (λ c. search entries-ended))

@@ -1,21 +1,16 @@
 -- `probe::numbers::put_dependents` meets its contract: what is left to write makes the whole.
-use Prim.Native.Nat.{_+_, _-_, _*_, _≤_}
-use mathlib.Core.Path.{_≡_}
-use mathlib.Core.List.{flatMap}
-use lib.ListN.{length}
+use Prim.Native.Nat.{_-_}
+use mathlib.Core.Path.{refl}
 use borrow.Author.Needs.{needs}
-use Rattle.octets.specs.LittleEndian.{overwrite}
 use Rattle.element.specs.Element.{numberedNumbers}
-use Rattle.element.specs.Entries.{each, numberedAt}
+use Rattle.element.specs.Entries.{numberedAt}
 use Rattle.writing.proofs.Written.{entries-start, entries-ended}
-use Rattle.probe.proofs.Entries.{numbered-numbers-more}
+use Rattle.probe.proofs.Entries.{Left, entry-more}
 use Rattle.probe.proofs.numbers.put_dependents.Statement.{statement}
 use Rattle.probe.proofs.numbers.put_dependents.Tie as tie
 
 abbrev Inv-loop : tie.InvT-loop
-Inv-loop numbers₀ at part n place₀ i₀ numbers place i =
-    (i ≤ n) × (length numbers ≡ length numbers₀) × (place ≡ at + 2 * i)
-    × (overwrite numbers place (flatMap numberedNumbers (each (numberedAt part) i (n - i))) ≡ overwrite numbers₀ at (flatMap numberedNumbers (each (numberedAt part) 0 n)))
+Inv-loop numbers₀ at part n place₀ i₀ numbers place i = Left numberedNumbers 2 (numberedAt part) n at numbers₀ numbers place i
 
 abbrev μ-loop : tie.MeasureT-loop
 μ-loop numbers₀ at part n place₀ i₀ numbers place i = n - i
@@ -34,6 +29,6 @@ put-dependents-spec =
     (λ c. search needs)
     (λ c. search needs)
     (λ c. search needs)
-    (λ c. search (needs, numbered-numbers-more))
+    (λ c. search (needs, entry-more numberedNumbers 2 (λ x. refl)))
     (λ c. search needs)
     (λ c. search entries-ended))

@@ -1,21 +1,16 @@
 -- `probe::numbers::put_losses` meets its contract: what is left to write makes the whole.
-use Prim.Native.Nat.{_+_, _-_, _*_, _≤_}
-use mathlib.Core.Path.{_≡_}
-use mathlib.Core.List.{flatMap}
-use lib.ListN.{length}
+use Prim.Native.Nat.{_-_}
+use mathlib.Core.Path.{refl}
 use borrow.Author.Needs.{needs}
-use Rattle.octets.specs.LittleEndian.{overwrite}
 use Rattle.element.specs.Element.{lostNumbers}
-use Rattle.element.specs.Entries.{each, lostAt}
+use Rattle.element.specs.Entries.{lostAt}
 use Rattle.writing.proofs.Written.{entries-start, entries-ended}
-use Rattle.probe.proofs.Entries.{lost-numbers-more}
+use Rattle.probe.proofs.Entries.{Left, entry-more}
 use Rattle.probe.proofs.numbers.put_losses.Statement.{statement}
 use Rattle.probe.proofs.numbers.put_losses.Tie as tie
 
 abbrev Inv-loop : tie.InvT-loop
-Inv-loop numbers₀ at part n place₀ i₀ numbers place i =
-    (i ≤ n) × (length numbers ≡ length numbers₀) × (place ≡ at + 2 * i)
-    × (overwrite numbers place (flatMap lostNumbers (each (lostAt part) i (n - i))) ≡ overwrite numbers₀ at (flatMap lostNumbers (each (lostAt part) 0 n)))
+Inv-loop numbers₀ at part n place₀ i₀ numbers place i = Left lostNumbers 2 (lostAt part) n at numbers₀ numbers place i
 
 abbrev μ-loop : tie.MeasureT-loop
 μ-loop numbers₀ at part n place₀ i₀ numbers place i = n - i
@@ -34,6 +29,6 @@ put-losses-spec =
     (λ c. search needs)
     (λ c. search needs)
     (λ c. search needs)
-    (λ c. search (needs, lost-numbers-more))
+    (λ c. search (needs, entry-more lostNumbers 2 (λ x. refl)))
     (λ c. search needs)
     (λ c. search entries-ended))

@@ -1,21 +1,16 @@
 -- `probe::numbers::put_targets` meets its contract: what is left to write makes the whole.
-use Prim.Native.Nat.{_+_, _-_, _*_, _≤_}
-use mathlib.Core.Path.{_≡_}
-use mathlib.Core.List.{flatMap}
-use lib.ListN.{length}
+use Prim.Native.Nat.{_-_}
+use mathlib.Core.Path.{refl}
 use borrow.Author.Needs.{needs}
-use Rattle.octets.specs.LittleEndian.{overwrite}
 use Rattle.element.specs.Element.{targetNumbers}
-use Rattle.element.specs.Entries.{each, targetAt}
+use Rattle.element.specs.Entries.{targetAt}
 use Rattle.writing.proofs.Written.{entries-start, entries-ended}
-use Rattle.probe.proofs.Entries.{target-numbers-more}
+use Rattle.probe.proofs.Entries.{Left, entry-more}
 use Rattle.probe.proofs.numbers.put_targets.Statement.{statement}
 use Rattle.probe.proofs.numbers.put_targets.Tie as tie
 
 abbrev Inv-loop : tie.InvT-loop
-Inv-loop numbers₀ at part n place₀ i₀ numbers place i =
-    (i ≤ n) × (length numbers ≡ length numbers₀) × (place ≡ at + 3 * i)
-    × (overwrite numbers place (flatMap targetNumbers (each (targetAt part) i (n - i))) ≡ overwrite numbers₀ at (flatMap targetNumbers (each (targetAt part) 0 n)))
+Inv-loop numbers₀ at part n place₀ i₀ numbers place i = Left targetNumbers 3 (targetAt part) n at numbers₀ numbers place i
 
 abbrev μ-loop : tie.MeasureT-loop
 μ-loop numbers₀ at part n place₀ i₀ numbers place i = n - i
@@ -35,6 +30,6 @@ put-targets-spec =
     (λ c. search needs)
     (λ c. search needs)
     (λ c. search needs)
-    (λ c. search (needs, target-numbers-more))
+    (λ c. search (needs, entry-more targetNumbers 3 (λ x. refl)))
     (λ c. search needs)
     (λ c. search entries-ended))
