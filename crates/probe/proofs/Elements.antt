@@ -1,7 +1,7 @@
 -- The numbers of an element: those of its fixed part, and then those of its entries.
-use Prim.Native.Nat.{ℕ, _/_}
+use Prim.Native.Nat.{ℕ, zero, suc, _/_}
 use mathlib.Core.Path.{_≡_, refl, sym, ap, ap₂, _∙_}
-use mathlib.Core.List.{List, [], _∷_, flatMap}
+use mathlib.Core.List.{List, _++_, flatMap}
 use lib.ListN.{length}
 use native.Mathlib.Nat.{zero-add}
 use Rattle.octets.specs.LittleEndian.{overwrite}
@@ -14,47 +14,48 @@ use Rattle.element.specs.declared.RerrFields.{RerrFields}
 use Rattle.reading.specs.declared.Reading.{Reading}
 use Rattle.reading.specs.declared.Reading.the-variants.{Announcement, Request, Reply, Error, Refused}
 use Rattle.element.specs.Element.{Element, rann, rreq, rrep, rerr, kindOf, countOf, fieldNumbers, lostNumbers, numberedNumbers, rannNumbers, rerrNumbers, rrepNumbers, rreqNumbers, targetNumbers}
-use Rattle.element.specs.Entries.{lostAt, lostIn, numberedAt, numberedIn, targetAt, targetsIn}
+use Rattle.element.specs.Entries.{each, lostAt, lostIn, numberedAt, numberedIn, targetAt, targetsIn}
 use Rattle.element.specs.Octets.{fixedNumbers, listPart}
 use Rattle.reading.specs.Reading.{reading}
 use Rattle.element.proofs.Scans.{each-length}
 use Rattle.reading.proofs.Readings.{announcement-element, request-element, reply-element, error-element}
 use Rattle.probe.specs.Probes.{entryNumbers, elementNumbers, readNumbers}
 
-numbers-put : (e : Element) (s t u ys : List ℕ) → ys ≡ fixedNumbers (kindOf e) (countOf e) (fieldNumbers e) → t ≡ overwrite s 0 ys → u ≡ overwrite t (length ys) (entryNumbers e)
-    → u ≡ overwrite s 0 (elementNumbers e)
-unfolding elementNumbers
-numbers-put e s t u ys ye te ue =
-    let fixed : List ℕ = fixedNumbers (kindOf e) (countOf e) (fieldNumbers e) in
-    ue ∙ ap₂ (λ (l : List ℕ) (k : ℕ). overwrite l k (entryNumbers e)) (te ∙ ap (overwrite s 0) ye) (ap length ye ∙ sym (zero-add (length fixed)))
-    ∙ sym (overwrite-append s 0 fixed (entryNumbers e))
+-- dependents of a RREP and destinations of a RERR have the same numbers
+same-numbers : (part : List ℕ) (i n : ℕ) → flatMap numberedNumbers (each (numberedAt part) i n) ≡ flatMap lostNumbers (each (lostAt part) i n)
+unfolding each flatMap numberedAt lostAt
+same-numbers part i zero = refl
+same-numbers part i (suc n) = rw (same-numbers part (suc i) n)
 
 module _ (s t ys : List ℕ) (te : t ≡ overwrite s 0 ys) where
+  -- n entries, put after the fixed part
+  numbers-put : (e : Element) (u : List ℕ) (n : ℕ) → n ≡ countOf e → ys ≡ fixedNumbers (kindOf e) n (fieldNumbers e)
+      → u ≡ overwrite t (length (fixedNumbers (kindOf e) n (fieldNumbers e))) (entryNumbers e) → u ≡ overwrite s 0 (elementNumbers e)
+  unfolding elementNumbers
+  numbers-put e u n ne ye ue =
+      let fixed : ℕ → List ℕ = λ m. fixedNumbers (kindOf e) m (fieldNumbers e) in
+      ue ∙ ap₂ (λ (l : List ℕ) (k : ℕ). overwrite l k (entryNumbers e)) (te ∙ ap (overwrite s 0) ye) (sym (zero-add (length (fixed n))))
+      ∙ sym (overwrite-append s 0 (fixed n) (entryNumbers e))
+      ∙ ap (λ (m : ℕ). overwrite s 0 (fixed m ++ entryNumbers e)) ne
+
   pub rann-put : (p : PathInfo) → ys ≡ fixedNumbers Rann 0 (rannNumbers p) → t ≡ overwrite s 0 (elementNumbers (rann p))
   unfolding overwrite
-  rann-put p ye = numbers-put (rann p) s t t ys ye te refl
+  rann-put p ye = numbers-put (rann p) t 0 refl ye refl
 
   module _ (u part : List ℕ) (n : ℕ) where
     pub rreq-put : (f : RreqFields) → n ≡ length part / 11 → ys ≡ fixedNumbers Rreq n (rreqNumbers f)
         → u ≡ overwrite t 11 (flatMap targetNumbers (targetsIn part)) → u ≡ overwrite s 0 (elementNumbers (rreq f (targetsIn part)))
-    rreq-put f ne ye ue =
-        let many = ne ∙ sym (each-length (targetAt part) 0 (length part / 11)) in
-        numbers-put (rreq f (targetsIn part)) s t u ys (ye ∙ ap (λ (m : ℕ). fixedNumbers Rreq m (rreqNumbers f)) many) te
-        (ue ∙ ap (λ (k : ℕ). overwrite t k (flatMap targetNumbers (targetsIn part))) (sym (ap length ye)))
+    rreq-put f ne = numbers-put (rreq f (targetsIn part)) u n (ne ∙ sym (each-length (targetAt part) 0 (length part / 11)))
 
     pub rrep-put : (f : RrepFields) → n ≡ length part / 10 → ys ≡ fixedNumbers Rrep n (rrepNumbers f)
         → u ≡ overwrite t 12 (flatMap numberedNumbers (numberedIn part)) → u ≡ overwrite s 0 (elementNumbers (rrep f (numberedIn part)))
-    rrep-put f ne ye ue =
-        let many = ne ∙ sym (each-length (numberedAt part) 0 (length part / 10)) in
-        numbers-put (rrep f (numberedIn part)) s t u ys (ye ∙ ap (λ (m : ℕ). fixedNumbers Rrep m (rrepNumbers f)) many) te
-        (ue ∙ ap (λ (k : ℕ). overwrite t k (flatMap numberedNumbers (numberedIn part))) (sym (ap length ye)))
+    rrep-put f ne = numbers-put (rrep f (numberedIn part)) u n (ne ∙ sym (each-length (numberedAt part) 0 (length part / 10)))
 
     pub rerr-put : (f : RerrFields) → n ≡ length part / 10 → ys ≡ fixedNumbers Rerr n (rerrNumbers f)
-        → u ≡ overwrite t 4 (flatMap lostNumbers (lostIn part)) → u ≡ overwrite s 0 (elementNumbers (rerr f (lostIn part)))
+        → u ≡ overwrite t 4 (flatMap numberedNumbers (numberedIn part)) → u ≡ overwrite s 0 (elementNumbers (rerr f (lostIn part)))
     rerr-put f ne ye ue =
-        let many = ne ∙ sym (each-length (lostAt part) 0 (length part / 10)) in
-        numbers-put (rerr f (lostIn part)) s t u ys (ye ∙ ap (λ (m : ℕ). fixedNumbers Rerr m (rerrNumbers f)) many) te
-        (ue ∙ ap (λ (k : ℕ). overwrite t k (flatMap lostNumbers (lostIn part))) (sym (ap length ye)))
+        numbers-put (rerr f (lostIn part)) u n (ne ∙ sym (each-length (lostAt part) 0 (length part / 10))) ye
+        (ue ∙ ap (overwrite t 4) (same-numbers part 0 (length part / 10)))
 
 -- ---- by the reader's answer
 

@@ -10,7 +10,7 @@ ghost use mathlib.Core.List.{flatMap};
 ghost use Prim.Native.Nat.{_+_, _*_, _/_, _≤_};
 ghost use lib.ListN.{length};
 ghost use Rattle.octets.specs.LittleEndian.{overwrite};
-ghost use Rattle.element.specs.Element.{lostNumbers, numberedNumbers, rann, rerr, rrep, rreq, targetNumbers};
+ghost use Rattle.element.specs.Element.{numberedNumbers, rann, rerr, rrep, rreq, targetNumbers};
 ghost use Rattle.element.specs.Entries.{lostIn, numberedIn, targetsIn};
 ghost use Rattle.element.specs.Layout.{PartOf};
 ghost use Rattle.element.specs.declared.Kind.{Kind};
@@ -44,7 +44,8 @@ fn put_targets(numbers: &mut [u64], at: usize, part: &[u8])
     }
 }
 
-fn put_dependents(numbers: &mut [u64], at: usize, part: &[u8])
+// Puts the dependents of a RREP or the destinations of a RERR: both are an address and a number.
+fn put_numbered(numbers: &mut [u64], at: usize, part: &[u8])
     requires { ⌜ at + 2 * (length (now part) / 10) ≤ length (now numbers) ⌝ }
     ensures { λ _. ⌜ now (numbers .exit)
         ≡ overwrite (now (numbers .entry)) at (flatMap numberedNumbers (numberedIn (now (part .entry)))) ⌝ }
@@ -55,23 +56,6 @@ fn put_dependents(numbers: &mut [u64], at: usize, part: &[u8])
     while i < n {
         let a = list::numbered_at(part, i);
         let values = [a.address.0, a.number.0 as u64];
-        put(numbers, place, &values);
-        place += 2;
-        i += 1;
-    }
-}
-
-fn put_losses(numbers: &mut [u64], at: usize, part: &[u8])
-    requires { ⌜ at + 2 * (length (now part) / 10) ≤ length (now numbers) ⌝ }
-    ensures { λ _. ⌜ now (numbers .exit)
-        ≡ overwrite (now (numbers .entry)) at (flatMap lostNumbers (lostIn (now (part .entry)))) ⌝ }
-{
-    let n = part.len() / list::LOST;
-    let mut place = at;
-    let mut i = 0;
-    while i < n {
-        let m = list::lost_at(part, i);
-        let values = [m.address.0, m.number.0 as u64];
         put(numbers, place, &values);
         place += 2;
         i += 1;
@@ -110,7 +94,7 @@ pub fn put_rrep(numbers: &mut [u64], f: RrepFields, part: &[u8]) -> u32
 {
     let values = writing::rrep_numbers(f, list::entries_in(part, ListKind::Dependents));
     put(numbers, 0, &values);
-    put_dependents(numbers, 12, part);
+    put_numbered(numbers, 12, part);
     0
 }
 
@@ -123,6 +107,6 @@ pub fn put_rerr(numbers: &mut [u64], f: RerrFields, part: &[u8]) -> u32
 {
     let values = writing::rerr_numbers(f, list::entries_in(part, ListKind::LostDestinations));
     put(numbers, 0, &values);
-    put_losses(numbers, 4, part);
+    put_numbered(numbers, 4, part);
     0
 }

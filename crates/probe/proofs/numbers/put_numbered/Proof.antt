@@ -1,22 +1,22 @@
--- `probe::numbers::put_losses` meets its contract: what is left to write makes the whole.
+-- `probe::numbers::put_numbered` meets its contract: what is left to write makes the whole.
 use Prim.Native.Nat.{_-_}
 use mathlib.Core.Path.{refl}
 use borrow.Author.Needs.{needs}
-use Rattle.element.specs.Element.{lostNumbers}
-use Rattle.element.specs.Entries.{lostAt}
+use Rattle.element.specs.Element.{numberedNumbers}
+use Rattle.element.specs.Entries.{numberedAt}
 use Rattle.writing.proofs.Written.{entries-start, entries-ended}
 use Rattle.probe.proofs.Entries.{Left, entry-more}
-use Rattle.probe.proofs.numbers.put_losses.Statement.{statement}
-use Rattle.probe.proofs.numbers.put_losses.Tie as tie
+use Rattle.probe.proofs.numbers.put_numbered.Statement.{statement}
+use Rattle.probe.proofs.numbers.put_numbered.Tie as tie
 
 abbrev Inv-loop : tie.InvT-loop
-Inv-loop numbers₀ at part n place₀ i₀ numbers place i = Left lostNumbers 2 (lostAt part) n at numbers₀ numbers place i
+Inv-loop numbers₀ at part n place₀ i₀ numbers place i = Left numberedNumbers 2 (numberedAt part) n at numbers₀ numbers place i
 
 abbrev μ-loop : tie.MeasureT-loop
 μ-loop numbers₀ at part n place₀ i₀ numbers place i = n - i
 
-pub put-losses-spec : {M : Type 1} → statement M
-put-losses-spec =
+pub put-numbered-spec : {M : Type 1} → statement M
+put-numbered-spec =
     tie.close
     (tie.spec
     Inv-loop
@@ -29,6 +29,6 @@ put-losses-spec =
     (λ c. search needs)
     (λ c. search needs)
     (λ c. search needs)
-    (λ c. search (needs, entry-more lostNumbers 2 (λ x. refl)))
+    (λ c. search (needs, entry-more numberedNumbers 2 (λ x. refl)))
     (λ c. search needs)
     (λ c. search entries-ended))
