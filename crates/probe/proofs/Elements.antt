@@ -12,14 +12,13 @@ use Rattle.element.specs.declared.RreqFields.{RreqFields}
 use Rattle.element.specs.declared.RrepFields.{RrepFields}
 use Rattle.element.specs.declared.RerrFields.{RerrFields}
 use Rattle.reading.specs.declared.Reading.{Reading}
-use Rattle.reading.specs.declared.Reading.the-variants.{Announcement, Request, Reply, Error, Refused}
+use Rattle.reading.specs.declared.Reading.the-variants.{Refused}
 use Rattle.element.specs.Element.{Element, rann, rreq, rrep, rerr, kindOf, countOf, fieldNumbers, lostNumbers, numberedNumbers, rannNumbers, rerrNumbers, rrepNumbers, rreqNumbers, targetNumbers}
 use Rattle.element.specs.Entries.{each, lostAt, lostIn, numberedAt, numberedIn, targetAt, targetsIn}
-use Rattle.element.specs.Octets.{fixedNumbers, listPart}
-use Rattle.reading.specs.Reading.{reading}
+use Rattle.element.specs.Octets.{fixedNumbers, readElement}
+use Rattle.reading.specs.Reading.{fixedFields, reading}
 use Rattle.element.proofs.Scans.{each-length}
-use Rattle.reading.proofs.Readings.{announcement-element, request-element, reply-element, error-element}
-use Rattle.probe.specs.Probes.{entryNumbers, elementNumbers, readNumbers}
+use Rattle.probe.specs.Probes.{Probed, entryNumbers, elementNumbers, readNumbers, unlessRefused}
 
 -- dependents of a RREP and destinations of a RERR have the same numbers
 same-numbers : (part : List ℕ) (i n : ℕ) → flatMap numberedNumbers (each (numberedAt part) i n) ≡ flatMap lostNumbers (each (lostAt part) i n)
@@ -59,28 +58,18 @@ module _ (s t ys : List ℕ) (te : t ≡ overwrite s 0 ys) where
 
 -- ---- by the reader's answer
 
+pub not-refused : (e : Element) (was : List ℕ) (made : Probed) → unlessRefused (fixedFields e) was made ≡ made
+not-refused (rann p) was made = refl
+not-refused (rreq f targets) was made = refl
+not-refused (rrep f dependents) was made = refl
+not-refused (rerr f destinations) was made = refl
+
 module _ (s numbers : List ℕ) (r : Reading) (re : r ≡ reading s) where
   pub read-refused : (n : ℕ) → r ≡ Refused n → record { answer = n; memory = numbers } ≡ readNumbers s numbers
   unfolding readNumbers
   read-refused n e = rw (← re, e) refl
 
-  module _ (a : ℕ) (ae : a ≡ 0) (u : List ℕ) where
-    pub read-rann : (p : PathInfo) → r ≡ Announcement p → u ≡ overwrite numbers 0 (elementNumbers (rann p)) → record { answer = a; memory = u } ≡ readNumbers s numbers
-    unfolding readNumbers
-    read-rann p e ue = rw (ae, ue, ← re, e, announcement-element s r re p e) refl
-
-    module _ (part : List ℕ) (pe : part ≡ listPart s) where
-      pub read-rreq : (f : RreqFields) → r ≡ Request f → u ≡ overwrite numbers 0 (elementNumbers (rreq f (targetsIn part)))
-          → record { answer = a; memory = u } ≡ readNumbers s numbers
-      unfolding readNumbers
-      read-rreq f e ue = rw (ae, ue, ← re, e, request-element s r re f e part pe) refl
-
-      pub read-rrep : (f : RrepFields) → r ≡ Reply f → u ≡ overwrite numbers 0 (elementNumbers (rrep f (numberedIn part)))
-          → record { answer = a; memory = u } ≡ readNumbers s numbers
-      unfolding readNumbers
-      read-rrep f e ue = rw (ae, ue, ← re, e, reply-element s r re f e part pe) refl
-
-      pub read-rerr : (f : RerrFields) → r ≡ Error f → u ≡ overwrite numbers 0 (elementNumbers (rerr f (lostIn part)))
-          → record { answer = a; memory = u } ≡ readNumbers s numbers
-      unfolding readNumbers
-      read-rerr f e ue = rw (ae, ue, ← re, e, error-element s r re f e part pe) refl
+  pub read-element : (a : ℕ) → a ≡ 0 → (e : Element) (u : List ℕ) → u ≡ overwrite numbers 0 (elementNumbers e) → r ≡ fixedFields e → readElement s ≡ e
+      → record { answer = a; memory = u } ≡ readNumbers s numbers
+  unfolding readNumbers
+  read-element a ae e u ue fe ee = rw (ae, ue, ← re, fe, ee, not-refused e)

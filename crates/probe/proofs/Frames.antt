@@ -11,23 +11,22 @@ use Rattle.octets.specs.LittleEndian.{overwrite}
 use Rattle.layout.specs.declared.address.Address.{Address}
 use Rattle.element.specs.declared.Kind.the-variants.{Rreq, Rrep, Rerr}
 use Rattle.element.specs.declared.list.ListKind.{ListKind}
-use Rattle.element.specs.declared.list.ListKind.the-variants.{Targets, Dependents, LostDestinations}
 use Rattle.element.specs.declared.PathInfo.{PathInfo}
 use Rattle.element.specs.declared.RreqFields.{RreqFields}
 use Rattle.element.specs.declared.RrepFields.{RrepFields}
 use Rattle.element.specs.declared.RerrFields.{RerrFields}
 use Rattle.reading.specs.declared.Reading.{Reading}
-use Rattle.reading.specs.declared.Reading.the-variants.{Announcement, Request, Reply, Error, Refused}
-use Rattle.element.specs.Element.{rann, rreq, rrep, rerr}
+use Rattle.reading.specs.declared.Reading.the-variants.{Refused}
+use Rattle.element.specs.Element.{Element, rann, rreq, rrep, rerr}
 use Rattle.element.specs.Entries.{lostAt, lostIn, numberedAt, numberedIn, targetAt, targetsIn}
 use Rattle.element.specs.Layout.{PartOf}
-use Rattle.element.specs.Octets.{listPart, writeFrame}
-use Rattle.reading.specs.Reading.{reading}
-use Rattle.element.specs.Lists.{addressesIn, contains, anyForbidden, onesBesideOthers, hasDuplicate}
+use Rattle.element.specs.Octets.{readElement, listPart, writeFrame}
+use Rattle.reading.specs.Reading.{fixedFields, reading}
+use Rattle.element.specs.Lists.{contains, anyForbidden, onesBesideOthers, hasDuplicate}
 use Rattle.element.proofs.Scans.{each-length}
 use Rattle.element.proofs.Sizes.{frame-length}
-use Rattle.reading.proofs.Readings.{announcement-element, request-element, reply-element, error-element}
-use Rattle.probe.specs.Probes.{Probed, faults, faultsIn, written, writtenAgain}
+use Rattle.probe.specs.Probes.{Probed, faults, faultsIn, faultsRead, written, writtenAgain}
+use Rattle.probe.proofs.Elements.{not-refused}
 
 -- ---- room
 
@@ -89,23 +88,10 @@ module _ (s out : List ℕ) (to : Address) (at : ℕ) (r : Reading) (re : r ≡ 
   unfolding writtenAgain
   again-refused n e = rw (← re, e) refl
 
-  module _ (receiver : Address) (te : receiver ≡ to) (w : Probed) where
-    pub again-rann : (p : PathInfo) → r ≡ Announcement p → w ≡ written out at (writeFrame receiver (rann p)) → w ≡ writtenAgain s to out at
-    unfolding writtenAgain
-    again-rann p e we = rw (we, te, ← re, e, announcement-element s r re p e) refl
-
-    module _ (part : List ℕ) (pe : part ≡ listPart s) where
-      pub again-rreq : (f : RreqFields) → r ≡ Request f → w ≡ written out at (writeFrame receiver (rreq f (targetsIn part))) → w ≡ writtenAgain s to out at
-      unfolding writtenAgain
-      again-rreq f e we = rw (we, te, ← re, e, request-element s r re f e part pe) refl
-
-      pub again-rrep : (f : RrepFields) → r ≡ Reply f → w ≡ written out at (writeFrame receiver (rrep f (numberedIn part))) → w ≡ writtenAgain s to out at
-      unfolding writtenAgain
-      again-rrep f e we = rw (we, te, ← re, e, reply-element s r re f e part pe) refl
-
-      pub again-rerr : (f : RerrFields) → r ≡ Error f → w ≡ written out at (writeFrame receiver (rerr f (lostIn part))) → w ≡ writtenAgain s to out at
-      unfolding writtenAgain
-      again-rerr f e we = rw (we, te, ← re, e, error-element s r re f e part pe) refl
+  pub again-element : (receiver : Address) → receiver ≡ to → (e : Element) (w : Probed) → w ≡ written out at (writeFrame receiver e) → r ≡ fixedFields e → readElement s ≡ e
+      → w ≡ writtenAgain s to out at
+  unfolding writtenAgain
+  again-element receiver te e w we fe ee = rw (we, te, ← re, fe, ee, not-refused e)
 
 -- ---- faults
 
@@ -119,19 +105,7 @@ module _ (s : List ℕ) (a : Address) (r : Reading) (re : r ≡ reading s) where
   unfolding faultsIn
   no-faults-refused n e = rw (← re, e) refl
 
-  module _ (b : Address) (be : b ≡ a) (x : ℕ) (part : List ℕ) (pe : part ≡ listPart s) where
-    pub faults-rann : (p : PathInfo) → r ≡ Announcement p → x ≡ faults Dependents b (addressesIn Dependents part) → x ≡ faultsIn s a
-    unfolding faultsIn
-    faults-rann p e xe = rw (xe, be, ← re, e, pe) refl
-
-    pub faults-rreq : (f : RreqFields) → r ≡ Request f → x ≡ faults Targets b (addressesIn Targets part) → x ≡ faultsIn s a
-    unfolding faultsIn
-    faults-rreq f e xe = rw (xe, be, ← re, e, pe) refl
-
-    pub faults-rrep : (f : RrepFields) → r ≡ Reply f → x ≡ faults Dependents b (addressesIn Dependents part) → x ≡ faultsIn s a
-    unfolding faultsIn
-    faults-rrep f e xe = rw (xe, be, ← re, e, pe) refl
-
-    pub faults-rerr : (f : RerrFields) → r ≡ Error f → x ≡ faults LostDestinations b (addressesIn LostDestinations part) → x ≡ faultsIn s a
-    unfolding faultsIn
-    faults-rerr f e xe = rw (xe, be, ← re, e, pe) refl
+  -- an answer of any type, with the list part that goes with it
+  pub faults-read : (q : Reading) → r ≡ q → (b : Address) → b ≡ a → (part : List ℕ) → part ≡ listPart s → (x : ℕ) → x ≡ faultsRead q part b → x ≡ faultsIn s a
+  unfolding faultsIn
+  faults-read q e b be part pe x xe = rw (xe, be, ← re, e, pe) refl

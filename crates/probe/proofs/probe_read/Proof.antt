@@ -1,7 +1,7 @@
 -- `probe::probe_read` meets its contract: answer by answer of the reader.
 use borrow.Author.Needs.{needs}
-use Rattle.reading.proofs.Readings.{request-part, reply-part, error-part}
-use Rattle.probe.proofs.Elements.{read-rann, read-rreq, read-rrep, read-rerr, read-refused}
+use Rattle.reading.proofs.Readings.{announcement-element, request-part, request-element, reply-part, reply-element, error-part, error-element}
+use Rattle.probe.proofs.Elements.{read-element, read-refused}
 use Rattle.probe.proofs.probe_read.Statement.{statement}
 use Rattle.probe.proofs.probe_read.Tie as tie
 
@@ -22,8 +22,8 @@ probe-read-spec =
     (λ c κs. search needs)
     (λ c κs. search (needs, error-part))
     (λ c. search needs)
-    (λ c. search read-rann)
-    (λ c. search read-rreq)
-    (λ c. search read-rrep)
-    (λ c. search read-rerr)
+    (λ c. search (read-element, announcement-element))
+    (λ c. search (read-element, request-element))
+    (λ c. search (read-element, reply-element))
+    (λ c. search (read-element, error-element))
     (λ c. search read-refused))

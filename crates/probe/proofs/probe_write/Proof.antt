@@ -1,7 +1,7 @@
 -- `probe::probe_write` meets its contract: answer by answer of the reader.
 use borrow.Author.Needs.{needs}
-use Rattle.reading.proofs.Readings.{request-part, reply-part, error-part}
-use Rattle.probe.proofs.Frames.{again-rann, again-rreq, again-rrep, again-rerr, again-refused}
+use Rattle.reading.proofs.Readings.{announcement-element, request-part, request-element, reply-part, reply-element, error-part, error-element}
+use Rattle.probe.proofs.Frames.{again-element, again-refused}
 use Rattle.probe.proofs.probe_write.Statement.{statement}
 use Rattle.probe.proofs.probe_write.Tie as tie
 
@@ -24,11 +24,11 @@ probe-write-spec =
     (λ c κs. search (error-part))
     (λ c. search needs)
     (λ c. search needs)
-    (λ c. search again-rann)
+    (λ c. search (again-element, announcement-element))
     (λ c. search needs)
-    (λ c. search again-rreq)
+    (λ c. search (again-element, request-element))
     (λ c. search needs)
-    (λ c. search again-rrep)
+    (λ c. search (again-element, reply-element))
     (λ c. search needs)
-    (λ c. search again-rerr)
+    (λ c. search (again-element, error-element))
     (λ c. search again-refused))
