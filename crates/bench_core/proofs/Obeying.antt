@@ -2,16 +2,15 @@
 use Prim.Native.Nat.{ℕ, _<_, _≤_}
 use mathlib.Core.Path.{_≡_, sym}
 use mathlib.Core.List.{List, [], _∷_}
-use lib.ListN.{length, take, drop, List·getD-eq-default}
+use lib.ListN.{length, List·getD-eq-default}
 use borrow.Author.Tests.{ne-eqb, lt-ltb, le-ltb}
 use Rattle.octets.specs.LittleEndian.{numberAt}
 use Rattle.bench_core.specs.declared.State.{State}
 use Rattle.bench_core.specs.declared.Done.{Done}
 use Rattle.bench_core.specs.declared.Done.the-variants.{Fault}
-use Rattle.bench_core.specs.Bench.{Bench, WithLinks}
-use Rattle.bench_core.specs.Commands.{askFor, announceSelf, deliver, breakOff}
+use Rattle.bench_core.specs.Bench.{Bench, WithLinks, Done as Came}
 use Rattle.bench_core.specs.InCode.{benchOf, doneIn, Adds, Advances, Links, Walks}
-use Rattle.bench_core.specs.Interpreter.{lengthOf, obeyed, command}
+use Rattle.bench_core.specs.Interpreter.{lengthOf, leavingLinks, obeyed, command}
 
 pub no-command : (c : ℕ) → 9 ≤ c → 0 ≡ lengthOf c
 no-command c l = sym (List·getD-eq-default (0 ∷ 11 ∷ 5 ∷ 7 ∷ 13 ∷ 6 ∷ 4 ∷ 3 ∷ 3 ∷ []) 0 l)
@@ -38,6 +37,11 @@ module _ (r : Done) (st : State) where
 
 -- ---- each command, by what its function leaves
 
+-- a command k that makes a point call
+pub obeyed-call : (k c : ℕ) → c ≡ k → (b : Bench) (links : List (List ℕ)) (s : List ℕ) (x d : Came) → x ≡ d → obeyed b links s k ≡ leavingLinks links d
+    → leavingLinks links x ≡ obeyed b links s c
+obeyed-call k c e b links s x d xe ke = rw (e, ke, xe)
+
 module _ (st : State) (tables slots : List ℕ) (links : List (List ℕ)) (s : List ℕ) (c : ℕ) (r : Done) where
   abbrev b : Bench
   b = benchOf st tables slots
@@ -58,27 +62,6 @@ module _ (st : State) (tables slots : List ℕ) (links : List (List ℕ)) (s : L
       → leaving tables slots links′ ≡ obeyed b links s c
   unfolding obeyed Links
   obeyed-3 e links′ h = rw e (h tables slots)
-
-  module _ (tables′ slots′ : List ℕ) where
-    pub obeyed-4 : c ≡ 4 → doneIn r tables′ slots′ ≡ askFor b (numberAt 1 s 1) (take 7 (drop 2 s)) (numberAt 4 s 9)
-        → leaving tables′ slots′ links ≡ obeyed b links s c
-    unfolding obeyed
-    obeyed-4 e h = rw (e, h)
-
-    pub obeyed-5 : c ≡ 5 → doneIn r tables′ slots′ ≡ announceSelf b (numberAt 1 s 1) (numberAt 4 s 2)
-        → leaving tables′ slots′ links ≡ obeyed b links s c
-    unfolding obeyed
-    obeyed-5 e h = rw (e, h)
-
-    pub obeyed-6 : c ≡ 6 → doneIn r tables′ slots′ ≡ deliver b links (numberAt 2 s 1) (numberAt 1 s 3)
-        → leaving tables′ slots′ links ≡ obeyed b links s c
-    unfolding obeyed
-    obeyed-6 e h = rw (e, h)
-
-    pub obeyed-7 : c ≡ 7 → doneIn r tables′ slots′ ≡ breakOff b (numberAt 1 s 1) (numberAt 1 s 2)
-        → leaving tables′ slots′ links ≡ obeyed b links s c
-    unfolding obeyed
-    obeyed-7 e h = rw (e, h)
 
   pub obeyed-8 : c ≡ 8 → Walks r st (numberAt 1 s 1) (numberAt 1 s 2) tables → leaving tables slots links ≡ obeyed b links s c
   unfolding obeyed Walks

@@ -1,10 +1,12 @@
 -- `bench_core::interpreter::obey` meets its contract: by the number of the command.
 use borrow.Author.Needs.{needs}
-use Rattle.bench_core.proofs.Obeying.{enough, obeyed-1, obeyed-2, obeyed-3, obeyed-4, obeyed-5, obeyed-6, obeyed-7, obeyed-8, obeyed-none}
+use Rattle.bench_core.specs.Interpreter.{obeyed}
+use Rattle.bench_core.proofs.Obeying.{enough, obeyed-1, obeyed-2, obeyed-3, obeyed-call, obeyed-8, obeyed-none}
 use Rattle.bench_core.proofs.interpreter.obey.Statement.{statement}
 use Rattle.bench_core.proofs.interpreter.obey.Tie as tie
 
 pub obey-spec : {M : Type 1} → statement M
+unfolding obeyed
 obey-spec =
     tie.close
     (tie.spec
@@ -18,19 +20,19 @@ obey-spec =
     (λ c κs. (search (enough 4), search needs))
     (λ c. search needs)
     (λ c. search needs)
-    (λ c. search obeyed-4)
+    (λ c. search (obeyed-call 4))
     (λ c κs. (search (enough 5), search needs))
     (λ c. search needs)
     (λ c. search needs)
-    (λ c. search obeyed-5)
+    (λ c. search (obeyed-call 5))
     (λ c κs. (search (enough 6), search needs))
     (λ c. search needs)
     (λ c. search needs)
-    (λ c. search obeyed-6)
+    (λ c. search (obeyed-call 6))
     (λ c κs. (search (enough 7), search needs))
     (λ c. search needs)
     (λ c. search needs)
-    (λ c. search obeyed-7)
+    (λ c. search (obeyed-call 7))
     (λ c κs. (search (enough 8), (search needs, search needs)))
     (λ c. search needs)
     (λ c. search obeyed-8)
