@@ -1,5 +1,5 @@
 -- Laws of the head and the rows in the octets of a table: with these no caller looks at an octet.
-use Prim.Native.Nat.{ℕ, _+_, _*_, _^_, _≤_}
+use Prim.Native.Nat.{ℕ, _+_, _*_, _^_, _<_, _≤_}
 use mathlib.Core.Path.{_≡_, refl, sym, ap, _∙_}
 use mathlib.Core.List.{List, [], _∷_}
 use mathlib.Core.Logic.{inl, inr}
@@ -18,11 +18,45 @@ use Rattle.layout.specs.Layout.{allZero, place, rowWidths, headWidths, r
 
 -- ---- values that these octets can hold
 
-unfoldable pub FitHead : Head → Type 0
-FitHead h = FitFields headWidths (headNumbers h)
+-- each number of a head fits its octets
+pub record FitHead (h : Head) : Type 0 where
+  pub own : h .own .0 < 256 ^ 6
+  pub zero2 : h .zero2 < 256 ^ 2
+  pub number : h .number .0 < 256 ^ 4
+  pub request : h .request .0 < 256 ^ 4
+  pub clock : h .clock < 256 ^ 8
+  pub zero8 : h .zero8 < 256 ^ 8
 
-unfoldable pub FitRow : Row → Type 0
-FitRow r = FitFields rowWidths (rowNumbers r)
+-- each number of a row fits its octets
+pub record FitRow (r : Row) : Type 0 where
+  pub status : r .status < 256 ^ 1
+  pub known : r .known < 256 ^ 1
+  pub hops : r .hops .0 < 256 ^ 1
+  pub zero : r .zero < 256 ^ 1
+  pub destination : r .destination .0 < 256 ^ 6
+  pub next : r .next .0 < 256 ^ 6
+  pub number : r .number .0 < 256 ^ 4
+  pub metric : r .metric .0 < 256 ^ 4
+  pub expiry : r .expiry < 256 ^ 8
+
+-- pass between the named numbers and the run of fields that the laws of octets are about
+module _ (h : Head) where
+  head-fields : FitHead h → FitFields headWidths (headNumbers h)
+  unfolding FitFields
+  head-fields f = search f
+
+  pub fit-head : FitFields headWidths (headNumbers h) → FitHead h
+  unfolding FitFields
+  fit-head f = search f
+
+module _ (r : Row) where
+  row-fields : FitRow r → FitFields rowWidths (rowNumbers r)
+  unfolding FitFields
+  row-fields f = search f
+
+  pub fit-row : FitFields rowWidths (rowNumbers r) → FitRow r
+  unfolding FitFields
+  fit-row f = search f
 
 -- the row at i, field by field
 pub read : (t : List ℕ) (i : ℕ) {a b c d e f g h k : ℕ}
@@ -57,8 +91,8 @@ length-row t i r = length-fields rowWidths t (place i) 0 (rowNumbers r)
 
 -- it is read back
 pub row-same : (t : List ℕ) (i : ℕ) (r : Row) → place i + rowOctets ≤ length t → FitRow r → rowAt (putRow t i r) i ≡ r
-unfolding rowAt putRow total FitRow
-row-same t i r h f = ap rowOf (fields-same rowWidths t (place i) 0 (rowNumbers r) (omega arith) f)
+unfolding rowAt putRow total
+row-same t i r h f = ap rowOf (fields-same rowWidths t (place i) 0 (rowNumbers r) (omega arith) (row-fields r f))
 
 -- the other rows stay
 pub row-other : (t : List ℕ) (i k : ℕ) (r : Row) → (k ≡ i → ⊥) → rowAt (putRow t i r) k ≡ rowAt t k
@@ -84,8 +118,8 @@ unfolding putHead
 length-head t h = length-fields headWidths t 0 0 (headNumbers h)
 
 pub head-same : (t : List ℕ) (h : Head) → headOctets ≤ length t → FitHead h → headAt (putHead t h) ≡ h
-unfolding headAt putHead total FitHead
-head-same t h l f = ap headOf (fields-same headWidths t 0 0 (headNumbers h) (omega arith) f)
+unfolding headAt putHead total
+head-same t h l f = ap headOf (fields-same headWidths t 0 0 (headNumbers h) (omega arith) (head-fields h f))
 
 pub row-stays : (t : List ℕ) (h : Head) (k : ℕ) → rowAt (putHead t h) k ≡ rowAt t k
 unfolding rowAt putHead total
@@ -99,12 +133,12 @@ head-octets t h o = octets-fields headWidths t 0 0 (headNumbers h) o
 
 -- a row that is read fits
 pub row-fits : (t : List ℕ) (i : ℕ) → Octets t → FitRow (rowAt t i)
-unfolding rowAt FitRow fieldsAt
-row-fits t i o = fields-fit rowWidths t (place i) 0 o
+unfolding rowAt fieldsAt
+row-fits t i o = fit-row (rowAt t i) (fields-fit rowWidths t (place i) 0 o)
 
 pub head-fits : (t : List ℕ) → Octets t → FitHead (headAt t)
-unfolding headAt FitHead fieldsAt
-head-fits t o = fields-fit headWidths t 0 0 o
+unfolding headAt fieldsAt
+head-fits t o = fit-head (headAt t) (fields-fit headWidths t 0 0 o)
 
 -- the rows of octets that are zero are free
 pub row-zero : (n i : ℕ) → rowAt (zeros n) i ≡ freeRow

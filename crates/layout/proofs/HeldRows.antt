@@ -5,11 +5,10 @@ use mathlib.Core.Bool.{Bool, true, _&&_, _||_, and-eq-true-iff}
 use lib.Dec.{eqb}
 use native.Mathlib.Omega.{arith}
 use borrow.Author.Tests.{eqb-true, eq-eqb, leb-true, le-leb}
-use Rattle.octets.proofs.Laws.{FitFields}
 use Rattle.counters.specs.declared.SequenceNumber.{SequenceNumber}
 use Rattle.layout.specs.declared.address.Address.{Address}
 use Rattle.layout.specs.declared.row.Row.{Row}
-use Rattle.layout.specs.Row.{isUnnumbered, isOther, statusOk, boundsOk, isHeld, numbered, invalidated, raised}
+use Rattle.layout.specs.Row.{unreachable, isUnnumbered, isOther, statusOk, boundsOk, isHeld, numbered, invalidated, raised}
 use Rattle.layout.proofs.HeadAndRows.{FitRow}
 
 both : {a b : Bool} → (a && b) ≡ true → (a ≡ true) × (b ≡ true)
@@ -68,13 +67,12 @@ module _ (a : Address) (r : Row) where
 
 module _ (r : Row) where
   pub invalid-fits : FitRow r → FitRow (invalidated r)
-  unfolding FitRow FitFields invalidated
-  invalid-fits f = (omega arith, f .1)
+  unfolding invalidated
+  invalid-fits f = let status : 2 < 256 ^ 1 = omega arith in search (f, status)
 
   pub raised-fits : (n : SequenceNumber) → n .0 < 256 ^ 4 → FitRow r → FitRow (raised n r)
-  unfolding FitRow FitFields raised
-  raised-fits n small f =
-      (f .0, (f .1 .0, (f .1 .1 .0, (f .1 .1 .1 .0, (f .1 .1 .1 .1 .0, (f .1 .1 .1 .1 .1 .0, (small, (omega arith, f .1 .1 .1 .1 .1 .1 .1 .1))))))))
+  unfolding raised
+  raised-fits n small f = let metric : unreachable .0 < 256 ^ 4 = omega arith in search (f, small, metric)
 
   module _ (a : Address) (h : Held a r) where
     pub invalid-held : Held a (invalidated r)

@@ -2,7 +2,7 @@
 use Prim.Native.Nat.{ℕ, _-_, _^_, _<_, _≤_}
 use mathlib.Core.Path.{_≡_, refl, sym, ap, subst, _∙_}
 use mathlib.Core.Bool.{Bool, true, false, not, _||_}
-use mathlib.Core.List.{List, [], _∷_}
+use mathlib.Core.List.{List}
 use mathlib.Core.Option.{some, Option·none-ne-some, Option·some-injective}
 use lib.Dec.{eqb, ltb}
 use native.Mathlib.Omega.{arith}
@@ -16,7 +16,7 @@ use Rattle.layout.specs.Row.{isOther}
 use Rattle.table.specs.Table.{own, freeRows}
 use Rattle.element.specs.declared.PathInfo.{PathInfo}
 use Rattle.element.specs.declared.list.ListKind.the-variants.{Targets}
-use Rattle.element.specs.Element.{Element, rann, rreq, rrep, rerr, pathNumbers}
+use Rattle.element.specs.Element.{Element, rann, rreq, rrep, rerr}
 use Rattle.element.specs.Octets.{readElement}
 use Rattle.element.specs.Lists.{anyForbidden}
 use Rattle.element.proofs.ReadBack.{Fits, read-fits}
@@ -38,26 +38,11 @@ pub record Accepted (t : List ℕ) (a : Arrival) (e : Element) : Type 0 where
   pub heard : (p : PathInfo) → pathOf e ≡ some p → Heard t a p
   pub matched : matchesNothing t a e ≡ false
 
--- the fields of a path, one after another
-fields-fit : (p : PathInfo) → p .flags < 256 ^ 1 → p .hops .0 < 256 ^ 1 → p .ttl < 256 ^ 1
-    → FitFields (6 ∷ 4 ∷ 4 ∷ 4 ∷ []) (pathNumbers p) → PathFits p
-unfolding FitFields
-fields-fit p flags hops ttl g =
-    record { flags = flags; hops = hops; ttl = ttl; subject = g .0; number = g .1 .0; lifetime = g .1 .1 .0; metric = g .1 .1 .1 .0 }
-
 pub path-fits : (e : Element) → Fits e → (p : PathInfo) → pathOf e ≡ some p → PathFits p
 unfolding FitFields
-path-fits (rann q) f p is =
-    let g = f .fields in
-    subst PathFits (Option·some-injective q p is) (fields-fit q (g .0) (g .1 .0) (g .1 .1 .0) (g .1 .1 .1))
-path-fits (rreq q targets) f p is =
-    let g = f .fields in
-    subst PathFits (Option·some-injective (q .path) p is) (fields-fit (q .path) (g .0) (g .1 .0) (g .1 .1 .0) (g .1 .1 .1 .1))
-path-fits (rrep q dependents) f p is =
-    let g = f .fields in
-    let h = g .1 .1 .1 in
-    subst PathFits (Option·some-injective (q .path) p is)
-    (fields-fit (q .path) (g .0) (g .1 .0) (g .1 .1 .0) (h .0, (h .1 .0, (h .1 .1 .0, (h .1 .1 .1 .0, tt)))))
+path-fits (rann q) f p is = subst PathFits (Option·some-injective q p is) (search (f .fields))
+path-fits (rreq q targets) f p is = subst PathFits (Option·some-injective (q .path) p is) (search (f .fields))
+path-fits (rrep q dependents) f p is = subst PathFits (Option·some-injective (q .path) p is) (search (f .fields))
 path-fits (rerr g destinations) f p is = absurd (Option·none-ne-some p is)
 
 first-false : (b c : Bool) → (not b || c) ≡ false → b ≡ true

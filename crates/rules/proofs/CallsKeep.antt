@@ -19,7 +19,6 @@ use Rattle.layout.specs.declared.row.Row.{Row}
 use Rattle.layout.specs.Row.{headWith, isThrough}
 use Rattle.layout.specs.Layout.{headAt, putHead}
 use Rattle.table.specs.Table.{number, requestId, clock, rowFor}
-use Rattle.layout.proofs.HeadAndRows.{FitRow}
 use Rattle.table.proofs.Lookup.{row-fits-its-octets}
 use Rattle.element.specs.declared.Item.{Item}
 use Rattle.element.specs.declared.Kind.the-variants.{Rreq, Rrep, Rerr}
@@ -36,7 +35,7 @@ use Rattle.element.specs.Layout.{itemWidths}
 use Rattle.element.specs.Entries.{All, itemAt, itemsIn}
 use Rattle.element.proofs.Lengths.{count-range}
 use Rattle.element.proofs.Scans.{each-length}
-use Rattle.element.proofs.ListParts.{FitsTarget, FitsLost}
+use Rattle.element.proofs.ListParts.{FitsTarget, FitsNumbered, FitsLost}
 use Rattle.element.proofs.ReadBack.{Fits, all-each}
 use Rattle.rules.specs.Decision.{Check, accepted}
 use Rattle.rules.specs.Lists.{any, filter}
@@ -86,11 +85,11 @@ module _ (l : Lent) (a : Arrival) where
   unfolding rrepReceived FitFields
   rrep-kept f dependents ok =
       let h : Heard (l .table) a (f .path) = ok .heard (f .path) refl in
-      let g = ok .fits .fields in
+      let source : FitsNumbered (f .source) = search (ok .fits .fields) in
       record {
         leaves = at-clock (rrep f dependents) ok (learnt a (f .path) (l .table)) (learnt-keeps (l .table) a (f .path) h) (number (l .table)) (number-fits (l .table) (ok .whole));
         frames = rrep-onward-fits a f (h .fits) (h .hops) (h .metric) (learnt a (f .path) (l .table)) dependents
-            (g .1 .1 .1 .1 .1 .1 .1 .0, (g .1 .1 .1 .1 .1 .1 .1 .1 .0, tt)) (ok .fits .entries) (count-range Rrep (length dependents) (ok .fits .count) .1);
+            source (ok .fits .entries) (count-range Rrep (length dependents) (ok .fits .count) .1);
       }
 
   rreq-kept : (f : RreqFields) (targets : List Target) → Accepted (l .table) a (rreq f targets) → Kept (l .table) (rreqReceived l a f targets)
@@ -101,12 +100,13 @@ module _ (l : Lent) (a : Arrival) where
       let k : Keeps (l .table) u = learnt-keeps (l .table) a (f .path) h in
       let done : Answered = allAnswered u a (f .path) (number (l .table)) targets in
       let fit : AnsweredFits (length targets) done = all-answered-fits u a (f .path) (number (l .table)) (number-fits (l .table) (ok .whole)) targets (ok .fits .entries) in
+      let request : f .request .0 < 256 ^ 4 = search (ok .fits .fields) in
       let few = count-range Rreq (length targets) (ok .fits .count) .1 in
       record {
         leaves = at-clock (rreq f targets) ok u k (done .number) (fit .number);
         frames = all-append (λ (x : Frame). Fits (x .element)) (done .replies) (rreqOnward u a f (done .kept))
             (replies-fit u (k .whole) a (f .path) (h .fits) (number (l .table)) targets)
-            (rreq-onward-fits a f (ok .fits .fields .1 .1 .1 .0) (h .fits) (h .hops) (h .metric) u (done .kept) (fit .kept)
+            (rreq-onward-fits a f request (h .fits) (h .hops) (h .metric) u (done .kept) (fit .kept)
             (omega (arith, few, fit .fewer)));
       }
 
@@ -175,11 +175,11 @@ module _ (l : Lent) (w : Whole (l .table)) where
 
   -- the items of an ask
   known-number-fits : (d : Address) (o : Option Row) → rowFor (l .table) d ≡ o → knownNumber o .0 < 256 ^ 4
-  unfolding knownNumber FitRow FitFields
+  unfolding knownNumber
   known-number-fits d none e = omega arith
   known-number-fits d (some r) e =
       cond-cases (λ (n : SequenceNumber). n .0 < 256 ^ 4) (eqb (r .known) 1)
-      (λ _. row-fits-its-octets (l .table) d r e (w .octets) .1 .1 .1 .1 .1 .1 .0) (λ _. omega arith)
+      (λ _. row-fits-its-octets (l .table) d r e (w .octets) .number) (λ _. omega arith)
 
   abbrev FitsItem : Item → Type 0
   FitsItem i = (i .flags < 256 ^ 1) × (i .address .0 < 256 ^ 6)

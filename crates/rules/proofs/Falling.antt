@@ -115,7 +115,7 @@ unfolding numberBeside All FitFields
 beside-fits d [] f n = λ e. absurd (Option·none-ne-some n e)
 beside-fits d (m ∷ named) f n =
     cond-cases (λ (o : Option SequenceNumber). o ≡ some n → n .0 < 256 ^ 4) (same (m .address) d)
-    (λ _ e. subst (λ (k : SequenceNumber). k .0 < 256 ^ 4) (Option·some-injective (m .number) n e) (f .0 .1 .0))
+    (λ _ e. subst (λ (k : SequenceNumber). k .0 < 256 ^ 4) (Option·some-injective (m .number) n e) (search (f .0)))
     (λ _. beside-fits d named (f .1) n)
 
 module _ (c : ℕ) (transmitter : Address) (named : List LostDestination) (fit : All FitsLost named) where

@@ -17,7 +17,7 @@ use Rattle.layout.specs.declared.row.Row.{Row}
 use Rattle.layout.specs.Address.{same}
 use Rattle.layout.specs.Row.{isUnnumbered, isOther, isHeld, active, renewed, numbered}
 use Rattle.table.specs.Table.{own, rowFor, newRows, freeRows, store}
-use Rattle.layout.proofs.HeadAndRows.{FitRow}
+use Rattle.layout.proofs.HeadAndRows.{FitRow, fit-row}
 use Rattle.layout.proofs.HeldRows.{Held, held-says, held-is}
 use Rattle.table.proofs.Lookup.{row-destination, row-is-held, row-fits-its-octets, store-found, store-other, store-free, store-legal, store-length, store-head, store-octets}
 use Rattle.table.proofs.WellFormed.{same-itself, differ, not-same, equal-or-not}
@@ -71,7 +71,7 @@ unnumbered-number r e k = by (eqb (r .number .0) 0) refl (rw k at e)
     by false q e = clash cc
 
 basis : (t : List ℕ) → Whole t → (d : Address) → d .0 < 256 ^ 6 → (o : Option Row) → rowFor t d ≡ o → Basis d (rowOrNew d o)
-unfolding FitRow FitFields
+unfolding FitFields
 basis t w d small none e =
     record {
       destination = refl;
@@ -79,7 +79,7 @@ basis t w d small none e =
       known = omega arith;
       unnumbered = λ _. refl;
       expiry = omega arith;
-      fits = (omega arith, (omega arith, (omega arith, (omega arith, (small, (omega arith, (omega arith, (omega arith, (omega arith, tt)))))))));
+      fits = fit-row (rowOrNew d none) (omega arith);
     }
 basis t w d small (some r) e =
     let h : Held (own t) r = held-says (own t) r (row-is-held t d r e (w .legal)) in
@@ -101,27 +101,20 @@ module _ (t : List ℕ) (a : Arrival) (p : PathInfo) (h : Heard t a p) where
   -- step 1
   module _ (r : Row) (b : Basis (p .subject) r) where
     subject-fits : FitRow (subjectRow a p r)
-    unfolding FitRow FitFields subjectRow renewed numbered
+    unfolding subjectRow renewed numbered
     subject-fits =
-        let f = b .fits in
         let e = expiry-small (a .clock) (p .lifetime) r (h .clock) (h .fits .lifetime) (b .expiry) in
-        let m = h .metric in
-        let k = h .hops in (
-          omega arith,
-          (
-            omega arith,
-            (
-              omega arith,
-              (
-                f .1 .1 .1 .0,
-                (
-                  f .1 .1 .1 .1 .0,
-                  (h .transmitter-fits, (h .fits .number, (omega arith, (omega arith, tt)))),
-                ),
-              ),
-            ),
-          ),
-        )
+        record {
+          status = omega arith;
+          known = omega arith;
+          hops = omega (arith, h .hops);
+          zero = b .fits .zero;
+          destination = b .fits .destination;
+          next = h .transmitter-fits;
+          number = h .fits .number;
+          metric = omega (arith, h .metric);
+          expiry = omega arith;
+        }
 
     subject-held : Held (own t) (subjectRow a p r)
     unfolding subjectRow renewed numbered
@@ -140,26 +133,20 @@ module _ (t : List ℕ) (a : Arrival) (p : PathInfo) (h : Heard t a p) where
   -- step 2
   module _ (r : Row) (b : Basis (a .transmitter) r) where
     transmitter-row-fits : FitRow (transmitterRow a (p .lifetime) r)
-    unfolding FitRow FitFields transmitterRow renewed
+    unfolding transmitterRow renewed
     transmitter-row-fits =
-        let f = b .fits in
         let e = expiry-small (a .clock) (p .lifetime) r (h .clock) (h .fits .lifetime) (b .expiry) in
-        let m = h .metric in (
-          omega arith,
-          (
-            f .1 .0,
-            (
-              omega arith,
-              (
-                f .1 .1 .1 .0,
-                (
-                  f .1 .1 .1 .1 .0,
-                  (h .transmitter-fits, (f .1 .1 .1 .1 .1 .1 .0, (omega arith, (omega arith, tt)))),
-                ),
-              ),
-            ),
-          ),
-        )
+        record {
+          status = omega arith;
+          known = b .fits .known;
+          hops = omega arith;
+          zero = b .fits .zero;
+          destination = b .fits .destination;
+          next = h .transmitter-fits;
+          number = b .fits .number;
+          metric = omega (arith, h .metric);
+          expiry = omega arith;
+        }
 
     transmitter-held : Held (own t) (transmitterRow a (p .lifetime) r)
     unfolding transmitterRow renewed isUnnumbered

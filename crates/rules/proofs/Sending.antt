@@ -134,9 +134,8 @@ module _ (t : List ℕ) (w : Whole t) (a : Arrival) (p : PathInfo) (f : PathFits
       (f .subject, (f .number, tt)) tt (omega arith)
 
   row-reply-fits : (r : Row) → FitRow r → Fits (rowReply a p r .element)
-  unfolding FitRow FitFields
   row-reply-fits r g =
-      reply-fits (r .destination) (r .number) (r .hops) (r .metric) (g .1 .1 .1 .1 .0) (g .1 .1 .1 .1 .1 .1 .0) (g .1 .1 .0) (g .1 .1 .1 .1 .1 .1 .1 .0)
+      reply-fits (r .destination) (r .number) (r .hops) (r .metric) (g .destination) (g .number) (g .hops) (g .metric)
 
   pub replies-fit : (n : SequenceNumber) (targets : List Target) → FramesFit (allAnswered t a p n targets .replies)
   replies-fit n targets =
@@ -200,15 +199,15 @@ module _ (t : List ℕ) (a : Arrival) (p : PathInfo) where
 -- ---- the errors of a break
 
 broken-number-fits : (r : Row) → FitRow r → broken r .number .0 < 256 ^ 4
-unfolding broken raised invalidated FitRow FitFields
+unfolding broken raised invalidated
 broken-number-fits r f =
-    cond-cases (λ (q : Row). q .number .0 < 256 ^ 4) (eqb (r .known) 1) (λ _. next-fits (r .number)) (λ _. f .1 .1 .1 .1 .1 .1 .0)
+    cond-cases (λ (q : Row). q .number .0 < 256 ^ 4) (eqb (r .known) 1) (λ _. next-fits (r .number)) (λ _. f .number)
 
 module _ (t : List ℕ) (o : Octets t) (test : Row → Bool) where
   entry-fits : (r : Row) → FitRow r → All FitsLost (brokenEntry test r)
-  unfolding brokenEntry All FitFields FitRow
+  unfolding brokenEntry All FitFields
   entry-fits r f =
-      cond-cases (All FitsLost) (test r) (λ _. ((f .1 .1 .1 .1 .0, (broken-number-fits r f, tt)), tt)) (λ _. tt)
+      cond-cases (All FitsLost) (test r) (λ _. ((f .destination, (broken-number-fits r f, tt)), tt)) (λ _. tt)
 
   pub entries-fit : All FitsLost (brokenEntries test t)
   unfolding brokenEntries

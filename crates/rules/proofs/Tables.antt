@@ -8,7 +8,6 @@ use lib.ListN.{length}
 use native.Mathlib.Omega.{arith}
 use borrow.Author.Tests.{not-false, leb-true, le-leb}
 use Rattle.octets.specs.LittleEndian.{Octets}
-use Rattle.octets.proofs.Laws.{FitFields}
 use Rattle.counters.specs.declared.SequenceNumber.{SequenceNumber}
 use Rattle.counters.specs.declared.RequestId.{RequestId}
 use Rattle.layout.specs.declared.row.Head.{Head}
@@ -51,16 +50,13 @@ pub record Leaves (t u : List ℕ) : Type 0 where
 
 module _ (t : List ℕ) (w : Whole t) where
   pub own-fits : own t .0 < 256 ^ 6
-  unfolding FitHead FitFields
-  own-fits = head-fits t (w .octets) .0
+  own-fits = head-fits t (w .octets) .own
 
   pub number-fits : number t .0 < 256 ^ 4
-  unfolding FitHead FitFields
-  number-fits = head-fits t (w .octets) .1 .1 .0
+  number-fits = head-fits t (w .octets) .number
 
   pub request-fits : requestId t .0 < 256 ^ 4
-  unfolding FitHead FitFields
-  request-fits = head-fits t (w .octets) .1 .1 .1 .0
+  request-fits = head-fits t (w .octets) .request
 
   -- latest clock is at most 2^48 - 1
   pub clock-small : clock t ≤ 2 ^ 48 - 1
@@ -79,10 +75,10 @@ module _ (t u : List ℕ) (w : Whole t) (k : Keeps t u) (n : SequenceNumber) (i 
   new = headWith n i c (headAt t)
 
   new-fits : FitHead new
-  unfolding FitHead FitFields headWith
+  unfolding headWith
   new-fits =
       let f = head-fits t (w .octets) in
-      (f .0, (f .1 .0, (n-fits, (i-fits, (omega arith, f .1 .1 .1 .1 .1)))))
+      record { own = f .own; zero2 = f .zero2; number = n-fits; request = i-fits; clock = omega arith; zero8 = f .zero8 }
 
   new-ok : headOk new ≡ true
   unfolding headOk headWith

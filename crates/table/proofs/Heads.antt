@@ -22,7 +22,7 @@ use Rattle.layout.specs.Address.{individual, same}
 use Rattle.layout.specs.Row.{freshHead, freeRow, headOk, isFree, rowOk}
 use Rattle.layout.specs.Layout.{rows, allZero, headWidths, headNumbers, headAt, putHead, rowAt, headOctets}
 use Rattle.table.specs.Table.{own, vacant, holds, findRow, rowIn, rowFor, freeRows, isTable, fresh}
-use Rattle.layout.proofs.HeadAndRows.{FitHead, length-head, head-same, row-stays, head-octets, row-zero}
+use Rattle.layout.proofs.HeadAndRows.{FitHead, fit-head, length-head, head-same, row-stays, head-octets, row-zero}
 use Rattle.table.proofs.Places.{first-cong, first-nowhere, count-cong, count-all}
 use Rattle.table.proofs.WellFormed.{Legal, legal-is, true-not-false}
 
@@ -158,8 +158,8 @@ module _ (n : ℕ) (a : Address) (s : SequenceNumber) where
 
   module _ (long : 32 ≤ n) (a-fits : a .0 < 256 ^ 6) (s-fits : s .0 < 256 ^ 4) where
     pub fresh-head : headAt (fresh n a s) ≡ freshHead a s
-    unfolding fresh FitHead FitFields
-    fresh-head = head-same (zeros n) (freshHead a s) (rw length-replicate long) (omega arith)
+    unfolding fresh FitFields
+    fresh-head = head-same (zeros n) (freshHead a s) (rw length-replicate long) (fit-head (freshHead a s) (omega arith))
 
     -- a fresh table passes refusal 21
     pub fresh-legal : individual a ≡ true → Legal (fresh n a s)

@@ -21,7 +21,7 @@ use Rattle.layout.specs.Row.{freeRow, isFree, statusOk, isHeld, rowOk}
 use Rattle.octets.proofs.Laws.{FitFields}
 use Rattle.layout.specs.Layout.{rows, allZero, place, headAt, rowAt, putRow, rowOctets}
 use Rattle.table.specs.Table.{own, vacant, holds, findRow, firstFree, rowIn, rowFor, newRows, freeRows, placeFor, putAt, store, freed}
-use Rattle.layout.proofs.HeadAndRows.{FitRow, length-row, row-same, row-other, head-stays, row-octets, row-fits}
+use Rattle.layout.proofs.HeadAndRows.{FitRow, fit-row, length-row, row-same, row-other, head-stays, row-octets, row-fits}
 use Rattle.table.proofs.Places.{first-below, first-true, first-not, first-only, first-nowhere, first-cong, count-cong, count-drop, count-nowhere}
 use Rattle.table.proofs.WellFormed.{Legal, true-not-false, false-of, same-is, same-itself, held-row}
 
@@ -384,8 +384,8 @@ module _ (t : List ℕ) (r s : Row) (legal : Legal t) (held : isHeld (own t) r �
 -- ---- a row that is freed
 
 free-fits : FitRow freeRow
-unfolding FitRow FitFields
-free-fits = omega arith
+unfolding FitFields
+free-fits = fit-row freeRow (omega arith)
 
 free-ok : (a : Address) → rowOk a freeRow ≡ true
 unfolding rowOk isFree allZero

@@ -9,13 +9,12 @@ use lib.Dec.{eqb}
 use lib.ListN.{getElem?}
 use borrow.Author.Tests.{ltb-true}
 use Rattle.octets.specs.LittleEndian.{Octets}
-use Rattle.octets.proofs.Laws.{FitFields}
 use Rattle.counters.specs.declared.Metric.{Metric}
 use Rattle.layout.specs.declared.address.Address.{Address}
 use Rattle.layout.specs.declared.row.Row.{Row}
 use Rattle.layout.specs.Address.{same}
 use Rattle.table.specs.Table.{own, number, rowFor}
-use Rattle.layout.proofs.HeadAndRows.{FitHead, FitRow, head-fits}
+use Rattle.layout.proofs.HeadAndRows.{head-fits}
 use Rattle.table.proofs.Heads.{fresh-none, fresh-octets}
 use Rattle.table.proofs.Lookup.{row-fits-its-octets}
 use Rattle.element.specs.Octets.{writeElement}
@@ -54,8 +53,7 @@ box-fits : (m : Mesh) → Sane m → (a : Address) (l : Lent) → boxOf a (m .bo
 box-fits m sane a l here = all-at BoxFits (m .boxes) (sane .boxes) (box-listed a (m .boxes) l here)
 
 address-fits : (a : Address) (t : List ℕ) → Octets t → own t ≡ a → a .0 < 256 ^ 6
-unfolding FitHead FitFields
-address-fits a t o is = rw (← is) (head-fits t o .0)
+address-fits a t o is = rw (← is) (head-fits t o .own)
 
 with-box-fits : (a : Address) (k : Lent) → BoxFits k → (boxes : List Lent) → All BoxFits boxes → All BoxFits (withBox a k boxes)
 unfolding withBox All
@@ -104,12 +102,12 @@ module _ (d : Address) (base : ℕ) (m : Mesh) (sane : Sane m) (within : allWith
       and-eq-true-iff (isWithin base (r .number)) true .0 (rw (found, known) at row) .0
 
   near-at : (a : Address) → Near base (rowAt d (m .boxes) a)
-  unfolding isWithin FitRow FitFields
+  unfolding isWithin
   near-at a r found known =
       let k : RowAt d (m .boxes) a r = row-at d (m .boxes) a r found in
       let o : Octets (k .box .table) = box-fits m sane a (k .box) (k .at) in
       record {
-        fits = row-fits-its-octets (k .box .table) d r (k .found) o .1 .1 .1 .1 .1 .1 .0;
+        fits = row-fits-its-octets (k .box .table) d r (k .found) o .number;
         near = ltb-true _ _ (row-within a (k .box) (k .at) r (k .found) known);
       }
 
