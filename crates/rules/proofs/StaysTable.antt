@@ -11,14 +11,14 @@ use Rattle.layout.specs.declared.address.Address.{Address}
 use Rattle.layout.specs.Address.{individual}
 use Rattle.layout.specs.Layout.{sized}
 use Rattle.table.specs.Table.{isTable, freed}
-use Rattle.table.proofs.WellFormed.{legal-of, legal-is}
+use Rattle.table.proofs.WellFormed.{Legal, legal-of, legal-is}
 use Rattle.table.proofs.Cases.{of-size}
 use Rattle.table.proofs.Heads.{fresh-table, fresh-octets, fresh-length}
 use Rattle.table.proofs.Lookup.{freed-legal, freed-octets, freed-length}
-use Rattle.rules.specs.Decision.{accepted}
+use Rattle.rules.specs.Decision.{Check, accepted}
 use Rattle.rules.specs.Fresh.{makingFresh, makeFresh}
 use Rattle.rules.specs.Forget.{forgetting, forget}
-use Rattle.rules.proofs.Rulings.{passed}
+use Rattle.rules.proofs.Rulings.{passed, passed-check}
 
 -- (an address has six octets and a number four: what C can hand over)
 pub fresh-stays : (t u : List ℕ) (own : Address) (number : SequenceNumber) → own .0 < 256 ^ 6 → number .0 < 256 ^ 4
@@ -26,10 +26,11 @@ pub fresh-stays : (t u : List ℕ) (own : Address) (number : SequenceNumber) →
 unfolding makeFresh
 fresh-stays t u own number own-fits number-fits e =
     let p = passed (makingFresh t own number) u e in
-    let long = of-size t (sized t) refl (not-false (sized t) (p .0 .0)) .with-head in
+    let checks : List Check = makingFresh t own number .checks in
+    let long = of-size t (sized t) refl (not-false (sized t) (passed-check 1 checks (p .0))) .with-head in
     rw (← p .1) (
       fresh-octets (length t) own number,
-      fresh-table (length t) own number long own-fits number-fits (not-false (individual own) (p .0 .1 .0)),
+      fresh-table (length t) own number long own-fits number-fits (not-false (individual own) (passed-check 9 checks (p .0))),
       fresh-length (length t) own number,
     )
 
@@ -37,5 +38,5 @@ pub forget-stays : (t u : List ℕ) (d : Address) → Octets t → forget t d �
 unfolding forget
 forget-stays t u d o e =
     let p = passed (forgetting t d) u e in
-    rw (← p .1)
-    (freed-octets t d o, legal-is (freed t d) (freed-legal t d (legal-of t (not-false (isTable t) (p .0 .1 .1 .0)))), freed-length t d)
+    let legal : Legal t = legal-of t (not-false (isTable t) (passed-check 21 (forgetting t d .checks) (p .0))) in
+    rw (← p .1) (freed-octets t d o, legal-is (freed t d) (freed-legal t d legal), freed-length t d)

@@ -19,6 +19,7 @@ use Rattle.element.specs.Lists.{contains, hasDuplicate}
 use Rattle.element.proofs.Scans.{each-next, each-end}
 use Rattle.rules.specs.Decision.{refused, accepted}
 use Rattle.rules.specs.Walk.{Walked, arrived, stopped, tooLong, tableAt, tablesIn, sideBySide, points, rowOfPoint, leadsTo, goOn, follow, walking, walk}
+use Rattle.rules.proofs.Rulings.{Passed, passed-check}
 use Rattle.calls.specs.declared.Answer.{Answer}
 use Rattle.calls.specs.declared.Answer.the-variants.{Accepted, Refused as NotWalked}
 use Rattle.calls.specs.Answers.{answerTo}
@@ -165,14 +166,17 @@ module _ (s : List ℕ) (count c : ℕ) (start d : Address) (a : Answer) (ae : a
   walk-refused n e = sym (decided ∙ ap (as-decision way) e)
 
   module _ (ok : a ≡ Accepted) where
+    walk-passed : Passed (walking s count c start d .checks)
+    walk-passed = answer-passed (walking s count c start d .checks) (sym ok ∙ ae)
+
     pub pieces-accepted : Pieces s (length s / count) count
     pieces-accepted =
-        pieces-there s count (sideBySide s count) refl (answer-passed (walking s count c start d .checks) (sym ok ∙ ae) .0)
+        pieces-there s count (sideBySide s count) refl (passed-check 1 (walking s count c start d .checks) walk-passed)
 
     pub start-accepted : contains (points (tablesIn s count)) start ≡ true
     start-accepted =
         contained-passed (contains (points (tablesIn s count)) start) (hasDuplicate (points (tablesIn s count)))
-        (answer-passed (walking s count c start d .checks) (sym ok ∙ ae) .1 .1 .1 .0)
+        (passed-check 10 (walking s count c start d .checks) walk-passed)
 
     pub count-accepted : 0 < count
     count-accepted = pieces-accepted .some-piece
