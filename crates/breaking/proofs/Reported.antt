@@ -19,7 +19,7 @@ use Rattle.element.specs.Lists.{allOnes}
 use Rattle.element.specs.Octets.{frameStart, writeFrame}
 use Rattle.element.proofs.Sizes.{start-length}
 use Rattle.element.proofs.Scans.{each-length}
-use Rattle.element.proofs.ListParts.{losses-length}
+use Rattle.element.proofs.ListParts.{loss-lists}
 use Rattle.writing.proofs.Written.{frame-parts, lost-length}
 use Rattle.rules.specs.Exit.{Frame, frameOctets}
 use Rattle.rules.specs.Errors.{ownError, errorAt, errorsTaken, errorsFor}
@@ -253,7 +253,7 @@ errors-long =
           length-append (errorStart (length first) ++ flatMap lostOctets first) (frameOctets (errorsFor (drop 25 l))),
           length-append (errorStart (length first)) (flatMap lostOctets first),
           start-long (length first),
-          losses-length first,
+          loss-lists .long first,
           length-take 25 l,
           length-drop 25 l,
           rest,
@@ -299,7 +299,7 @@ closes-full entries many rest-closes s at =
     let full : List ℕ = errorStart 25 ++ flatMap lostOctets first in
     let long : length first ≡ 25 = omega (arith, length-take 25 entries) in
     let after : 0 + length first ≡ 0 + 25 = omega arith in
-    let size : length full ≡ 260 = omega (arith, length-append (errorStart 25) (flatMap lostOctets first), start-long 25, losses-length first) in
+    let size : length full ≡ 260 = omega (arith, length-append (errorStart 25) (flatMap lostOctets first), start-long 25, loss-lists .long first) in
     let begun : begunAfter 0 entries ≡ full ++ begunAfter 0 rest =
     ap (begunAfter 0) (sym (take-append-drop 25 entries)) ∙ begun-append 0 first rest
     ∙ ap₂ _++_ (begun-first first (omega arith) (omega arith)) (ap (λ (k : ℕ). begunAfter k rest) after ∙ begun-shift 0 rest) in

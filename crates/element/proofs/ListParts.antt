@@ -8,7 +8,7 @@ use lib.Seq.{drop-drop}
 use native.Mathlib.Omega.{arith}
 use native.Mathlib.Nat.{zero-add, add-zero, add-suc, suc-add, mul-zero, mul-suc, mul-add}
 use Rattle.octets.specs.LittleEndian.{fieldsAt, fieldOctets, total, Octets}
-use Rattle.octets.proofs.Laws.{FitFields}
+use Rattle.octets.proofs.Laws.{FitFields, fields-fit}
 use Rattle.octets.proofs.OctetLists.{length-field-octets, fields-read, fields-made, octets-nil, octets-append, octets-of-fields}
 use Rattle.element.specs.declared.LostDestination.{LostDestination}
 use Rattle.element.specs.declared.NumberedAddress.{NumberedAddress}
@@ -16,6 +16,21 @@ use Rattle.element.specs.declared.Target.{Target}
 use Rattle.element.specs.Element.{lostNumbers, numberedNumbers, targetNumbers}
 use Rattle.element.specs.Layout.{lostWidths, numberedWidths, targetWidths}
 use Rattle.element.specs.Entries.{each, All, lostFrom, lostAt, lostList, lostOctets, numberedFrom, numberedAt, numberedList, numberedOctets, targetFrom, targetAt, targetList, targetOctets}
+
+-- what holds by index holds of all
+pub all-each : {A : Type 0} (P : A → Type 0) (f : ℕ → A) → ((i : ℕ) → P (f i)) → (i n : ℕ) → All P (each f i n)
+unfolding All each
+all-each P f h i zero = tt
+all-each P f h i (suc n) = (h i, all-each P f h (suc i) n)
+
+-- the octets of a list of entries: how many there are, that each is one, that list and octets make each other, and that what is
+-- read fits
+pub record ListLaws {A : Type 0} (size : ℕ) (Fit : A → Type 0) (write : A → List ℕ) (list : ℕ → List ℕ → List A) : Type 0 where
+  pub long : (xs : List A) → length (flatMap write xs) ≡ size * length xs
+  pub octets : (xs : List A) → Octets (flatMap write xs)
+  pub read : (xs : List A) → All Fit xs → list (length xs) (flatMap write xs) ≡ xs
+  pub made : (part : List ℕ) (n : ℕ) → Octets part → length part ≡ size * n → flatMap write (list n part) ≡ part
+  pub fit : (part : List ℕ) (n : ℕ) → Octets part → All Fit (list n part)
 
 module _ {A : Type 0} (size : ℕ) (ws : List ℕ) (from : List ℕ → A) (numbers : A → List ℕ)
     (wide : total ws ≡ size) (as-many : (x : A) → length ws ≡ length (numbers x)) where
@@ -71,6 +86,17 @@ module _ {A : Type 0} (size : ℕ) (ws : List ℕ) (from : List ℕ → A) (numb
         ∙ ap (λ (k : ℕ). drop k part) (mul-suc size i) ∙ sym (drop-drop size (size * i) part) in
         ap₂ _++_ first rest ∙ take-append-drop size (drop (size * i) part)
 
+  list-laws : ((x : A) → from (numbers x) ≡ x) → ((part : List ℕ) (at : ℕ) → numbers (from (fieldsAt ws part at 0)) ≡ fieldsAt ws part at 0)
+      → ListLaws size (λ x. FitFields ws (numbers x)) entryOctets (λ n part. each (entryAt part) 0 n)
+  list-laws back forth =
+      record {
+        long = entries-length;
+        octets = entries-octets;
+        read = λ xs f. entries-read back [] xs 0 (sym (mul-zero size)) f;
+        made = λ part n o e. entries-made part o (forth part) n 0 (rw zero-add e) ∙ ap (λ (k : ℕ). drop k part) (mul-zero size);
+        fit = λ part n o. all-each (λ x. FitFields ws (numbers x)) (entryAt part) (λ i. rw forth (fields-fit ws part (size * i) 0 o)) 0 n;
+      }
+
 -- ---- kind by kind
 
 abbrev pub FitsTarget : Target → Type 0
@@ -82,50 +108,14 @@ FitsNumbered a = FitFields numberedWidths (numberedNumbers a)
 abbrev pub FitsLost : LostDestination → Type 0
 FitsLost m = FitFields lostWidths (lostNumbers m)
 
-pub targets-length : (ts : List Target) → length (flatMap targetOctets ts) ≡ 11 * length ts
-unfolding targetOctets total
-targets-length ts = entries-length 11 targetWidths targetFrom targetNumbers refl (λ t. refl) ts
-
-pub targets-octets : (ts : List Target) → Octets (flatMap targetOctets ts)
-unfolding targetOctets total
-targets-octets ts = entries-octets 11 targetWidths targetFrom targetNumbers refl (λ t. refl) ts
-
-pub targets-read : (ts : List Target) → All FitsTarget ts → targetList (length ts) (flatMap targetOctets ts) ≡ ts
-unfolding targetOctets targetAt total
-targets-read ts f = entries-read 11 targetWidths targetFrom targetNumbers refl (λ t. refl) (λ t. refl) [] ts 0 refl f
-
-pub targets-made : (part : List ℕ) (n : ℕ) → Octets part → length part ≡ 11 * n → flatMap targetOctets (targetList n part) ≡ part
+pub target-lists : ListLaws 11 FitsTarget targetOctets targetList
 unfolding targetOctets targetAt fieldsAt total
-targets-made part n o e = entries-made 11 targetWidths targetFrom targetNumbers refl (λ t. refl) part o (λ at. refl) n 0 (rw zero-add e)
+target-lists = list-laws 11 targetWidths targetFrom targetNumbers refl (λ t. refl) (λ t. refl) (λ part at. refl)
 
-pub addresses-length : (l : List NumberedAddress) → length (flatMap numberedOctets l) ≡ 10 * length l
-unfolding numberedOctets total
-addresses-length l = entries-length 10 numberedWidths numberedFrom numberedNumbers refl (λ a. refl) l
-
-pub addresses-octets : (l : List NumberedAddress) → Octets (flatMap numberedOctets l)
-unfolding numberedOctets total
-addresses-octets l = entries-octets 10 numberedWidths numberedFrom numberedNumbers refl (λ a. refl) l
-
-pub addresses-read : (l : List NumberedAddress) → All FitsNumbered l → numberedList (length l) (flatMap numberedOctets l) ≡ l
-unfolding numberedOctets numberedAt total
-addresses-read l f = entries-read 10 numberedWidths numberedFrom numberedNumbers refl (λ a. refl) (λ a. refl) [] l 0 refl f
-
-pub addresses-made : (part : List ℕ) (n : ℕ) → Octets part → length part ≡ 10 * n → flatMap numberedOctets (numberedList n part) ≡ part
+pub address-lists : ListLaws 10 FitsNumbered numberedOctets numberedList
 unfolding numberedOctets numberedAt fieldsAt total
-addresses-made part n o e = entries-made 10 numberedWidths numberedFrom numberedNumbers refl (λ a. refl) part o (λ at. refl) n 0 (rw zero-add e)
+address-lists = list-laws 10 numberedWidths numberedFrom numberedNumbers refl (λ a. refl) (λ a. refl) (λ part at. refl)
 
-pub losses-length : (l : List LostDestination) → length (flatMap lostOctets l) ≡ 10 * length l
-unfolding lostOctets total
-losses-length l = entries-length 10 lostWidths lostFrom lostNumbers refl (λ m. refl) l
-
-pub losses-octets : (l : List LostDestination) → Octets (flatMap lostOctets l)
-unfolding lostOctets total
-losses-octets l = entries-octets 10 lostWidths lostFrom lostNumbers refl (λ m. refl) l
-
-pub losses-read : (l : List LostDestination) → All FitsLost l → lostList (length l) (flatMap lostOctets l) ≡ l
-unfolding lostOctets lostAt total
-losses-read l f = entries-read 10 lostWidths lostFrom lostNumbers refl (λ m. refl) (λ m. refl) [] l 0 refl f
-
-pub losses-made : (part : List ℕ) (n : ℕ) → Octets part → length part ≡ 10 * n → flatMap lostOctets (lostList n part) ≡ part
+pub loss-lists : ListLaws 10 FitsLost lostOctets lostList
 unfolding lostOctets lostAt fieldsAt total
-losses-made part n o e = entries-made 10 lostWidths lostFrom lostNumbers refl (λ m. refl) part o (λ at. refl) n 0 (rw zero-add e)
+loss-lists = list-laws 10 lostWidths lostFrom lostNumbers refl (λ m. refl) (λ m. refl) (λ part at. refl)

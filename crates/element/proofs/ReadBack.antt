@@ -1,6 +1,6 @@
 -- Read-back: what is written is read as the same fields and list, and passes 6, 7 and 8; and octets that pass these are
 -- what writing their fields gives.
-use Prim.Native.Nat.{ℕ, zero, suc, _+_, _*_, _<_, _≤_}
+use Prim.Native.Nat.{ℕ, _+_, _<_, _≤_}
 use mathlib.Core.Path.{_≡_, refl, sym, ap, ap₂, _∙_}
 use mathlib.Core.Bool.{true, false}
 use mathlib.Core.List.{List, [], _∷_, _++_, append-assoc}
@@ -14,12 +14,12 @@ use Rattle.octets.proofs.OctetLists.{fields-read, fields-made, octets-nil, octe
 use Rattle.element.specs.declared.Kind.{Kind}
 use Rattle.element.specs.declared.Kind.the-variants.{Rann, Rreq, Rrep, Rerr}
 use Rattle.element.specs.Element.{Element, rann, rreq, rrep, rerr, kindOf, countOf, fieldNumbers}
-use Rattle.element.specs.Layout.{idOf, known, kindWith, lengthWith, countOk, fits, fieldWidths, lostWidths, numberedWidths, targetWidths}
-use Rattle.element.specs.Entries.{All, each, lostAt, numberedAt, targetAt}
+use Rattle.element.specs.Layout.{idOf, known, kindWith, lengthWith, countOk, fits, fieldWidths}
+use Rattle.element.specs.Entries.{All, lostAt, numberedAt, targetAt}
 use Rattle.element.specs.Octets.{kindIn, countAs, wrongLength, otherId, misfit, fieldsAs, listAs, listPart, elementAs, readAs, readElement, countPart, fixedOctets, listOctets, writeElement}
 use Rattle.element.proofs.Lengths.{least-length, id-octet, length-octet, count-octet}
 use Rattle.element.proofs.Scans.{each-length}
-use Rattle.element.proofs.ListParts.{FitsTarget, FitsNumbered, FitsLost, targets-octets, targets-read, targets-made, addresses-octets, addresses-read, addresses-made, losses-octets, losses-read, losses-made}
+use Rattle.element.proofs.ListParts.{FitsTarget, FitsNumbered, FitsLost, target-lists, address-lists, loss-lists}
 use Rattle.element.proofs.Sizes.{fixed-length, element-length}
 use Rattle.element.proofs.Passing.{Passed, passed}
 
@@ -73,9 +73,9 @@ kind-there (rerr f destinations) = refl
 
 made : (e : Element) → EntriesFit e → elementAs (kindOf e) (fieldNumbers e) (countOf e) (listOctets e) ≡ e
 made (rann p) f = refl
-made (rreq g targets) f = ap (rreq g) (targets-read targets f)
-made (rrep g dependents) f = ap (rrep g) (addresses-read dependents f)
-made (rerr g destinations) f = ap (rerr g) (losses-read destinations f)
+made (rreq g targets) f = ap (rreq g) (target-lists .read targets f)
+made (rrep g dependents) f = ap (rrep g) (address-lists .read dependents f)
+made (rerr g destinations) f = ap (rerr g) (loss-lists .read destinations f)
 
 pub read-back : (e : Element) → Fits e → readElement (writeElement e) ≡ e
 unfolding readElement readAs
@@ -127,9 +127,9 @@ passes-8 e h =
 
 list-octets : (e : Element) → Octets (listOctets e)
 list-octets (rann p) = octets-nil
-list-octets (rreq f targets) = targets-octets targets
-list-octets (rrep f dependents) = addresses-octets dependents
-list-octets (rerr f destinations) = losses-octets destinations
+list-octets (rreq f targets) = target-lists .octets targets
+list-octets (rrep f dependents) = address-lists .octets dependents
+list-octets (rerr f destinations) = loss-lists .octets destinations
 
 count-octets : (k : Kind) (n : ℕ) → n < 256 → Octets (countPart k n)
 count-octets Rann n l = octets-nil
@@ -193,9 +193,9 @@ numbers-read Rerr s = refl
 list-read : (k : Kind) (s : List ℕ) → Octets s → length s ≡ 2 + lengthWith k (countAs k s) → listOctets (readAs k s) ≡ listAs k s
 unfolding readAs
 list-read Rann s o e = let end : length s ≤ 23 = omega arith in sym (drop-of-length-le s end)
-list-read Rreq s o e = targets-made (drop 28 s) (getD s 27 0) (octets-drop 28 s o) (rw length-drop (omega arith))
-list-read Rrep s o e = addresses-made (drop 34 s) (getD s 33 0) (octets-drop 34 s o) (rw length-drop (omega arith))
-list-read Rerr s o e = losses-made (drop 4 s) (getD s 3 0) (octets-drop 4 s o) (rw length-drop (omega arith))
+list-read Rreq s o e = target-lists .made (drop 28 s) (getD s 27 0) (octets-drop 28 s o) (rw length-drop (omega arith))
+list-read Rrep s o e = address-lists .made (drop 34 s) (getD s 33 0) (octets-drop 34 s o) (rw length-drop (omega arith))
+list-read Rerr s o e = loss-lists .made (drop 4 s) (getD s 3 0) (octets-drop 4 s o) (rw length-drop (omega arith))
 
 fields-room : (k : Kind) → 2 + 0 + total (fieldWidths k) ≤ 2 + lengthWith k 0
 unfolding total
@@ -218,29 +218,12 @@ write-back s o a b c = written s (kindIn s) o (passed s a b c)
 
 -- ---- and these fields fit
 
-pub all-each : {A : Type 0} (P : A → Type 0) (f : ℕ → A) → ((i : ℕ) → P (f i)) → (i n : ℕ) → All P (each f i n)
-unfolding All each
-all-each P f h i zero = tt
-all-each P f h i (suc n) = (h i, all-each P f h (suc i) n)
-
-target-fits : (part : List ℕ) → Octets part → (i : ℕ) → FitsTarget (targetAt part i)
-unfolding targetAt fieldsAt
-target-fits part o i = fields-fit targetWidths part (11 * i) 0 o
-
-numbered-fits : (part : List ℕ) → Octets part → (i : ℕ) → FitsNumbered (numberedAt part i)
-unfolding numberedAt fieldsAt
-numbered-fits part o i = fields-fit numberedWidths part (10 * i) 0 o
-
-lost-fits : (part : List ℕ) → Octets part → (i : ℕ) → FitsLost (lostAt part i)
-unfolding lostAt fieldsAt
-lost-fits part o i = fields-fit lostWidths part (10 * i) 0 o
-
 entries-fit : (k : Kind) (s : List ℕ) → Octets s → EntriesFit (readAs k s)
 unfolding readAs
 entries-fit Rann s o = tt
-entries-fit Rreq s o = all-each FitsTarget (targetAt (drop 28 s)) (target-fits (drop 28 s) (octets-drop 28 s o)) 0 (getD s 27 0)
-entries-fit Rrep s o = all-each FitsNumbered (numberedAt (drop 34 s)) (numbered-fits (drop 34 s) (octets-drop 34 s o)) 0 (getD s 33 0)
-entries-fit Rerr s o = all-each FitsLost (lostAt (drop 4 s)) (lost-fits (drop 4 s) (octets-drop 4 s o)) 0 (getD s 3 0)
+entries-fit Rreq s o = target-lists .fit (drop 28 s) (getD s 27 0) (octets-drop 28 s o)
+entries-fit Rrep s o = address-lists .fit (drop 34 s) (getD s 33 0) (octets-drop 34 s o)
+entries-fit Rerr s o = loss-lists .fit (drop 4 s) (getD s 3 0) (octets-drop 4 s o)
 
 fit-as : (s : List ℕ) (k : Kind) → Octets s → Passed s k → Fits (readAs k s)
 fit-as s k o p =

@@ -11,7 +11,7 @@ use Rattle.element.specs.declared.Kind.the-variants.{Rann, Rreq, Rrep, R
 use Rattle.element.specs.Element.{Element, rann, rreq, rrep, rerr, kindOf, countOf, fieldNumbers}
 use Rattle.element.specs.Layout.{lengthWith, fieldWidths}
 use Rattle.element.specs.Octets.{countPart, fixedOctets, listOctets, writeElement, frameStart, writeFrame}
-use Rattle.element.proofs.ListParts.{targets-length, addresses-length, losses-length}
+use Rattle.element.proofs.ListParts.{target-lists, address-lists, loss-lists}
 
 pub as-many : (e : Element) → length (fieldWidths (kindOf e)) ≡ length (fieldNumbers e)
 as-many (rann p) = refl
@@ -49,9 +49,9 @@ start-length to e n =
 
 list-length : (e : Element) → 2 + lengthWith (kindOf e) 0 + length (listOctets e) ≡ 2 + lengthWith (kindOf e) (countOf e)
 list-length (rann p) = refl
-list-length (rreq f targets) = omega (arith, targets-length targets)
-list-length (rrep f dependents) = omega (arith, addresses-length dependents)
-list-length (rerr f destinations) = omega (arith, losses-length destinations)
+list-length (rreq f targets) = omega (arith, target-lists .long targets)
+list-length (rrep f dependents) = omega (arith, address-lists .long dependents)
+list-length (rerr f destinations) = omega (arith, loss-lists .long destinations)
 
 -- an element has as many octets as its Length says, and two
 pub element-length : (e : Element) → length (writeElement e) ≡ 2 + lengthWith (kindOf e) (countOf e)

@@ -15,7 +15,7 @@ use Rattle.element.specs.Layout.{PartOf}
 use Rattle.element.specs.Entries.{each, lostAt, lostIn, lostOctets}
 use Rattle.element.specs.Lists.{allOnes}
 use Rattle.element.specs.Octets.{frameStart}
-use Rattle.element.proofs.ListParts.{losses-length}
+use Rattle.element.proofs.ListParts.{loss-lists}
 use Rattle.writing.proofs.Listing.{Listing, listing-more, listing-counted, listing-written, skipped-place, skipped-written}
 use Rattle.element.proofs.Scans.{each-length}
 use Rattle.element.proofs.Sizes.{frame-length}
@@ -104,7 +104,7 @@ module _ (t : List ℕ) (a : Arrival) (part out₀ : List ℕ) (at n i place : �
 
 module _ (t : List ℕ) (a : Arrival) (part : List ℕ) (at end : ℕ) (pe : end ≡ at + 10 + length (flatMap lostOctets (matched t a (lostIn part)))) where
   many : end ≡ at + 10 + 10 * length (matched t a (lostIn part))
-  many = pe ∙ ap (λ (k : ℕ). at + 10 + k) (losses-length (matched t a (lostIn part)))
+  many = pe ∙ ap (λ (k : ℕ). at + 10 + k) (loss-lists .long (matched t a (lostIn part)))
 
   module _ (n : ℕ) (ne : n ≡ (end - (at + 10)) / 10) where
     counted : n ≡ length (matched t a (lostIn part))

@@ -19,7 +19,7 @@ use Rattle.element.specs.declared.PathInfo.{PathInfo}
 use Rattle.element.specs.declared.Target.{Target}
 use Rattle.element.specs.Entries.{each, All, targetAt, targetOctets, targetsIn}
 use Rattle.element.specs.Lists.{allOnes}
-use Rattle.element.proofs.ListParts.{targets-length}
+use Rattle.element.proofs.ListParts.{target-lists}
 use Rattle.element.proofs.Scans.{each-length, listed-append}
 use Rattle.writing.proofs.Written.{target-length}
 use Rattle.writing.proofs.Listing.{Listing, listing-more, listing-counted, listing-written, skipped-place, skipped-written}
@@ -105,10 +105,10 @@ module _ (t : List ℕ) (c : ℕ) (q : Target) where
       Short l = length (flatMap targetOctets l) ≤ 11
 
       nothing : Short []
-      nothing = omega (arith, targets-length [])
+      nothing = omega (arith, target-lists .long [])
 
       one : (x : Target) → Short (x ∷ [])
-      one x = omega (arith, targets-length (x ∷ []))
+      one x = omega (arith, target-lists .long (x ∷ []))
 
       by-answer : (o : Option Row) → Short (keptBy q o)
       by-answer none = one q
@@ -143,7 +143,7 @@ module _ (t : List ℕ) (c : ℕ) (part out₀ : List ℕ) (at n : ℕ) (ne : n 
     pub all-counted : place ≡ at + 11 * length (keptAmong t c part)
     all-counted =
         listing-counted (keptOctets t c) (targetAt part) n 11 out₀ at i place out so-far l
-        ∙ ap (λ (m : ℕ). at + m) (ap length kept-octets-among ∙ targets-length (keptAmong t c part))
+        ∙ ap (λ (m : ℕ). at + m) (ap length kept-octets-among ∙ target-lists .long (keptAmong t c part))
 
     pub all-written : out ≡ overwrite out₀ at (flatMap targetOctets (keptAmong t c part))
     all-written = listing-written (keptOctets t c) (targetAt part) n 11 out₀ at i place out so-far l ∙ ap (overwrite out₀ at) kept-octets-among
@@ -168,7 +168,7 @@ unfolding keptAmong keptOctets flatMap
 kept-few t c part =
     omega (
       arith,
-      flat-fewer (keptOf t c) (λ q. omega (arith, targets-length (keptOf t c q), kept-short t c q)) (targetsIn part),
+      flat-fewer (keptOf t c) (λ q. omega (arith, target-lists .long (keptOf t c q), kept-short t c q)) (targetsIn part),
       each-length (targetAt part) 0 (length part / 11),
     )
 

@@ -35,8 +35,8 @@ use Rattle.element.specs.Layout.{itemWidths}
 use Rattle.element.specs.Entries.{All, itemAt, itemsIn}
 use Rattle.element.proofs.Lengths.{count-range}
 use Rattle.element.proofs.Scans.{each-length}
-use Rattle.element.proofs.ListParts.{FitsTarget, FitsNumbered, FitsLost}
-use Rattle.element.proofs.ReadBack.{Fits, all-each}
+use Rattle.element.proofs.ListParts.{all-each, FitsTarget, FitsNumbered, FitsLost}
+use Rattle.element.proofs.ReadBack.{Fits}
 use Rattle.rules.specs.Decision.{Check, accepted}
 use Rattle.rules.specs.Lists.{any, filter}
 use Rattle.rules.specs.Exit.{Frame, Lent, Effect}

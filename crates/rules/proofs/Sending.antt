@@ -32,8 +32,8 @@ use Rattle.element.specs.declared.Target.{Target}
 use Rattle.element.specs.Element.{rann, rreq, rrep, rerr}
 use Rattle.element.specs.Lists.{allOnes}
 use Rattle.element.specs.Entries.{each, All}
-use Rattle.element.proofs.ListParts.{FitsTarget, FitsNumbered, FitsLost}
-use Rattle.element.proofs.ReadBack.{Fits, all-each}
+use Rattle.element.proofs.ListParts.{all-each, FitsTarget, FitsNumbered, FitsLost}
+use Rattle.element.proofs.ReadBack.{Fits}
 use Rattle.element.specs.Flags.{replyWanted, hasRF, withDO}
 use Rattle.rules.specs.Exit.{Frame}
 use Rattle.rules.specs.declared.Arrival.{Arrival}

@@ -23,7 +23,7 @@ use Rattle.element.specs.Octets.{countPart, fixedNumbers, fixedOctets, listOcte
 use Rattle.element.proofs.Lengths.{id-octet}
 use Rattle.element.proofs.Sizes.{start-length}
 use Rattle.element.proofs.Scans.{each-length, each-next, each-end}
-use Rattle.element.proofs.ListParts.{targets-made, addresses-made}
+use Rattle.element.proofs.ListParts.{target-lists, address-lists}
 
 -- ---- the start of a frame as one run of fields
 
@@ -142,13 +142,13 @@ module _ (to : Address) (s t u : List ℕ) (at at′ : ℕ) where
       rreq-listed = finished (rreq f (targetsIn part)) n (targets-counted ne) te ae
 
       pub rreq-written : Octets part → PartOf Rreq part → u ≡ overwrite t at′ part → u ≡ overwrite s at (writeFrame to (rreq f (targetsIn part)))
-      rreq-written octets whole ue = rreq-listed (ue ∙ ap (overwrite t at′) (sym (targets-made part (length part / 11) octets (omega arith))))
+      rreq-written octets whole ue = rreq-listed (ue ∙ ap (overwrite t at′) (sym (target-lists .made part (length part / 11) octets (omega arith))))
 
     pub rrep-written : (f : RrepFields) → n ≡ length part / 10 → t ≡ overwrite s at (frameStart to Rrep n (rrepNumbers f)) → at′ ≡ at + 40
         → Octets part → PartOf Rrep part → u ≡ overwrite t at′ part → u ≡ overwrite s at (writeFrame to (rrep f (numberedIn part)))
     rrep-written f ne te ae octets whole ue =
         finished (rrep f (numberedIn part)) n (addresses-counted ne) te ae
-        (ue ∙ ap (overwrite t at′) (sym (addresses-made part (length part / 10) octets (omega arith))))
+        (ue ∙ ap (overwrite t at′) (sym (address-lists .made part (length part / 10) octets (omega arith))))
 
     pub rerr-listed : (f : RerrFields) → n ≡ length part / 10 → t ≡ overwrite s at (frameStart to Rerr n (rerrNumbers f)) → at′ ≡ at + 10
         → u ≡ overwrite t at′ (flatMap lostOctets (lostIn part)) → u ≡ overwrite s at (writeFrame to (rerr f (lostIn part)))
