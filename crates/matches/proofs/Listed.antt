@@ -12,11 +12,11 @@ use Rattle.element.specs.declared.LostDestination.{LostDestination}
 use Rattle.element.specs.declared.RerrFields.{RerrFields}
 use Rattle.element.specs.Element.{rerr, rerrNumbers}
 use Rattle.element.specs.Layout.{PartOf}
-use Rattle.element.specs.Entries.{each, lostAt, lostIn, lostOctets}
+use Rattle.element.specs.Entries.{lostAt, lostIn, lostOctets}
 use Rattle.element.specs.Lists.{allOnes}
 use Rattle.element.specs.Octets.{frameStart}
 use Rattle.element.proofs.ListParts.{loss-lists}
-use Rattle.writing.proofs.Listing.{Listing, listing-more, listing-counted, listing-written, skipped-place, skipped-written}
+use Rattle.writing.proofs.Listing.{Listing, listing-more, taken-place}
 use Rattle.element.proofs.Scans.{each-length}
 use Rattle.element.proofs.Sizes.{frame-length}
 use Rattle.writing.proofs.Written.{lost-length, started-last}
@@ -37,28 +37,17 @@ matched t a named = filter (matches t (a .clock) (a .transmitter)) named
 -- ---- one destination: written, or not
 
 module _ (t : List ℕ) (a : Arrival) (m : LostDestination) where
-  module _ (b : Bool) (be : b ≡ matches t (a .clock) (a .transmitter) m) (at : ℕ) (s : List ℕ) where
-    module _ (e : not b ≡ true) where
-      nothing : [] ≡ matchOctets t a m
-      unfolding matchOctets
-      nothing = rw (← be, not-true b e)
+  module _ (b : Bool) (be : b ≡ matches t (a .clock) (a .transmitter) m) where
+    pub no-match : not b ≡ true → [] ≡ matchOctets t a m
+    unfolding matchOctets
+    no-match e = rw (← be, not-true b e)
 
-      pub other-place : at ≡ at + length (matchOctets t a m)
-      other-place = skipped-place s at (matchOctets t a m) nothing
+    pub one-match : not b ≡ false → lostOctets m ≡ matchOctets t a m
+    unfolding matchOctets
+    one-match e = rw (← be, not-false b e)
 
-      pub other-written : s ≡ overwrite s at (matchOctets t a m)
-      other-written = skipped-written s at (matchOctets t a m) nothing
-
-    module _ (e : not b ≡ false) where
-      itself : lostOctets m ≡ matchOctets t a m
-      unfolding matchOctets
-      itself = rw (← be, not-false b e)
-
-      pub match-place : (r : ℕ) → r ≡ at + 10 → r ≡ at + length (matchOctets t a m)
-      match-place r re = re ∙ ap (λ (k : ℕ). at + k) (sym (lost-length m) ∙ ap length itself)
-
-      pub match-written : (v : List ℕ) → v ≡ overwrite s at (lostOctets m) → v ≡ overwrite s at (matchOctets t a m)
-      match-written v ve = ve ∙ ap (overwrite s at) itself
+    pub match-place : not b ≡ false → (at r : ℕ) → r ≡ at + 10 → r ≡ at + length (matchOctets t a m)
+    match-place e at r re = taken-place (matchOctets t a m) (lostOctets m) (one-match e) at r 10 re (lost-length m)
 
   match-short : length (matchOctets t a m) ≤ 10
   unfolding matchOctets
@@ -67,7 +56,7 @@ module _ (t : List ℕ) (a : Arrival) (m : LostDestination) where
 
 -- ---- one after another
 
-matches-octets : (t : List ℕ) (a : Arrival) (named : List LostDestination)
+pub matches-octets : (t : List ℕ) (a : Arrival) (named : List LostDestination)
     → flatMap (matchOctets t a) named ≡ flatMap lostOctets (matched t a named)
 unfolding matchOctets filter flatMap
 matches-octets t a [] = refl
@@ -81,24 +70,11 @@ matches-octets t a (m ∷ named) = by (matches t (a .clock) (a .transmitter) m) 
 abbrev pub Reporting : List ℕ → Arrival → List ℕ → List ℕ → ℕ → ℕ → ℕ → ℕ → List ℕ → Type 0
 Reporting t a part out₀ at n = Listing (matchOctets t a) (lostAt part) n 10 out₀ at
 
-module _ (t : List ℕ) (a : Arrival) (part out₀ : List ℕ) (at n i place : ℕ) (out : List ℕ) (so-far : Reporting t a part out₀ at n i place out) where
-  pub reporting-room : i < n → n ≡ length part / 10 → at + length part ≤ length out₀ → length out ≡ length out₀ → place + 10 ≤ length out
-  reporting-room l ne room same-length = omega (arith, so-far .few)
-
-  pub reporting-more : i < n → (m : LostDestination) → m ≡ lostAt part i → (place′ : ℕ) → place′ ≡ place + length (matchOctets t a m)
-      → (out′ : List ℕ) → out′ ≡ overwrite out place (matchOctets t a m) → Reporting t a part out₀ at n (i + 1) place′ out′
-  reporting-more l = listing-more (matchOctets t a) (lostAt part) n 10 out₀ at i place out so-far l (match-short t a (lostAt part i))
-
-  module _ (l : n ≤ i) where
-    pub all-counted : place ≡ at + length (flatMap lostOctets (matched t a (each (lostAt part) 0 n)))
-    all-counted =
-        listing-counted (matchOctets t a) (lostAt part) n 10 out₀ at i place out so-far l
-        ∙ ap (λ (p : List ℕ). at + length p) (matches-octets t a (each (lostAt part) 0 n))
-
-    pub all-written : out ≡ overwrite out₀ at (flatMap lostOctets (matched t a (each (lostAt part) 0 n)))
-    all-written =
-        listing-written (matchOctets t a) (lostAt part) n 10 out₀ at i place out so-far l
-        ∙ ap (overwrite out₀ at) (matches-octets t a (each (lostAt part) 0 n))
+pub reporting-more : (t : List ℕ) (a : Arrival) (part out₀ : List ℕ) (at n i place : ℕ) (out : List ℕ) → Reporting t a part out₀ at n i place out
+    → i < n → (m : LostDestination) → m ≡ lostAt part i → (place′ : ℕ) → place′ ≡ place + length (matchOctets t a m)
+    → (out′ : List ℕ) → out′ ≡ overwrite out place (matchOctets t a m) → Reporting t a part out₀ at n (i + 1) place′ out′
+reporting-more t a part out₀ at n i place out so-far l =
+    listing-more (matchOctets t a) (lostAt part) n 10 out₀ at i place out so-far l (match-short t a (lostAt part i))
 
 -- ---- the RERR from place at on, by the place after the matches
 

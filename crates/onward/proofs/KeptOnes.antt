@@ -22,7 +22,7 @@ use Rattle.element.specs.Lists.{allOnes}
 use Rattle.element.proofs.ListParts.{target-lists}
 use Rattle.element.proofs.Scans.{each-length, listed-append}
 use Rattle.writing.proofs.Written.{target-length}
-use Rattle.writing.proofs.Listing.{Listing, listing-more, listing-counted, listing-written, skipped-place, skipped-written}
+use Rattle.writing.proofs.Listing.{Listing, listing-more, listing-counted, taken-place}
 use Rattle.rules.specs.declared.Arrival.{Arrival}
 use Rattle.element.specs.Flags.{hasRF, withDO, replyWanted}
 use Rattle.rules.specs.Destinations.{Answered, keptAfterReply, forOneself, forAllOnes, answered, allAnswered}
@@ -68,32 +68,22 @@ module _ (t : List ℕ) (c : ℕ) (q : Target) where
           answered-kept e k ke = rw (← after-reply, ← be, not-false b e, ke)
 
   -- written, or not
-  module _ (k : Kept) (ke : keptIn k ≡ keptOf t c q) (at : ℕ) (s : List ℕ) where
+  module _ (k : Kept) (ke : keptIn k ≡ keptOf t c q) where
     kept-octets : flatMap targetOctets (keptIn k) ≡ keptOctets t c q
     unfolding keptOctets
     kept-octets = ap (flatMap targetOctets) ke
 
     module _ (x : Target) (as-x : k ≡ As x) where
-      one-kept : targetOctets x ≡ keptOctets t c q
+      pub one-kept : targetOctets x ≡ keptOctets t c q
       unfolding flatMap
       one-kept = sym (append-nil (targetOctets x)) ∙ ap (λ (j : Kept). flatMap targetOctets (keptIn j)) (sym as-x) ∙ kept-octets
 
-      pub kept-place : (r : ℕ) → r ≡ at + 11 → r ≡ at + length (keptOctets t c q)
-      kept-place r re = re ∙ ap (λ (m : ℕ). at + m) (sym (target-length x) ∙ ap length one-kept)
+      pub kept-place : (at r : ℕ) → r ≡ at + 11 → r ≡ at + length (keptOctets t c q)
+      kept-place at r re = taken-place (keptOctets t c q) (targetOctets x) one-kept at r 11 re (target-length x)
 
-      pub kept-written : (v : List ℕ) → v ≡ overwrite s at (targetOctets x) → v ≡ overwrite s at (keptOctets t c q)
-      kept-written v ve = ve ∙ ap (overwrite s at) one-kept
-
-    module _ (struck : k ≡ Struck) where
-      none-kept : [] ≡ keptOctets t c q
-      unfolding flatMap
-      none-kept = ap (λ (j : Kept). flatMap targetOctets (keptIn j)) (sym struck) ∙ kept-octets
-
-      pub struck-place : at ≡ at + length (keptOctets t c q)
-      struck-place = skipped-place s at (keptOctets t c q) none-kept
-
-      pub struck-written : s ≡ overwrite s at (keptOctets t c q)
-      struck-written = skipped-written s at (keptOctets t c q) none-kept
+    pub none-kept : k ≡ Struck → [] ≡ keptOctets t c q
+    unfolding flatMap
+    none-kept struck = ap (λ (j : Kept). flatMap targetOctets (keptIn j)) (sym struck) ∙ kept-octets
 
   kept-short : length (keptOctets t c q) ≤ 11
   unfolding keptOctets keptOf
@@ -119,13 +109,11 @@ module _ (t : List ℕ) (c : ℕ) (q : Target) where
 abbrev pub Keeping : List ℕ → ℕ → List ℕ → List ℕ → ℕ → ℕ → ℕ → ℕ → List ℕ → Type 0
 Keeping t c part out₀ at n = Listing (keptOctets t c) (targetAt part) n 11 out₀ at
 
-module _ (t : List ℕ) (c : ℕ) (part out₀ : List ℕ) (at n i place : ℕ) (out : List ℕ) (so-far : Keeping t c part out₀ at n i place out) where
-  pub keeping-room : i < n → n ≡ length part / 11 → at + length part ≤ length out₀ → length out ≡ length out₀ → place + 11 ≤ length out
-  keeping-room l ne room same-length = omega (arith, so-far .few)
-
-  pub keeping-more : i < n → (q : Target) → q ≡ targetAt part i → (place′ : ℕ) → place′ ≡ place + length (keptOctets t c q)
-      → (out′ : List ℕ) → out′ ≡ overwrite out place (keptOctets t c q) → Keeping t c part out₀ at n (i + 1) place′ out′
-  keeping-more l = listing-more (keptOctets t c) (targetAt part) n 11 out₀ at i place out so-far l (kept-short t c (targetAt part i))
+pub keeping-more : (t : List ℕ) (c : ℕ) (part out₀ : List ℕ) (at n i place : ℕ) (out : List ℕ) → Keeping t c part out₀ at n i place out
+    → i < n → (q : Target) → q ≡ targetAt part i → (place′ : ℕ) → place′ ≡ place + length (keptOctets t c q)
+    → (out′ : List ℕ) → out′ ≡ overwrite out place (keptOctets t c q) → Keeping t c part out₀ at n (i + 1) place′ out′
+keeping-more t c part out₀ at n i place out so-far l =
+    listing-more (keptOctets t c) (targetAt part) n 11 out₀ at i place out so-far l (kept-short t c (targetAt part i))
 
 -- the octets of what is kept of each are those of all that are kept
 kept-together : (t : List ℕ) (c : ℕ) (l : List Target) → flatMap (keptOctets t c) l ≡ flatMap targetOctets (flatMap (keptOf t c) l)
@@ -134,19 +122,16 @@ kept-together t c [] = refl
 kept-together t c (q ∷ l) =
     ap (λ (m : List ℕ). keptOctets t c q ++ m) (kept-together t c l) ∙ sym (listed-append targetOctets (keptOf t c q) (flatMap (keptOf t c) l))
 
-module _ (t : List ℕ) (c : ℕ) (part out₀ : List ℕ) (at n : ℕ) (ne : n ≡ length part / 11) where
-  kept-octets-among : flatMap (keptOctets t c) (each (targetAt part) 0 n) ≡ flatMap targetOctets (keptAmong t c part)
+module _ (t : List ℕ) (c : ℕ) (part : List ℕ) (n : ℕ) (ne : n ≡ length part / 11) where
+  pub kept-octets-among : flatMap (keptOctets t c) (each (targetAt part) 0 n) ≡ flatMap targetOctets (keptAmong t c part)
   unfolding keptAmong
   kept-octets-among = ap (λ (m : ℕ). flatMap (keptOctets t c) (each (targetAt part) 0 m)) ne ∙ kept-together t c (each (targetAt part) 0 (length part / 11))
 
-  module _ (i place : ℕ) (out : List ℕ) (so-far : Keeping t c part out₀ at n i place out) (l : n ≤ i) where
-    pub all-counted : place ≡ at + 11 * length (keptAmong t c part)
-    all-counted =
-        listing-counted (keptOctets t c) (targetAt part) n 11 out₀ at i place out so-far l
-        ∙ ap (λ (m : ℕ). at + m) (ap length kept-octets-among ∙ target-lists .long (keptAmong t c part))
-
-    pub all-written : out ≡ overwrite out₀ at (flatMap targetOctets (keptAmong t c part))
-    all-written = listing-written (keptOctets t c) (targetAt part) n 11 out₀ at i place out so-far l ∙ ap (overwrite out₀ at) kept-octets-among
+  pub all-counted : (out₀ : List ℕ) (at i place : ℕ) (out : List ℕ) → Keeping t c part out₀ at n i place out → n ≤ i
+      → place ≡ at + 11 * length (keptAmong t c part)
+  all-counted out₀ at i place out so-far l =
+      listing-counted (keptOctets t c) (targetAt part) n 11 out₀ at i place out so-far (flatMap targetOctets (keptAmong t c part)) kept-octets-among l
+      ∙ ap (λ (m : ℕ). at + m) (target-lists .long (keptAmong t c part))
 
 -- a kept destination has its address
 pub kept-address : (t : List ℕ) (c : ℕ) (q : Target) → All (λ (k : Target). k .address ≡ q .address) (keptOf t c q)

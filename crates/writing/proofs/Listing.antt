@@ -1,11 +1,11 @@
 -- Entries written one after another, where some may write nothing: what stands before entry i, and with what is left the
 -- whole.
-use Prim.Native.Nat.{ℕ, _+_, _-_, _*_, _<_, _≤_}
+use Prim.Native.Nat.{ℕ, suc, _+_, _-_, _*_, _/_, _<_, _≤_}
 use mathlib.Core.Path.{_≡_, refl, sym, ap, _∙_}
 use mathlib.Core.List.{List, [], _∷_, _++_, append-assoc, flatMap}
 use lib.ListN.{length, length-append}
 use native.Mathlib.Omega.{arith}
-use native.Mathlib.Nat.{add-zero, sub-zero, mul-zero, mul-suc}
+use native.Mathlib.Nat.{add-zero, sub-zero, mul-zero, mul-suc, mul-comm, mul-le-mul-left, div-mul-le-self}
 use native.Mathlib.Numerals.{add-one}
 use Rattle.octets.specs.LittleEndian.{overwrite}
 use Rattle.element.specs.Entries.{each}
@@ -45,19 +45,35 @@ module _ {A : Type 0} (write : A → List ℕ) (entry : ℕ → A) (n size : ℕ
               (oe ∙ ap (λ (y : A). overwrite out place (write y)) xe) after (so-far .written);
         }
 
-    module _ (l : n ≤ i) where
-      pub listing-counted : place ≡ at + length wholeList
+    -- there is room for one more in an output with room for the list part that the entries are from
+    pub listing-room : (m : ℕ) → n ≡ m / size → i < n → at + m ≤ length out₀ → length out ≡ length out₀ → place + size ≤ length out
+    listing-room m ne l room same-length =
+        let next : size * suc i ≤ size * n = mul-le-mul-left size l in
+        let all : size * n ≤ m = rw (ne, mul-comm size (m / size)) (div-mul-le-self m size) in
+        omega (arith, so-far .few, mul-suc size i)
+
+    -- p is what all of them write
+    module _ (p : List ℕ) (all : wholeList ≡ p) (l : n ≤ i) where
+      pub listing-counted : place ≡ at + length p
       unfolding flatMap
-      listing-counted = omega (arith, so-far .counted, ap (λ (m : List A). length (flatMap write m)) (each-end entry i n l))
+      listing-counted = omega (arith, so-far .counted, ap (λ (m : List A). length (flatMap write m)) (each-end entry i n l), ap length all)
 
-      pub listing-written : out ≡ overwrite out₀ at wholeList
-      listing-written = entries-ended write entry n out (overwrite out₀ at wholeList) i place l (so-far .written)
+      pub listing-written : out ≡ overwrite out₀ at p
+      listing-written = entries-ended write entry n out (overwrite out₀ at wholeList) i place l (so-far .written) ∙ ap (overwrite out₀ at) all
 
--- one that writes nothing
-module _ (s : List ℕ) (at : ℕ) (p : List ℕ) (none : [] ≡ p) where
-  pub skipped-place : at ≡ at + length p
-  skipped-place = sym (add-zero at) ∙ ap (λ (l : List ℕ). at + length l) none
+-- one of which p is to be written: nothing, or the octets q
+module _ (p : List ℕ) where
+  module _ (none : [] ≡ p) where
+    pub skipped-place : (at : ℕ) → at ≡ at + length p
+    skipped-place at = sym (add-zero at) ∙ ap (λ (l : List ℕ). at + length l) none
 
-  pub skipped-written : s ≡ overwrite s at p
-  unfolding overwrite
-  skipped-written = ap (overwrite s at) none
+    pub skipped-written : (s : List ℕ) (at : ℕ) → s ≡ overwrite s at p
+    unfolding overwrite
+    skipped-written s at = ap (overwrite s at) none
+
+  module _ (q : List ℕ) (these : q ≡ p) where
+    pub taken-place : (at r size : ℕ) → r ≡ at + size → length q ≡ size → r ≡ at + length p
+    taken-place at r size e long = e ∙ ap (λ (k : ℕ). at + k) (sym long ∙ ap length these)
+
+    pub taken-written : (s v : List ℕ) (at : ℕ) → v ≡ overwrite s at q → v ≡ overwrite s at p
+    taken-written s v at e = e ∙ ap (overwrite s at) these

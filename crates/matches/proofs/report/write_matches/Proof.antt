@@ -4,8 +4,8 @@ use mathlib.Core.Path.{_≡_}
 use lib.ListN.{length}
 use native.Mathlib.Omega.{arith}
 use borrow.Author.Needs.{needs}
-use Rattle.writing.proofs.Listing.{listing-start}
-use Rattle.matches.proofs.Listed.{Reporting, reporting-room, reporting-more, all-counted, all-written}
+use Rattle.writing.proofs.Listing.{listing-start, listing-room, listing-counted, listing-written}
+use Rattle.matches.proofs.Listed.{Reporting, reporting-more, matches-octets}
 use Rattle.matches.proofs.report.write_matches.Statement.{statement}
 use Rattle.matches.proofs.report.write_matches.Tie as tie
 
@@ -24,9 +24,9 @@ write-matches-spec =
     μ-loop
     (λ c. search (needs, listing-start))
     (λ c κs. omega arith)
-    (λ c κs. search (needs, reporting-room))
+    (λ c κs. search (needs, listing-room))
     (λ c. search needs)
     (λ c. search needs)
     (λ c. search (needs, reporting-more))
     (λ c. search needs)
-    (λ c. (search all-counted, search all-written)))
+    (λ c. (search (listing-counted, matches-octets), search (listing-written, matches-octets))))

@@ -1,6 +1,7 @@
 -- `onward::kept::write_if_kept` meets its contract: it is written, or not.
 use borrow.Author.Needs.{needs}
-use Rattle.onward.proofs.KeptOnes.{kept-place, kept-written, struck-place, struck-written}
+use Rattle.writing.proofs.Listing.{skipped-place, skipped-written, taken-written}
+use Rattle.onward.proofs.KeptOnes.{one-kept, kept-place, none-kept}
 use Rattle.onward.proofs.kept.write_if_kept.Statement.{statement}
 use Rattle.onward.proofs.kept.write_if_kept.Tie as tie
 
@@ -13,5 +14,5 @@ write-if-kept-spec =
     (λ c κs. search needs)
     (λ c. search needs)
     (λ c. search needs)
-    (λ c. (search kept-place, search kept-written))
-    (λ c. (search struck-place, search struck-written)))
+    (λ c. (search kept-place, search (taken-written, one-kept)))
+    (λ c. (search (skipped-place, none-kept), search (skipped-written, none-kept))))

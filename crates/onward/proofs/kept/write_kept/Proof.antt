@@ -4,8 +4,8 @@ use mathlib.Core.Path.{_≡_}
 use lib.ListN.{length}
 use native.Mathlib.Omega.{arith}
 use borrow.Author.Needs.{needs}
-use Rattle.writing.proofs.Listing.{listing-start}
-use Rattle.onward.proofs.KeptOnes.{Keeping, keeping-room, keeping-more, all-counted, all-written}
+use Rattle.writing.proofs.Listing.{listing-start, listing-room, listing-written}
+use Rattle.onward.proofs.KeptOnes.{Keeping, keeping-more, kept-octets-among, all-counted}
 use Rattle.onward.proofs.kept.write_kept.Statement.{statement}
 use Rattle.onward.proofs.kept.write_kept.Tie as tie
 
@@ -24,9 +24,9 @@ write-kept-spec =
     μ-loop
     (λ c. search (needs, listing-start))
     (λ c κs. omega arith)
-    (λ c κs. search (needs, keeping-room))
+    (λ c κs. search (needs, listing-room))
     (λ c. search needs)
     (λ c. search needs)
     (λ c. search (needs, keeping-more))
     (λ c. search needs)
-    (λ c. (search all-counted, search all-written)))
+    (λ c. (search all-counted, search (listing-written, kept-octets-among))))
