@@ -8,7 +8,7 @@ use lib.ListN.{length, take, drop}
 use native.Mathlib.Omega.{arith}
 use native.Mathlib.Nat.{pos-of-ne-zero}
 use borrow.Author.Tests.{ltb-true, ltb-false, eqb-false}
-use Rattle.octets.proofs.Clash.{clash}
+use Rattle.octets.proofs.Tests.{clash}
 use Rattle.octets.specs.LittleEndian.{numberAt}
 use Rattle.counters.specs.declared.SequenceNumber.{SequenceNumber}
 use Rattle.layout.specs.declared.address.Address.{Address}

@@ -6,7 +6,7 @@ use mathlib.Core.List.{List, [], _∷_, _++_, append-nil}
 use lib.ListN.{length}
 use native.Mathlib.Omega.{arith}
 use borrow.Author.Tests.{eq-eqb, ne-eqb, lt-ltb, le-ltb, ltb-false, not-false}
-use Rattle.octets.proofs.Clash.{clash}
+use Rattle.octets.proofs.Tests.{clash}
 use Rattle.octets.specs.LittleEndian.{overwrite}
 use Rattle.layout.specs.Layout.{sized, headOctets, Sized}
 use Rattle.table.proofs.Cases.{of-size}

@@ -1,2 +1,1 @@
-pub mod AnsweringRows
 pub mod Replying

@@ -35,12 +35,12 @@ use Rattle.rules.specs.Exit.{Frame, frameOctets}
 use Rattle.rules.specs.Destinations.{Answered, reply, replyFields, ownReply, answeredNumber, forOneself, forAllOnes, forAnother, answered, allAnswered}
 use Rattle.rules.proofs.Emitting.{Each, Emits, one-answered, replies-emitted}
 use Rattle.rules.proofs.FrameOctets.{one-frame, frames-append}
-use Rattle.destinations.specs.declared.answering.Answering.{Answering}
-use Rattle.destinations.specs.declared.answering.Answering.the-variants.{By, Nobody}
+use Rattle.answering.specs.declared.Answering.{Answering}
+use Rattle.answering.specs.declared.Answering.the-variants.{By, Nobody}
 use Rattle.destinations.specs.declared.replies.Replied.{Replied}
-use Rattle.destinations.specs.Answering.{answeringIn, answeringRow}
+use Rattle.answering.specs.Answering.{answeringIn, answeringRow}
 use Rattle.destinations.specs.Replies.{repliedAfter, repliedFrom}
-use Rattle.destinations.proofs.AnsweringRows.{anotherBy, answering-is}
+use Rattle.answering.proofs.AnsweringRows.{anotherBy, answering-is}
 
 -- ---- one reply
 

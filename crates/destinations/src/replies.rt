@@ -1,6 +1,5 @@
 // The replies to a RREQ, one after another. The table is that after steps 1 and 2.
-use crate::answering;
-use crate::answering::Answering;
+use answering::Answering;
 use counters::HopCount;
 use counters::Metric;
 use counters::SequenceNumber;

@@ -7,12 +7,11 @@ use lib.Dec.{eqb, ltb}
 use lib.ListN.{length, getD}
 use native.Mathlib.Omega.{arith}
 use borrow.Author.Tests.{ltb-false, eqb-true, not-false}
-use Rattle.octets.proofs.Clash.{clash}
 use Rattle.element.specs.declared.Kind.{Kind}
 use Rattle.element.specs.declared.Kind.the-variants.{Rann, Rreq, Rrep, Rerr}
 use Rattle.element.specs.Layout.{known, kindWith, fits, idOf, lengthWith, countOk}
 use Rattle.element.specs.Octets.{kindIn, countAs, wrongLength, otherId, misfit}
-use Rattle.table.proofs.Cases.{both}
+use Rattle.octets.proofs.Tests.{both, clash}
 
 -- an ID is known if it is that of the type it gives
 pub known-is : (id : ℕ) → known id ≡ eqb id (idOf (kindWith id))

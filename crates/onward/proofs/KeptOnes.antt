@@ -28,13 +28,13 @@ use Rattle.element.specs.Flags.{hasRF, withDO, replyWanted}
 use Rattle.rules.specs.Destinations.{Answered, keptAfterReply, forOneself, forAllOnes, answered, allAnswered}
 use Rattle.rules.proofs.Alls.{flat-fewer}
 use Rattle.rules.proofs.Branches.{cond-cases}
-use Rattle.destinations.specs.declared.answering.Answering.{Answering}
-use Rattle.destinations.specs.declared.answering.Answering.the-variants.{By, Nobody}
+use Rattle.answering.specs.declared.Answering.{Answering}
+use Rattle.answering.specs.declared.Answering.the-variants.{By, Nobody}
 use Rattle.onward.specs.declared.kept.Kept.{Kept}
 use Rattle.onward.specs.declared.kept.Kept.the-variants.{As, Struck}
-use Rattle.destinations.specs.Answering.{answeringIn, answeringRow}
+use Rattle.answering.specs.Answering.{answeringIn, answeringRow}
 use Rattle.onward.specs.Kept.{keptIn, keptBy, keptOf, keptOctets, keptAmong}
-use Rattle.destinations.proofs.AnsweringRows.{anotherBy, answering-is}
+use Rattle.answering.proofs.AnsweringRows.{anotherBy, answering-is}
 
 -- ---- one destination
 

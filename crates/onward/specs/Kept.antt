@@ -13,7 +13,7 @@ use Rattle.element.specs.Lists.{allOnes}
 use Rattle.rules.specs.Destinations.{keptAfterReply}
 use Rattle.onward.specs.declared.kept.Kept.{Kept}
 use Rattle.onward.specs.declared.kept.Kept.the-variants.{As, Struck}
-use Rattle.destinations.specs.Answering.{answeringRow}
+use Rattle.answering.specs.Answering.{answeringRow}
 
 abbrev pub keptIn : Kept → List Target
 keptIn (As q) = q ∷ []

@@ -1,6 +1,5 @@
 // The destinations of a RREQ that are kept, written one after another.
-use destinations::answering;
-use destinations::answering::Answering;
+use answering::Answering;
 use element::Target;
 use element::flags;
 use element::list;

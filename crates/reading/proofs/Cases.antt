@@ -21,7 +21,7 @@ use Rattle.reading.specs.declared.Reading.the-variants.{Announcement, Re
 use Rattle.element.specs.Layout.{known, kindWith, fits, idOf, lengthWith, countOk}
 use Rattle.element.specs.Octets.{kindIn, countAs, wrongLength, otherId, misfit, pathFrom, rerrFrom, rreqFrom, rrepFrom, rerrFrom, fieldsAs, readAs, readElement, listPart}
 use Rattle.reading.specs.Reading.{fixedFields, reading}
-use Rattle.table.proofs.Cases.{both}
+use Rattle.octets.proofs.Tests.{both}
 use Rattle.element.proofs.Lengths.{least-length}
 use Rattle.element.proofs.Passing.{known-is, length-right}
 

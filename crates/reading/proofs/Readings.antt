@@ -20,7 +20,7 @@ use Rattle.element.specs.Layout.{idOf, known, lengthWith, fewest, most, countOk
 use Rattle.element.specs.Entries.{lostIn, numberedIn, targetsIn}
 use Rattle.element.specs.Octets.{kindIn, countAs, wrongLength, otherId, misfit, fieldsAs, listAs, elementAs, readAs, readElement, listPart, writeElement}
 use Rattle.reading.specs.Reading.{fixedFields, reading}
-use Rattle.table.proofs.Cases.{both}
+use Rattle.octets.proofs.Tests.{both}
 use Rattle.element.proofs.Lengths.{least-length, count-range}
 use Rattle.element.proofs.Passing.{Passed, passed}
 use Rattle.element.proofs.ReadBack.{Fits, passes-6, passes-7, passes-8, read-back}

@@ -5,7 +5,7 @@ use mathlib.Core.Bool.{Bool, true, false, _||_, cond}
 use mathlib.Core.List.{List, [], _∷_, _++_, map, flatMap}
 use lib.ListN.{length, take, drop, length-append}
 use native.Mathlib.Omega.{arith}
-use Rattle.octets.proofs.Clash.{clash}
+use Rattle.octets.proofs.Tests.{clash}
 use Rattle.element.specs.Entries.{each, All}
 use Rattle.rules.specs.Lists.{any, filter}
 use Rattle.rules.proofs.Branches.{cond-cases}

@@ -5,7 +5,7 @@ use mathlib.Core.List.{List, [], _∷_}
 use Prim.Native.Nat.{ℕ}
 use native.Mathlib.Omega.{arith}
 use lib.Dec.{eqb}
-use Rattle.octets.proofs.Clash.{clash}
+use Rattle.octets.proofs.Tests.{clash}
 use Rattle.rules.specs.Decision.{refused, accepted, Check, Ruling, judged, decide}
 use Rattle.rules.specs.Checks.{operandChecks, stateChecks}
 use Rattle.rules.specs.Receive.{arrivalChecks, octetChecks, fieldChecks, judging, readingOctets}

@@ -5,9 +5,10 @@ use lib.ListN.{length}
 use mathlib.Core.Path.{_≡_, refl, sym, ap, _∙_}
 use native.Mathlib.Omega.{arith}
 use borrow.Author.Tests.{leb-true, eqb-true, eq-eqb, ne-eqb, not-true, not-false}
-use mathlib.Core.Bool.{Bool, true, false, _&&_, _||_, not, and-comm, and-true, and-false, and-eq-true-iff}
+use mathlib.Core.Bool.{Bool, true, false, _&&_, _||_, not, and-comm, and-true, and-false}
 use mathlib.Core.List.{List}
 use mathlib.Core.Option.{none, some}
+use Rattle.octets.proofs.Tests.{both}
 use Rattle.layout.specs.declared.address.Address.{Address}
 use Rattle.layout.specs.declared.row.Head.{Head}
 use Rattle.layout.specs.declared.row.Row.{Row}
@@ -19,9 +20,6 @@ use Rattle.table.specs.declared.search.Found.the-variants.{At, Nothing}
 use Rattle.table.proofs.Places.{first-below}
 use Rattle.table.specs.Places.{first, every, isNothing, orElse}
 use Rattle.table.specs.Table.{vacant, holds, findRow, rowFor, activeNext, firstFree, putAt, placeFor, store, alone, passes, isTable}
-
-pub both : (a b : Bool) → (a && b) ≡ true → (a ≡ true) × (b ≡ true)
-both a b = and-eq-true-iff a b .0
 
 -- a part that is the last one under the second
 and-moved : (a b c d : Bool) → (b ≡ true → a ≡ d) → ((a && b) && c) ≡ (b && (c && d))

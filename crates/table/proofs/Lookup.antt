@@ -9,7 +9,7 @@ use lib.Dec.{eqb}
 use native.Mathlib.Decide.{ℕ-discrete}
 use native.Mathlib.Omega.{arith}
 use borrow.Author.Tests.{eqb-true}
-use Rattle.octets.proofs.Clash.{clash}
+use Rattle.octets.proofs.Tests.{clash}
 use Rattle.layout.specs.declared.address.Address.{Address}
 use Rattle.layout.specs.declared.row.Head.{Head}
 use Rattle.layout.specs.declared.row.Row.{Row}

@@ -7,7 +7,7 @@ use mathlib.Core.Logic.{_⊎_, inl, inr}
 use native.Mathlib.Decide.{ℕ-discrete}
 use native.Mathlib.Omega.{arith, ne-cases}
 use borrow.Author.Tests.{eqb-true, eqb-false, eq-eqb, ne-eqb, not-true}
-use Rattle.octets.proofs.Clash.{clash}
+use Rattle.octets.proofs.Tests.{clash}
 use Rattle.layout.specs.declared.address.Address.{Address}
 use Rattle.table.specs.declared.search.Found.{Found}
 use Rattle.table.specs.declared.search.Found.the-variants.{At, Nothing}

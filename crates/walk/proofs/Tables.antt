@@ -15,7 +15,8 @@ use Rattle.layout.specs.Address.{addressOf}
 use Rattle.layout.specs.declared.row.Head.{Head}
 use Rattle.layout.specs.Layout.{sized, headAt, headOctets, Sized}
 use Rattle.table.specs.Table.{clock, isTable}
-use Rattle.table.proofs.Cases.{both, of-size}
+use Rattle.octets.proofs.Tests.{both}
+use Rattle.table.proofs.Cases.{of-size}
 use Rattle.element.specs.Entries.{each}
 use Rattle.element.specs.Lists.{contains, hasDuplicate}
 use Rattle.element.proofs.Scans.{map-each}

@@ -19,7 +19,7 @@ use Rattle.element.specs.declared.Target.{Target}
 use Rattle.rules.specs.declared.Arrival.{Arrival}
 use Rattle.element.specs.Flags.{hasDO}
 use Rattle.rules.specs.Destinations.{Answered, rowReply, answersFor, keptOn, keptAfterReply, forAnother}
-use Rattle.destinations.specs.Answering.{ifAnswers, answeringRow}
+use Rattle.answering.specs.Answering.{ifAnswers, answeringRow}
 
 module _ (c : ℕ) (q : Target) (d : Bool) (de : d ≡ hasDO q) where
   module _ (r : Row) where

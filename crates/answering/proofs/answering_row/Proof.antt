@@ -1,9 +1,9 @@
--- `destinations::answering::answering_row` meets its contract: by the row, or without one.
+-- `answering::answering_row` meets its contract: by the row, or without one.
 use borrow.Author.Needs.{needs}
 use Rattle.table.proofs.Cases.{found-within}
-use Rattle.destinations.proofs.AnsweringRows.{nobody-do, nobody-absent, nobody-stale, row-answers}
-use Rattle.destinations.proofs.answering.answering_row.Statement.{statement}
-use Rattle.destinations.proofs.answering.answering_row.Tie as tie
+use Rattle.answering.proofs.AnsweringRows.{nobody-do, nobody-absent, nobody-stale, row-answers}
+use Rattle.answering.proofs.answering_row.Statement.{statement}
+use Rattle.answering.proofs.answering_row.Tie as tie
 
 pub answering-row-spec : {M : Type 1} → statement M
 answering-row-spec =

@@ -8,8 +8,8 @@ use Rattle.layout.specs.declared.row.Row.{Row}
 use Rattle.table.specs.Table.{rowFor}
 use Rattle.element.specs.declared.Target.{Target}
 use Rattle.rules.specs.Destinations.{answersFor}
-use Rattle.destinations.specs.declared.answering.Answering.{Answering}
-use Rattle.destinations.specs.declared.answering.Answering.the-variants.{By, Nobody}
+use Rattle.answering.specs.declared.Answering.{Answering}
+use Rattle.answering.specs.declared.Answering.the-variants.{By, Nobody}
 
 abbrev pub answeringIn : Answering → Option Row
 answeringIn (By r) = some r

@@ -1,4 +1,4 @@
-// Whether this point answers for another.
+// Which row answers for a destination of a received RREQ, if one does.
 use element::Target;
 use element::flags;
 use layout::row;
@@ -7,7 +7,7 @@ use table::search;
 use table::search::Found;
 ghost use mathlib.Core.Path.{_≡_};
 ghost use Rattle.rules.specs.Destinations.{answersFor};
-ghost use Rattle.destinations.specs.Answering.{answeringRow, answeringIn};
+ghost use Rattle.answering.specs.Answering.{answeringRow, answeringIn};
 ghost use Rattle.layout.specs.Layout.{Sized};
 
 // The row that an intermediate reply is made from, if there is one.
