@@ -4,7 +4,7 @@ use mathlib.Core.Path.{_≡_, refl, sym, ap, ap₂, _∙_}
 use mathlib.Core.Bool.{Bool, true, false, not, cond}
 use mathlib.Core.List.{List, [], _∷_, _++_, flatMap}
 use lib.ListN.{length, length-append}
-use native.Mathlib.Nat.{zero-add, add-zero, sub-zero, le-refl}
+use native.Mathlib.Nat.{zero-add, add-zero, sub-zero}
 use native.Mathlib.Numerals.{add-one}
 use native.Mathlib.Omega.{arith}
 use borrow.Author.Tests.{eq-eqb, ne-eqb, not-true, not-false}
@@ -13,11 +13,10 @@ use Rattle.octets.proofs.OctetLists.{overwrite-append}
 use Rattle.layout.specs.declared.address.Address.{Address}
 use Rattle.layout.specs.declared.row.Head.{Head}
 use Rattle.layout.specs.declared.row.Row.{Row}
-use Rattle.layout.specs.Address.{same}
-use Rattle.layout.specs.Row.{headWith, active, invalidated, raised, isThrough}
-use Rattle.layout.specs.Layout.{headAt, putHead, rows, place, rowAt, putRow, rowOctets, headOctets, Sized, mostRows}
+use Rattle.layout.specs.Row.{headWith, invalidated, raised, isThrough}
+use Rattle.layout.specs.Layout.{headAt, putHead, rows, place, rowAt, putRow, rowOctets, Sized, mostRows}
 use Rattle.table.specs.Table.{number, changeAt, changeBelow, changeWhere}
-use Rattle.table.proofs.Changes.{below-other, row-stays, row-changed, below-start, below-more, below-ended, below-all}
+use Rattle.table.proofs.Changes.{row-stays, row-changed, below-start, below-more, below-all}
 use Rattle.counters.specs.declared.SequenceNumber.{SequenceNumber}
 use Rattle.counters.specs.Numbers.{nextNumber}
 use Rattle.element.specs.declared.LostDestination.{LostDestination}

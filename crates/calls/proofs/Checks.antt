@@ -4,11 +4,10 @@ use mathlib.Core.Path.{_≡_, refl, sym, ap, ap₂, _∙_}
 use mathlib.Core.Bool.{Bool, true, false, not, _||_, cond}
 use mathlib.Core.List.{List, [], _∷_, _++_, append-nil}
 use lib.ListN.{length}
-use native.Mathlib.Omega.{arith}
 use borrow.Author.Tests.{eq-eqb, ne-eqb, lt-ltb, le-ltb, ltb-false, not-false}
 use Rattle.octets.proofs.Tests.{clash}
 use Rattle.octets.specs.LittleEndian.{overwrite}
-use Rattle.layout.specs.Layout.{sized, headOctets, Sized}
+use Rattle.layout.specs.Layout.{sized, Sized}
 use Rattle.table.proofs.Cases.{of-size}
 use Rattle.rules.specs.Decision.{Decision, refused, accepted, Check, Ruling, judged, decide}
 use Rattle.rules.specs.Checks.{bufferChecks}

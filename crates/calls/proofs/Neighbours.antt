@@ -6,7 +6,7 @@ use lib.ListN.{length}
 use Rattle.layout.specs.declared.address.Address.{Address}
 use Rattle.layout.specs.declared.row.Head.{Head}
 use Rattle.layout.specs.Row.{headWith}
-use Rattle.layout.specs.Layout.{headAt, putHead, headOctets, Sized}
+use Rattle.layout.specs.Layout.{headAt, putHead, Sized}
 use Rattle.table.specs.Table.{number}
 use Rattle.counters.specs.declared.SequenceNumber.{SequenceNumber}
 use Rattle.rules.specs.Checks.{operandChecks}

@@ -1,6 +1,6 @@
 -- Laws of the comparison: by the distance of two numbers, and inside a window of 2^31 consecutive numbers.
 use Prim.Native.Nat.{ℕ, _+_, _-_, _%_, _^_, _<_}
-use mathlib.Core.Path.{_≡_, refl, sym, ap, _∙_}
+use mathlib.Core.Path.{_≡_, refl, sym, _∙_}
 use mathlib.Core.Bool.{Bool, true, false, _&&_, cond, and-true, and-false}
 use lib.Dec.{ltb, leb}
 use lib.IntN.{pos, negsuc}

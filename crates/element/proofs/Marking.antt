@@ -8,7 +8,6 @@ use lib.ListN.{length, getD, set}
 use native.Mathlib.Omega.{arith}
 use borrow.Author.Tests.{eq-eqb, ne-eqb, eqb-true}
 use Rattle.layout.specs.declared.address.Address.{Address}
-use Rattle.layout.specs.Address.{same}
 use Rattle.layout.specs.Marks.{mark}
 use Rattle.layout.proofs.Marks.{Marked, marked-down, marked-none, unmarked}
 use Rattle.element.specs.declared.list.ListKind.{ListKind}

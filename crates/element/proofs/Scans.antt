@@ -15,9 +15,7 @@ use Rattle.layout.specs.declared.address.Address.{Address}
 use Rattle.layout.specs.Address.{same}
 use Rattle.element.specs.declared.list.ListKind.{ListKind}
 use Rattle.element.specs.declared.list.ListKind.the-variants.{Targets, Dependents, LostDestinations, Items}
-use Rattle.element.specs.declared.Item.{Item}
 use Rattle.element.specs.declared.LostDestination.{LostDestination}
-use Rattle.element.specs.declared.NumberedAddress.{NumberedAddress}
 use Rattle.element.specs.declared.Target.{Target}
 use Rattle.element.specs.Entries.{each, entriesIn, itemFrom, itemAt, lostFrom, lostAt, lostIn, numberedFrom, numberedAt, targetFrom, targetAt, targetsIn}
 use Rattle.element.specs.Layout.{beforeAddress, sizeOf}
@@ -230,15 +228,6 @@ module _ (k : ListKind) (part : List ℕ) (n : ℕ) (ne : n ≡ entriesIn k part
         unfolding addressesFrom
         contains-more = each-contains-more (addressIn k part) (entriesIn k part) i g entry-there a ae d
 
-      module _ (b : Bool) (be : b ≡ contains (addressesFrom k part (i + 1)) a) where
-        pub duplicate-found : b ≡ true → hasDuplicate (addressesFrom k part i) ≡ g → true ≡ g
-        unfolding addressesFrom
-        duplicate-found = each-duplicate-found (addressIn k part) (entriesIn k part) i g entry-there a ae b be
-
-        pub duplicate-more : b ≡ false → hasDuplicate (addressesFrom k part i) ≡ g → hasDuplicate (addressesFrom k part (i + 1)) ≡ g
-        unfolding addressesFrom
-        duplicate-more = each-duplicate-more (addressIn k part) (entriesIn k part) i g entry-there a ae b be
-
   module _ (l : n ≤ i) where
     all-passed : entriesIn k part ≤ i
     all-passed = rw (← ne) l
@@ -252,10 +241,6 @@ module _ (k : ListKind) (part : List ℕ) (n : ℕ) (ne : n ≡ entriesIn k part
     pub contains-ended : (d : Address) → contains (addressesFrom k part i) d ≡ g → false ≡ g
     unfolding addressesFrom
     contains-ended = each-contains-ended (addressIn k part) (entriesIn k part) i g all-passed
-
-    pub duplicate-ended : hasDuplicate (addressesFrom k part i) ≡ g → false ≡ g
-    unfolding addressesFrom
-    duplicate-ended = each-duplicate-ended (addressIn k part) (entriesIn k part) i g all-passed
 
 module _ (k : ListKind) (part : List ℕ) where
   pub ones-beside : (b : Bool) (n : ℕ) → b ≡ contains (addressesIn k part) allOnes → n ≡ entriesIn k part

@@ -5,7 +5,7 @@
 --   writeElement, writeFrame              the octets of an element, and of a frame
 --   fixedOctets, frameStart               those before the list
 use Prim.Native.Nat.{ℕ, _+_}
-use mathlib.Core.Bool.{Bool, _||_, not, cond}
+use mathlib.Core.Bool.{Bool, _||_, not}
 use mathlib.Core.List.{List, [], _∷_, _++_, flatMap}
 use lib.Dec.{eqb, ltb}
 use lib.ListN.{length, getD, drop}

@@ -1,6 +1,6 @@
 -- Marks of addresses that were met: an address whose mark is not set is none of them. The addresses go by index.
 use Prim.Native.Nat.{ℕ, _+_, _*_, _/_, _%_, _^_, _<_, _≤_}
-use lib.Bits.{bitAnd, and-le-r}
+use lib.Bits.{and-le-r}
 use mathlib.Core.Path.{_≡_, sym, _∙_}
 use mathlib.Core.List.{List}
 use lib.ListN.{length, getD, set}

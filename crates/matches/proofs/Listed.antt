@@ -22,7 +22,7 @@ use Rattle.element.proofs.Sizes.{frame-length}
 use Rattle.writing.proofs.Written.{lost-length, started-last}
 use Rattle.rules.specs.declared.Arrival.{Arrival}
 use Rattle.rules.specs.Errors.{matches}
-use Rattle.rules.specs.Lists.{any, filter}
+use Rattle.rules.specs.Lists.{filter}
 use Rattle.rules.specs.Onward.{toAll}
 use Rattle.rules.specs.Exit.{frameOctets}
 use Rattle.rules.proofs.Alls.{filter-fewer}

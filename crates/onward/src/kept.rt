@@ -9,8 +9,6 @@ ghost use mathlib.Core.List.{flatMap};
 ghost use Prim.Native.Nat.{_+_, _*_, _≤_};
 ghost use lib.ListN.{length};
 ghost use Rattle.octets.specs.LittleEndian.{overwrite};
-ghost use Rattle.element.specs.Layout.{PartOf};
-ghost use Rattle.element.specs.declared.Kind.{Kind};
 ghost use Rattle.element.specs.Entries.{targetOctets};
 ghost use Rattle.onward.specs.Kept.{keptAmong, keptIn, keptOctets, keptOf};
 ghost use Rattle.layout.specs.Layout.{Sized};

@@ -13,7 +13,7 @@ use Rattle.layout.specs.declared.row.Head.{Head}
 use Rattle.layout.specs.declared.row.Row.{Row}
 use Rattle.table.specs.declared.search.Found.{Found}
 use Rattle.table.specs.declared.search.Found.the-variants.{At, Nothing}
-use Rattle.layout.specs.Layout.{headAt, putHead, rowAt, headOctets, Sized}
+use Rattle.layout.specs.Layout.{headAt, putHead, rowAt, Sized}
 use Rattle.table.specs.Table.{own, findRow, rowFor}
 use Rattle.table.proofs.Cases.{row-at, row-none}
 use Rattle.element.specs.declared.Item.{Item}

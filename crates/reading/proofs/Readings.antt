@@ -3,10 +3,8 @@ use Prim.Native.Nat.{ℕ, _+_, _*_, _/_, _%_, _≤_}
 use mathlib.Core.Path.{_≡_, refl, sym, ap, ap₂, subst, _∙_}
 use mathlib.Core.Bool.{Bool, true, false, _&&_, cond, false≢true}
 use mathlib.Core.List.{List, [], _∷_}
-use lib.Dec.{eqb}
-use lib.ListN.{length, getD, drop, length-drop}
+use lib.ListN.{length, drop, length-drop}
 use native.Mathlib.Omega.{arith}
-use borrow.Author.Tests.{eqb-true, not-false}
 use Rattle.element.specs.declared.Kind.{Kind}
 use Rattle.element.specs.declared.Kind.the-variants.{Rann, Rreq, Rrep, Rerr}
 use Rattle.element.specs.declared.PathInfo.{PathInfo}
@@ -16,11 +14,10 @@ use Rattle.element.specs.declared.RerrFields.{RerrFields}
 use Rattle.reading.specs.declared.Reading.{Reading}
 use Rattle.reading.specs.declared.Reading.the-variants.{Announcement, Request, Reply, Error, Refused}
 use Rattle.element.specs.Element.{Element, rann, rreq, rrep, rerr}
-use Rattle.element.specs.Layout.{idOf, known, lengthWith, fewest, most, countOk, fits, entrySize, PartOf}
+use Rattle.element.specs.Layout.{lengthWith, countOk, entrySize, PartOf}
 use Rattle.element.specs.Entries.{lostIn, numberedIn, targetsIn}
 use Rattle.element.specs.Octets.{kindIn, countAs, wrongLength, otherId, misfit, fieldsAs, listAs, elementAs, readAs, readElement, listPart, writeElement}
 use Rattle.reading.specs.Reading.{fixedFields, reading}
-use Rattle.octets.proofs.Tests.{both}
 use Rattle.element.proofs.Lengths.{least-length, count-range}
 use Rattle.element.proofs.Passing.{Passed, passed}
 use Rattle.element.proofs.ReadBack.{Fits, passes-6, passes-7, passes-8, read-back}

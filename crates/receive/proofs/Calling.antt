@@ -4,7 +4,6 @@ use mathlib.Core.Path.{_≡_, refl, sym, ap, _∙_}
 use mathlib.Core.Bool.{Bool, true, false, cond, false≢true}
 use mathlib.Core.List.{List}
 use lib.ListN.{length}
-use native.Mathlib.Omega.{arith}
 use borrow.Author.Tests.{ltb-false}
 use Rattle.octets.proofs.Tests.{clash}
 use Rattle.element.specs.declared.PathInfo.{PathInfo}
@@ -28,7 +27,7 @@ use Rattle.calls.specs.declared.Answer.{Answer}
 use Rattle.calls.specs.declared.Answer.the-variants.{Accepted, Refused}
 use Rattle.calls.specs.Answers.{answerTo, exitOf}
 use Rattle.calls.proofs.Checks.{answer-passed, part-refused, part-decided, refusal, table-sized, output-long}
-use Rattle.layout.specs.Layout.{headOctets, Sized}
+use Rattle.layout.specs.Layout.{Sized}
 
 -- ---- the first checks
 

@@ -7,7 +7,7 @@ use mathlib.Core.Option.{some}
 use lib.Dec.{eqb, ltb}
 use lib.ListN.{length}
 use native.Mathlib.Omega.{arith}
-use borrow.Author.Tests.{ltb-false, eqb-false, not-false}
+use borrow.Author.Tests.{ltb-false, eqb-false}
 use Rattle.rules.specs.Learn.{Extends, maxMetric, metricHere, maxHops}
 use Rattle.layout.specs.declared.address.Address.{Address}
 use Rattle.element.specs.declared.PathInfo.{PathInfo}
@@ -16,15 +16,14 @@ use Rattle.element.specs.declared.RreqFields.{RreqFields}
 use Rattle.element.specs.declared.RrepFields.{RrepFields}
 use Rattle.element.specs.declared.RerrFields.{RerrFields}
 use Rattle.element.specs.declared.list.ListKind.the-variants.{Targets, LostDestinations}
-use Rattle.element.specs.Element.{Element, rann, rreq, rrep, rerr}
+use Rattle.element.specs.Element.{Element, rreq, rrep, rerr}
 use Rattle.element.specs.Entries.{lostIn, numberedIn, targetsIn}
 use Rattle.element.specs.Lists.{addressesIn, allOnes, anyForbidden, contains, hasDuplicate, onesBesideOthers}
 use Rattle.element.proofs.Scans.{addresses-many, target-addresses, lost-addresses}
 use Rattle.rules.specs.declared.Arrival.{Arrival}
 use Rattle.rules.specs.Decision.{Check, decide}
-use Rattle.rules.specs.Errors.{matches}
 use Rattle.element.specs.Flags.{unicast}
-use Rattle.rules.specs.Lists.{any, isSomeAnd}
+use Rattle.rules.specs.Lists.{isSomeAnd}
 use Rattle.rules.specs.Exit.{lend, atExit}
 use Rattle.rules.specs.Receive.{pathOf, targetAddresses, hasBadAddress, hasBadList, severalOrAll, isLowTtlReply, fieldChecks, matchesNothing, judging}
 use Rattle.rules.proofs.Rulings.{listed, Passed, passed-check}

@@ -9,7 +9,6 @@ use native.Mathlib.Omega.{arith}
 use native.Mathlib.Nat.{mul-zero, mul-suc}
 use borrow.Author.Tests.{leb-true, not-false}
 use Rattle.octets.specs.LittleEndian.{Octets}
-use Rattle.layout.specs.declared.address.Address.{Address}
 use Rattle.layout.specs.declared.row.Row.{Row}
 use Rattle.layout.specs.Layout.{sized, rows, rowAt}
 use Rattle.table.specs.Table.{number}

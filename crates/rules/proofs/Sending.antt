@@ -1,10 +1,10 @@
 -- Every element that a call emits fits its octets and has as many entries as it may have.
 use Prim.Native.Nat.{ℕ, _+_, _-_, _*_, _/_, _^_, _<_, _≤_}
 use mathlib.Core.Path.{_≡_, refl}
-use mathlib.Core.Bool.{Bool, true}
+use mathlib.Core.Bool.{Bool}
 use mathlib.Core.List.{List, [], _∷_}
 use mathlib.Core.Option.{Option, none, some}
-use lib.Dec.{eqb, leb}
+use lib.Dec.{eqb}
 use lib.ListN.{length, take, drop, length-append, length-take, length-drop}
 use native.Mathlib.Omega.{arith}
 use borrow.Author.Tests.{le-leb}
@@ -17,7 +17,7 @@ use Rattle.counters.specs.Numbers.{nextNumber}
 use Rattle.layout.specs.declared.address.Address.{Address}
 use Rattle.layout.specs.declared.row.Row.{Row}
 use Rattle.layout.specs.Address.{same}
-use Rattle.layout.specs.Row.{invalidated, raised, isThrough}
+use Rattle.layout.specs.Row.{invalidated, raised}
 use Rattle.layout.specs.Layout.{rows, rowAt}
 use Rattle.table.specs.Table.{own, rowFor}
 use Rattle.layout.proofs.HeadAndRows.{FitRow, row-fits}

@@ -13,8 +13,7 @@ use Rattle.layout.specs.declared.address.Address.{Address}
 use Rattle.layout.specs.declared.row.Head.{Head}
 use Rattle.layout.specs.declared.row.Row.{Row}
 use Rattle.table.specs.declared.search.Found.{Found}
-use Rattle.layout.specs.Address.{individual, same}
-use Rattle.layout.specs.Row.{headOk, isFree, isUnnumbered, isOther, statusOk, boundsOk, isHeld, rowOk, isThrough, active}
+use Rattle.layout.specs.Row.{headOk, isFree, statusOk, isHeld, rowOk, active}
 use Rattle.layout.specs.Layout.{headOctets, rowOctets, mostRows, place, sized, Sized, rows, allZero, rowAt, headAt, putRow}
 use Rattle.table.specs.declared.search.Found.the-variants.{At, Nothing}
 use Rattle.table.proofs.Places.{first-below}

@@ -4,7 +4,7 @@
 --   afterCall, happen, run, throughout    the mesh after a call, an event and a list of them; a test passed all along
 --   validNext, nextAt, met                the next hop of a valid row, and the points that a walk along those meets
 use Prim.Native.Nat.{ℕ, zero, suc, _+_, _*_}
-use mathlib.Core.Bool.{Bool, true, false, _&&_, cond}
+use mathlib.Core.Bool.{Bool, _&&_, cond}
 use mathlib.Core.List.{List, [], _∷_, _++_, map}
 use mathlib.Core.Option.{Option, none, some}
 use lib.Dec.{eqb}

@@ -13,7 +13,7 @@ use Rattle.octets.specs.LittleEndian.{numberAt}
 use Rattle.layout.specs.declared.address.Address.{Address}
 use Rattle.layout.specs.Address.{addressOf}
 use Rattle.layout.specs.declared.row.Head.{Head}
-use Rattle.layout.specs.Layout.{sized, headAt, headOctets, Sized}
+use Rattle.layout.specs.Layout.{sized, headAt, Sized}
 use Rattle.table.specs.Table.{clock, isTable}
 use Rattle.octets.proofs.Tests.{both}
 use Rattle.table.proofs.Cases.{of-size}

@@ -1,5 +1,4 @@
 -- `table::legal::is_sized` meets its contract: by check 1 without a subtraction.
-use borrow.Author.Needs.{needs}
 use Rattle.table.proofs.Cases.{size-is}
 use Rattle.table.proofs.legal.is_sized.Statement.{statement}
 use Rattle.table.proofs.legal.is_sized.Tie as tie
