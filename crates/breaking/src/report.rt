@@ -45,7 +45,7 @@ fn report_row(
     errors::add(output, before, LostDestination { address, number })
 }
 
-// The same for the n first rows, from place at on.
+// Reports those of the n first rows that lead through the neighbour, from place at on.
 fn report_rows(
     output: &mut [u8],
     at: usize,

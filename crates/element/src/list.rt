@@ -205,6 +205,7 @@ fn has_duplicate_by_marks(part: &[u8], kind: ListKind, seen: &mut [u8], last: us
     false
 }
 
+// Clears no marks where the list has one address.
 pub fn has_duplicate(part: &[u8], kind: ListKind) -> bool
     ensures { λ r. ⌜ r ≡ hasDuplicate (addressesIn kind (now (part .entry))) ⌝ }
 {

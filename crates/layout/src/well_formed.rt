@@ -1,4 +1,4 @@
-// Whether a head and a row are as refusal 21 asks it.
+// Tests of a head and of a row: what refusal 21 asks of each alone.
 use crate::address::Address;
 use crate::row::Head;
 use crate::row::MAX_CLOCK;

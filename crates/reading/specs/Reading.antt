@@ -7,13 +7,14 @@ use Rattle.element.specs.Octets.{wrongLength, otherId, misfit, readElement}
 use Rattle.reading.specs.declared.Reading.{Reading}
 use Rattle.reading.specs.declared.Reading.the-variants.{Announcement, Request, Reply, Error, Refused}
 
--- a refusal, or the fixed fields; the list part stays where it is
+-- the fixed fields of an element that is not refused; its list part stays where it lies
 abbrev pub fixedFields : Element → Reading
 fixedFields (rann p) = Announcement p
 fixedFields (rreq f targets) = Request f
 fixedFields (rrep f dependents) = Reply f
 fixedFields (rerr f destinations) = Error f
 
+-- the first refusal of 6 to 8 that applies, or the fixed fields
 unfoldable pub reading : List ℕ → Reading
 reading s =
     cond (wrongLength s) (Refused 6)

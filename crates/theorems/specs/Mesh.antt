@@ -66,7 +66,7 @@ withBox a k (l ∷ boxes) = cond (same (own (l .table)) a) (k ∷ boxes) (l ∷ 
 
 -- What a point does. `delivers`: it receives the element at a place of the log, counted from 0, with the point that sent it as
 -- transmitter; places come in any order, some often, some never. `makes`: it asks, announces, sends a root request or reports a
--- broken neighbour. `readsOnly` is any call that writes no table: a next hop or a walk, whose outcomes have none.
+-- broken neighbour. `readsOnly` is any call that writes no table: a next hop or a walk, whose decisions have none.
 pub data Action : Type 0 where
   delivers : (place clock : ℕ) → (link : Metric) → Action
   makes : OwnCall → Action

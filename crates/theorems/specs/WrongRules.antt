@@ -30,9 +30,9 @@ withCheck n test r =
       otherwise = r .otherwise;
     }
 
--- another outcome where no check applies
-abbrev pub withOutcome : {A : Type 0} → A → Ruling A → Ruling A
-withOutcome a r = record { checks = r .checks; otherwise = a }
+-- another effect where no check applies
+abbrev pub withEffect : {A : Type 0} → A → Ruling A → Ruling A
+withEffect a r = record { checks = r .checks; otherwise = a }
 
 -- other rulings for receive and break
 unfoldable pub ruledBy :
@@ -58,7 +58,7 @@ abbrev pub breakingBy : (Row → Row) → Lent → ℕ → ℕ → Address → R
 breakingBy f l room c neighbour =
     let t : List ℕ = l .table in
     let u : List ℕ = changeWhere (isThrough c neighbour) f t in
-    withOutcome
+    withEffect
     (record { lent = withTable (underHead t (number t) c u) l; frames = brokenOff l c (isThrough c neighbour) .frames })
     (breaking l room c neighbour)
 
