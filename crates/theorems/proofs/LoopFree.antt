@@ -5,10 +5,11 @@ use mathlib.Core.Bool.{Bool, true, false, and-eq-true-iff}
 use mathlib.Core.List.{List, [], _∷_, _++_, flatMap, List·Memᴰ, List·Memᴰ·head, List·Memᴰ·tail, List·Memᴰ·not-nil, List·Memᴰ·cases-cons}
 use mathlib.Core.Option.{Option, none, some, Option·none-ne-some, Option·some-injective}
 use mathlib.Core.Logic.{⊎-elim}
-use lib.Dec.{eqb}
+use lib.Dec.{eqb, ltb}
 use lib.ListN.{getElem?}
 use borrow.Author.Tests.{ltb-true}
 use Rattle.octets.specs.LittleEndian.{Octets}
+use Rattle.octets.proofs.OctetLists.{octets-nil, octets-cons}
 use Rattle.counters.specs.declared.Metric.{Metric}
 use Rattle.layout.specs.declared.address.Address.{Address}
 use Rattle.layout.specs.declared.row.Row.{Row}
@@ -24,13 +25,12 @@ use Rattle.element.proofs.ReadBack.{Fits, octets-written}
 use Rattle.rules.specs.Decision.{Decision, refused, accepted}
 use Rattle.rules.specs.Lists.{all}
 use Rattle.rules.specs.Exit.{Frame, Lent, Effect}
-use Rattle.rules.specs.Calls.{Call, decision, OperandsFit}
+use Rattle.rules.specs.Calls.{OwnCall, asks, announces, requestsAsRoot, breaks, Call, decision, OwnOperandsFit, OperandsFit}
 use Rattle.rules.proofs.Branches.{cond-cases}
 use Rattle.rules.proofs.Alls.{all-append, all-map}
 use Rattle.rules.proofs.CallsKeep.{Kept, call-kept}
-use Rattle.theorems.specs.Mesh.{Point, Sent, Mesh, freshTable, start, boxOf, withBox, Action, delivers, makes, readsOnly, Event, deliveryOf, callOf, sentBy, afterCall, calls, happen, run, throughout, met}
+use Rattle.theorems.specs.Mesh.{Point, Sent, Mesh, freshTable, start, boxOf, withBox, Action, delivers, makes, findsNextHop, walks, Event, ownCallFits, actionFits, eventFits, deliveryOf, callOf, sentBy, afterCall, calls, happen, run, throughout, met}
 use Rattle.theorems.specs.Premise.{beside, knownIn, held, heldByAll, numbersFor, isWithin, allWithin}
-use Rattle.theorems.specs.Statements.{ActionFits}
 use Rattle.theorems.proofs.Boxes.{box-own, box-listed}
 use Rattle.theorems.proofs.Invariant.{Near, rowOf, rowAt, RowAt, row-at, Inv, all-at, inv-after}
 use Rattle.theorems.proofs.Walks.{no-duplicate}
@@ -157,11 +157,30 @@ delivery-made log fits place c link (some s) at call is =
     let k : List·Memᴰ s log = logged log place s at in
     subst (Made log) (Option·some-injective _ call is) (record { fit = all-at SentFits log fits k; from = (s, k, refl, refl) })
 
-made : (log : List Sent) → All SentFits log → (action : Action) → ActionFits action → (call : Call) → callOf log action ≡ some call → Made log call
-unfolding callOf
+items-octets : (items : List ℕ) → all (λ octet. ltb octet 256) items ≡ true → Octets items
+unfolding all
+items-octets [] h = octets-nil
+items-octets (x ∷ items) h =
+    let both = and-eq-true-iff (ltb x 256) (all (λ octet. ltb octet 256) items) .0 h in
+    octets-cons x items (ltb-true x 256 (both .0)) (items-octets items (both .1))
+
+own-operands : (call : OwnCall) → ownCallFits call ≡ true → OwnOperandsFit call
+unfolding ownCallFits
+own-operands (asks lifetime items) h =
+    let both = and-eq-true-iff (ltb lifetime (256 ^ 4)) (all (λ octet. ltb octet 256) items) .0 h in
+    (ltb-true lifetime (256 ^ 4) (both .0), items-octets items (both .1))
+own-operands (announces flags lifetime) h = ltb-true lifetime (256 ^ 4) h
+own-operands (requestsAsRoot flags lifetime) h = ltb-true lifetime (256 ^ 4) h
+own-operands (breaks c neighbour) h = tt
+
+made : (log : List Sent) → All SentFits log → (action : Action) → actionFits action ≡ true → (call : Call) → callOf log action ≡ some call
+    → Made log call
+unfolding callOf actionFits
 made log fits (delivers place c link) fit call is = delivery-made log fits place c link (getElem? log place) refl call is
-made log fits (makes own-call) fit call is = subst (Made log) (Option·some-injective _ call is) (record { fit = fit; from = tt })
-made log fits readsOnly fit call is = absurd (Option·none-ne-some call is)
+made log fits (makes own-call) fit call is =
+    subst (Made log) (Option·some-injective _ call is) (record { fit = own-operands own-call fit; from = tt })
+made log fits (findsNextHop c d) fit call is = absurd (Option·none-ne-some call is)
+made log fits (walks c from d) fit call is = absurd (Option·none-ne-some call is)
 
 module _ (d : Address) (base : ℕ) (small : base < 2 ^ 32) where
   record Good (m : Mesh) : Type 0 where
@@ -189,7 +208,7 @@ module _ (d : Address) (base : ℕ) (small : base < 2 ^ 32) where
               (near-at d base (afterCall m a (accepted e)) sane′ within′ a);
         }
 
-  happens : (m : Mesh) (e : Event) → ActionFits (e .action) → Good m → allWithin d base m ≡ true → allWithin d base (happen decision m e) ≡ true
+  happens : (m : Mesh) (e : Event) → eventFits e ≡ true → Good m → allWithin d base m ≡ true → allWithin d base (happen decision m e) ≡ true
       → Good (happen decision m e)
   unfolding happen
   happens m e fit good within within′ = go (boxOf (e .point) (m .boxes)) refl (callOf (m .log) (e .action)) refl within′
@@ -204,23 +223,24 @@ module _ (d : Address) (base : ℕ) (small : base < 2 ^ 32) where
 
   -- ---- a list of events
 
-  at-first : (m : Mesh) (events : List Event) → throughout decision (allWithin d base) m events ≡ true → allWithin d base m ≡ true
+  at-first : (m : Mesh) (events : List Event) → throughout (happen decision) (allWithin d base) m events ≡ true → allWithin d base m ≡ true
   unfolding throughout
   at-first m [] h = h
-  at-first m (e ∷ events) h = and-eq-true-iff (allWithin d base m) (throughout decision (allWithin d base) (happen decision m e) events) .0 h .0
+  at-first m (e ∷ events) h = and-eq-true-iff (allWithin d base m) (throughout (happen decision) (allWithin d base) (happen decision m e) events) .0 h .0
 
-  runs : (m : Mesh) (events : List Event) → All (λ (e : Event). ActionFits (e .action)) events → Good m
-      → throughout decision (allWithin d base) m events ≡ true → Good (run decision m events)
-  unfolding run throughout All
+  runs : (m : Mesh) (events : List Event) → all eventFits events ≡ true → Good m
+      → throughout (happen decision) (allWithin d base) m events ≡ true → Good (run (happen decision) m events)
+  unfolding run throughout all
   runs m [] fit good within = good
   runs m (e ∷ events) fit good within =
-      let both = and-eq-true-iff (allWithin d base m) (throughout decision (allWithin d base) (happen decision m e) events) .0 within in
-      runs (happen decision m e) events (fit .1)
-      (happens m e (fit .0) good (both .0) (at-first (happen decision m e) events (both .1))) (both .1)
+      let both = and-eq-true-iff (allWithin d base m) (throughout (happen decision) (allWithin d base) (happen decision m e) events) .0 within in
+      let fits = and-eq-true-iff (eventFits e) (all eventFits events) .0 fit in
+      runs (happen decision m e) events (fits .1)
+      (happens m e (fits .0) good (both .0) (at-first (happen decision m e) events (both .1))) (both .1)
 
-  pub loop-free : (points : List Point) (events : List Event) → All (λ (e : Event). ActionFits (e .action)) events
-      → throughout decision (allWithin d base) (start points) events ≡ true
-      → (hops : ℕ) (a : Address) → hasDuplicate (met (run decision (start points) events) d hops a) ≡ false
+  pub loop-free : (points : List Point) (events : List Event) → all eventFits events ≡ true
+      → throughout (happen decision) (allWithin d base) (start points) events ≡ true
+      → (hops : ℕ) (a : Address) → hasDuplicate (met (run (happen decision) (start points) events) d hops a) ≡ false
   loop-free points events fit within =
-      no-duplicate d base (run decision (start points) events)
+      no-duplicate d base (run (happen decision) (start points) events)
       (runs (start points) events fit (record { sane = sane-start points; inv = begins d base points }) within .inv)

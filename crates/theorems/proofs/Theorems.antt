@@ -1,12 +1,6 @@
 -- The theorems about the rules of document 01: the statements are in `specs/Statements.antt`.
-use Prim.Native.Nat.{_^_, _<_}
 use mathlib.Core.Path.{refl}
-use mathlib.Core.List.{_∷_}
-use native.Mathlib.Omega.{arith}
-use Rattle.octets.specs.LittleEndian.{numberOctets, Octets}
-use Rattle.octets.proofs.OctetLists.{octets-cons, octets-of-number}
 use Rattle.table.proofs.WellFormed.{true-not-false, false-of, legal-is}
-use Rattle.element.specs.Entries.{All}
 use Rattle.element.specs.Octets.{writeElement}
 use Rattle.element.proofs.ReadBack.{Fits, read-back, passes-6, passes-7, passes-8}
 use Rattle.rules.specs.Exit.{Frame}
@@ -19,12 +13,11 @@ use Rattle.rules.proofs.CallsKeep.{Kept, call-kept}
 use Rattle.rules.proofs.Room.{call-room}
 use Rattle.rules.proofs.Hops.{walk-hops}
 use Rattle.rules.proofs.StaysTable.{fresh-stays, forget-stays}
-use Rattle.theorems.specs.Statements.{EdgesHold, ErrorsShutOut, StaysTable, FreshIsTable, ForgetStaysTable, HasRoom, ReadsAs, ReadsBack, HopsAtMost, ActionFits, LoopFree, NotVacuous, Sharp, ElseTheRules, NeedsPremise}
-use Rattle.theorems.specs.Mesh.{Event}
+use Rattle.theorems.specs.Statements.{EdgesHold, ErrorsShutOut, StaysTable, FreshIsTable, ForgetStaysTable, HasRoom, ReadsAs, ReadsBack, HopsAtMost, LoopFree, NotVacuous, Sharp, ElseTheRules, NeedsPremise}
 use Rattle.theorems.specs.WrongRules.{ruledBy}
-use Rattle.theorems.specs.Runs.{D, endOf, way, outside, outsideLoops}
+use Rattle.theorems.specs.Runs.{endOf, way, outside, outsideLoops}
 use Rattle.theorems.proofs.AllEdges.{all-edges, all-shut-out}
-use Rattle.theorems.proofs.Computed.{runs-as-worked, wrong-rules-loop, outside-loops}
+use Rattle.theorems.proofs.Computed.{runs-as-worked, wrong-rules-loop, outside-points-fit, outside-events-fit, outside-loops}
 use Rattle.theorems.proofs.LoopFree
 
 pub p1-to-p8 : EdgesHold
@@ -62,7 +55,7 @@ pub hops-at-most : HopsAtMost
 hops-at-most = walk-hops
 
 pub loop-free : LoopFree
-loop-free points _ _ events fit d base small within a hops = LoopFree.loop-free d base small points events fit within hops a
+loop-free points _ events fit d base small within a hops = LoopFree.loop-free d base small points events fit within hops a
 
 pub not-vacuous : NotVacuous
 not-vacuous = runs-as-worked
@@ -78,22 +71,13 @@ else-the-rules l room (makes (announces flags lifetime)) = refl
 else-the-rules l room (makes (requestsAsRoot flags lifetime)) = refl
 else-the-rules l room (makes (breaks c neighbour)) = refl
 
-outside-fits : All (λ (e : Event). ActionFits (e .action)) (outside .events)
-unfolding All
-outside-fits =
-    (lifetime, (tt, (tt, ((lifetime, items), (tt, (tt, (lifetime, (lifetime, (tt, (tt, tt))))))))))
-  where
-    lifetime : 1000 < 256 ^ 4
-    lifetime = omega arith
-
-    items : Octets (1 ∷ numberOctets 6 (D .0))
-    items = octets-cons 1 (numberOctets 6 (D .0)) (omega arith) (octets-of-number 6 (D .0))
-
 pub needs-its-premise : NeedsPremise
 unfolding outsideLoops way endOf
 needs-its-premise = (
+  outside-points-fit,
+  outside-events-fit,
   outside-loops,
   λ base small. false-of _ (λ within.
-      let no-loop = LoopFree.loop-free (outside .destination) base small (outside .points) (outside .events) outside-fits within in
+      let no-loop = LoopFree.loop-free (outside .destination) base small (outside .points) (outside .events) outside-events-fit within in
       true-not-false outside-loops (no-loop _ _)),
 )

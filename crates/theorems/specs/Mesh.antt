@@ -1,25 +1,28 @@
 -- A mesh: points with what they lend to their calls, the elements that they have sent, and lists of calls. What is defined here:
 --   Point, Sent, Mesh, start              a point, an element sent, all boxes with the log, and the mesh at first
---   Action, Event, callOf                 what a point does, and the call that it makes
+--   Action, Event, callOf, walkOver       what a point does, the call that may write its table, and a walk over all tables
+--   pointsFit, eventFits                  what the demand asks of points and of operands
 --   afterCall, happen, run, throughout    the mesh after a call, an event and a list of them; a test passed all along
 --   validNext, nextAt, met                the next hop of a valid row, and the points that a walk along those meets
-use Prim.Native.Nat.{ℕ, zero, suc, _+_, _*_}
-use mathlib.Core.Bool.{Bool, _&&_, cond}
-use mathlib.Core.List.{List, [], _∷_, _++_, map}
+use Prim.Native.Nat.{ℕ, zero, suc, _+_, _*_, _^_}
+use mathlib.Core.Bool.{Bool, true, _&&_, not, cond}
+use mathlib.Core.List.{List, [], _∷_, _++_, map, flatMap}
 use mathlib.Core.Option.{Option, none, some}
-use lib.Dec.{eqb}
-use lib.ListN.{getElem?}
+use lib.Dec.{eqb, leb, ltb}
+use lib.ListN.{getElem?, length}
 use Rattle.counters.specs.declared.SequenceNumber.{SequenceNumber}
 use Rattle.counters.specs.declared.Metric.{Metric}
 use Rattle.layout.specs.declared.address.Address.{Address}
 use Rattle.layout.specs.declared.row.Row.{Row}
-use Rattle.layout.specs.Address.{same}
+use Rattle.layout.specs.Address.{individual, same}
 use Rattle.table.specs.Table.{own, rowFor, fresh}
 use Rattle.element.specs.Octets.{writeElement}
-use Rattle.rules.specs.Lists.{isSome}
+use Rattle.element.specs.Lists.{hasDuplicate}
+use Rattle.rules.specs.Lists.{all, isSome}
 use Rattle.rules.specs.Decision.{Decision, refused, accepted}
 use Rattle.rules.specs.Exit.{Frame, Lent, lend, Effect}
-use Rattle.rules.specs.Calls.{OwnCall, Call}
+use Rattle.rules.specs.Calls.{OwnCall, asks, announces, requestsAsRoot, breaks, Call}
+use Rattle.rules.specs.Walk.{Walked, walk}
 
 -- ---- points, and what they have sent
 
@@ -66,11 +69,12 @@ withBox a k (l ∷ boxes) = cond (same (own (l .table)) a) (k ∷ boxes) (l ∷ 
 
 -- What a point does. `delivers`: it receives the element at a place of the log, counted from 0, with the point that sent it as
 -- transmitter; places come in any order, some often, some never. `makes`: it asks, announces, sends a root request or reports a
--- broken neighbour. `readsOnly` is any call that writes no table: a next hop or a walk, whose decisions have none.
+-- broken neighbour. The others write no table: it finds a next hop, or walks over the tables of all points as they then are.
 pub data Action : Type 0 where
   delivers : (place clock : ℕ) → (link : Metric) → Action
   makes : OwnCall → Action
-  readsOnly : Action
+  findsNextHop : (clock : ℕ) → (destination : Address) → Action
+  walks : (clock : ℕ) → (from destination : Address) → Action
 
 -- one call of the list: the address of the point that makes it, the length of its output, and what it does
 pub record Event : Type 0 where
@@ -83,11 +87,50 @@ abbrev pub deliveryOf : ℕ → Metric → Option Sent → Option Call
 deliveryOf c link none = none
 deliveryOf c link (some s) = some (Call.receives (record { clock = c; transmitter = s .sender; link = link }) (s .octets))
 
--- the call that an action is; none for `readsOnly`, and for a place of the log where nothing stands
+-- The call that may write the table of the point; none where nothing stands at the place of the log. A next hop and a walk write
+-- none: what they come to, `nextHop` and `walk` of crate `rules`, has no table to leave.
 unfoldable pub callOf : List Sent → Action → Option Call
 callOf log (delivers place c link) = deliveryOf c link (getElem? log place)
 callOf log (makes call) = some (Call.makes call)
-callOf log readsOnly = none
+callOf log (findsNextHop c d) = none
+callOf log (walks c from d) = none
+
+-- what a walk comes to, over the tables of all points side by side in their order
+unfoldable pub walkOver : Mesh → ℕ → Address → Address → Decision Walked
+walkOver m c from d = walk (flatMap (λ (l : Lent). l .table) (m .boxes)) (length (m .boxes)) c from d
+
+-- ---- points and operands as the demand has them
+
+-- an individual address of six octets, any own number of four, 1 to 128 rows
+unfoldable pub pointFits : Point → Bool
+pointFits p =
+    individual (p .address) && ltb (p .address .0) (256 ^ 6)
+    && ltb (p .number .0) (256 ^ 4) && leb 1 (p .rows) && leb (p .rows) 128
+
+-- each point fits, and no address is there twice
+unfoldable pub pointsFit : List Point → Bool
+pointsFit points = all pointFits points && not (hasDuplicate (map (λ (p : Point). p .address) points))
+
+-- operands are what C's types can hold: a lifetime has 32 bits, an octet is below 256; all else is free
+abbrev pub lifetimeFits : ℕ → Bool
+lifetimeFits lifetime = ltb lifetime (256 ^ 4)
+
+unfoldable pub ownCallFits : OwnCall → Bool
+ownCallFits (asks lifetime items) = lifetimeFits lifetime && all (λ octet. ltb octet 256) items
+ownCallFits (announces flags lifetime) = lifetimeFits lifetime
+ownCallFits (requestsAsRoot flags lifetime) = lifetimeFits lifetime
+ownCallFits (breaks c neighbour) = true
+
+unfoldable pub actionFits : Action → Bool
+actionFits (delivers place c link) = true
+actionFits (makes call) = ownCallFits call
+actionFits (findsNextHop c d) = true
+actionFits (walks c from d) = true
+
+abbrev pub eventFits : Event → Bool
+eventFits e = actionFits (e .action)
+
+-- ---- a list of calls
 
 -- the elements of the frames that the point a emits
 unfoldable pub sentBy : Address → List Frame → List Sent
@@ -114,15 +157,17 @@ module _ (rules : Rules) where
   unfoldable pub happen : Mesh → Event → Mesh
   happen m e = calls m e (boxOf (e .point) (m .boxes)) (callOf (m .log) (e .action))
 
+-- Events one after another; `happens` says what a mesh is after an event: under the rules, `happen decision`.
+module _ {K : Type 0} (happens : Mesh → K → Mesh) where
   -- a list of events, from first to last
-  unfoldable pub run : Mesh → List Event → Mesh
+  unfoldable pub run : Mesh → List K → Mesh
   run m [] = m
-  run m (e ∷ events) = run (happen m e) events
+  run m (e ∷ events) = run (happens m e) events
 
   -- the test is passed at first and after each event
-  unfoldable pub throughout : (Mesh → Bool) → Mesh → List Event → Bool
+  unfoldable pub throughout : (Mesh → Bool) → Mesh → List K → Bool
   throughout test m [] = test m
-  throughout test m (e ∷ events) = test m && throughout test (happen m e) events
+  throughout test m (e ∷ events) = test m && throughout test (happens m e) events
 
 -- ---- the walk of demand 3, along valid rows, expired or not (that of document 01, `walk` in crate `rules`, goes along rows
 -- that are active at a clock, and counts hops)

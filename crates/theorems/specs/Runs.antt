@@ -1,27 +1,30 @@
--- Runs as data, and what is shown of them by computation: two within the premise of demand 3 that find their ways, five under
--- wrong rules that loop, and one outside the premise that loops under the rules. In comments a row for D is written
+-- Runs as data, and what is shown of them by computation: two as demand 3 asks that find their ways, and lists that loop: five
+-- under wrong rules, and one outside the premise. In comments a row for D is written
 -- number/metric via next hop, 'largest' is 4,294,967,295, and elements are named by their place in the log. What is defined here:
 --   _gets_over_at_, _asks-for_lasting_, ..        events, in words
 --   Run                                           points, events and a destination
---   isWithinWindow, endOf, way, walked, lines     the premise for a run, its last mesh, the walks there, and the bench's lines
+--   way, endOf, asDemanded, goesRound             its walk and last mesh, all that the demand asks of it, and whether it then loops
+--   lines                                         the bench's lines for it
 --   workedCase, worked; roundZero, wentRound      the two that find their ways, and the tests that they pass
 --   Counterexample, loops, counterexamples        those under wrong rules
 --   outside, outsideLoops                         the one outside the premise
 use Prim.Native.Nat.{ℕ, _+_, _-_, _*_, _^_}
 use mathlib.Core.Bool.{Bool, true, false, _&&_}
-use mathlib.Core.List.{List, [], _∷_, map, flatMap}
+use mathlib.Core.List.{List, [], _∷_, _++_, map}
 use mathlib.Core.Option.{Option, none, some}
-use lib.Dec.{eqb}
+use lib.Dec.{eqb, ltb}
 use lib.ListN.{length, take}
 use Rattle.octets.specs.LittleEndian.{numberOctets}
 use Rattle.counters.specs.declared.SequenceNumber.{SequenceNumber}
 use Rattle.layout.specs.declared.address.Address.{Address}
 use Rattle.layout.specs.Address.{same}
 use Rattle.element.specs.Lists.{hasDuplicate}
-use Rattle.rules.specs.Decision.{Decision, refused}
+use Rattle.rules.specs.Lists.{all}
+use Rattle.rules.specs.Decision.{Decision, refused, accepted}
 use Rattle.rules.specs.Exit.{Lent, lend, Effect, Exit, atExit, leastOutput}
+use Rattle.rules.specs.NextHop.{nextHop}
 use Rattle.rules.specs.Calls.{Call, asks, announces, requestsAsRoot, breaks, decision}
-use Rattle.rules.specs.Walk.{Walked, walkedAtExit, walk}
+use Rattle.rules.specs.Walk.{Walked, walkedAtExit}
 use Rattle.theorems.specs.Mesh.{
   Rules,
   Point,
@@ -31,8 +34,13 @@ use Rattle.theorems.specs.Mesh.{
   Action,
   delivers,
   makes,
+  findsNextHop,
+  walks,
   Event,
   callOf,
+  walkOver,
+  pointsFit,
+  eventFits,
   happen,
   run,
   throughout,
@@ -95,18 +103,28 @@ infix 70 _loses_
 abbrev pub _loses_ : Address → Address → Event
 _loses_ p q = does p (makes (breaks 0 q))
 
+-- p finds its next hop to q, at clock 0
+infix 70 _seeks_
+abbrev pub _seeks_ : Address → Address → Event
+_seeks_ p q = does p (findsNextHop 0 q)
+
+-- a walk from p to q over the tables of all points, at clock 0
+infix 70 _walks-to_
+abbrev pub _walks-to_ : Address → Address → Event
+_walks-to_ p q = does p (walks 0 p q)
+
 -- ---- a run, and what is to be seen of it
 
 -- points and events, a destination with the base of its window, and where a walk towards it starts
-pub record Run : Type 0 where
+pub record Run (K : Type 0) : Type 0 where
   pub points : List Point
-  pub events : List Event
+  pub events : List K
   pub destination : Address
   pub base : ℕ
   pub from : Address
 
 -- A, B, C, D and E, each with 3 rows, of which D starts with the number n and the others with 0, and a walk from A to D
-abbrev pub towardsD : (n base : ℕ) → List Event → Run
+abbrev pub towardsD : {K : Type 0} → (n base : ℕ) → List K → Run K
 towardsD n base events =
     record {
       points = pointWith 3 0 A ∷ pointWith 3 0 B ∷ pointWith 3 0 C ∷ pointWith 3 n D ∷ pointWith 3 0 E ∷ [];
@@ -116,49 +134,66 @@ towardsD n base events =
       from = A;
     }
 
--- the premise of demand 3 for this destination
-unfoldable pub isWithinWindow : Rules → Run → Bool
-isWithinWindow rules r = throughout rules (allWithin (r .destination) (r .base)) (start (r .points)) (r .events)
-
--- the mesh after the first k events, and after all
-unfoldable pub after : ℕ → Rules → Run → Mesh
-after k rules r = run rules (start (r .points)) (take k (r .events))
-
-unfoldable pub endOf : Rules → Run → Mesh
-endOf rules r = run rules (start (r .points)) (r .events)
-
--- the points of a mesh that the walk of demand 3 meets, in as many hops as there are points
-unfoldable pub way : Run → Mesh → List Address
+-- the points that the walk of demand 3 meets in a mesh, in as many hops as there are points
+unfoldable pub way : {K : Type 0} → Run K → Mesh → List Address
 way r m = met m (r .destination) (length (r .points)) (r .from)
 
--- the walk of document 01 in a mesh, at clock 0: its answer and hops
-abbrev pub walkLine : Walked → List ℕ
-walkLine w = w .answer ∷ w .hops ∷ []
+-- a run by events that change a mesh like this
+module _ {K : Type 0} (happens : Mesh → K → Mesh) where
+  -- the mesh after the first k events, and after all
+  unfoldable pub after : ℕ → Run K → Mesh
+  after k r = run happens (start (r .points)) (take k (r .events))
 
-unfoldable pub walked : Run → Mesh → List ℕ
-walked r m =
-    let tables : List ℕ = flatMap (λ (l : Lent). l .table) (m .boxes) in
-    walkLine (walkedAtExit (walk tables (length (r .points)) 0 (r .from) (r .destination)))
+  unfoldable pub endOf : Run K → Mesh
+  endOf r = run happens (start (r .points)) (r .events)
+
+  -- all that demand 3 asks: of the points, of the operands by the test `fits`, and its premise for the destination
+  unfoldable pub asDemanded : (K → Bool) → Run K → Bool
+  asDemanded fits r =
+      pointsFit (r .points) && all fits (r .events)
+      && ltb (r .base) (2 ^ 32) && throughout happens (allWithin (r .destination) (r .base)) (start (r .points)) (r .events)
+
+  -- the run is as demanded, and its walk meets a point twice
+  unfoldable pub goesRound : (K → Bool) → Run K → Bool
+  goesRound fits r = asDemanded fits r && hasDuplicate (way r (endOf r))
 
 -- the numbers for the destination that the tables of a mesh hold
-unfoldable pub heldIn : Run → Mesh → List ℕ
+unfoldable pub heldIn : Run Event → Mesh → List ℕ
 heldIn r m = map (λ (n : SequenceNumber). n .0) (heldByAll (r .destination) (m .boxes))
 
--- the lines of the bench for calls: for each event the answer and how many frames are emitted; 0 and 0 where it is no call
-abbrev pub decisionAt : Rules → ℕ → Option Lent → Option Call → Decision Effect
-decisionAt rules room none call = refused 0
-decisionAt rules room (some l) none = refused 0
-decisionAt rules room (some l) (some call) = rules l room call
+-- ---- the lines of the bench: for each event its answer, and beside it the frames emitted, the next hop, or the hops of a walk
 
-unfoldable pub linesFrom : Rules → Mesh → List Event → List ℕ
-linesFrom rules m [] = []
-linesFrom rules m (e ∷ events) =
-    let found : Option Lent = boxOf (e .point) (m .boxes) in
-    let x : Exit = atExit (lend []) [] (decisionAt rules (e .room) found (callOf (m .log) (e .action))) in
-    x .answer ∷ x .frames ∷ linesFrom rules (happen rules m e) events
+abbrev pub callLine : Decision Effect → List ℕ
+callLine o = let x : Exit = atExit (lend []) [] o in x .answer ∷ x .frames ∷ []
 
-unfoldable pub lines : Rules → Run → List ℕ
-lines rules r = linesFrom rules (start (r .points)) (r .events)
+abbrev pub hopLine : Decision Address → List ℕ
+hopLine (refused n) = n ∷ 0 ∷ []
+hopLine (accepted next) = 0 ∷ next .0 ∷ []
+
+abbrev pub walkLine : Decision Walked → List ℕ
+walkLine o = let w : Walked = walkedAtExit o in w .answer ∷ w .hops ∷ []
+
+module _ (rules : Rules) where
+  -- 0 and 0 where nothing stands at the place of the log
+  abbrev pub deliveryLine : Lent → ℕ → Option Call → List ℕ
+  deliveryLine l room none = 0 ∷ 0 ∷ []
+  deliveryLine l room (some call) = callLine (rules l room call)
+
+  -- and where there is no point of that address
+  abbrev pub lineAt : Mesh → ℕ → Option Lent → Action → List ℕ
+  lineAt m room none action = 0 ∷ 0 ∷ []
+  lineAt m room (some l) (delivers place c link) = deliveryLine l room (callOf (m .log) (delivers place c link))
+  lineAt m room (some l) (makes call) = callLine (rules l room (Call.makes call))
+  lineAt m room (some l) (findsNextHop c d) = hopLine (nextHop (l .table) c d)
+  lineAt m room (some l) (walks c from d) = walkLine (walkOver m c from d)
+
+  unfoldable pub linesFrom : Mesh → List Event → List ℕ
+  linesFrom m [] = []
+  linesFrom m (e ∷ events) =
+      lineAt m (e .room) (boxOf (e .point) (m .boxes)) (e .action) ++ linesFrom (happen rules m e) events
+
+  unfoldable pub lines : Run Event → List ℕ
+  lines r = linesFrom (start (r .points)) (r .events)
 
 -- two lists have the same entries in the same order
 unfoldable pub agree : {A : Type 0} → (A → A → Bool) → List A → List A → Bool
@@ -170,7 +205,7 @@ agree eq (x ∷ xs) (y ∷ ys) = eq x y && agree eq xs ys
 -- ---- the worked case of document 01
 
 -- R = 16, links 0-1 at 10 and 1-2 at 20
-abbrev pub workedCase : (from destination : Address) → Run
+abbrev pub workedCase : (from destination : Address) → Run Event
 workedCase from destination =
     record {
       points = map (pointWith 16 0) (point 0 ∷ point 1 ∷ point 2 ∷ []);
@@ -180,6 +215,7 @@ workedCase from destination =
           ∷ point 2 gets 1 over 20 at 0
           ∷ point 1 gets 2 over 20 at 0
           ∷ point 0 gets 3 over 10 at 0
+          ∷ point 0 walks-to point 2
           ∷ point 0 gets 3 over 10 at 0
           ∷ [];
       destination = destination;
@@ -187,22 +223,20 @@ workedCase from destination =
       from = from;
     }
 
-abbrev pub there : Run
+abbrev pub there : Run Event
 there = workedCase (point 0) (point 2)
 
-abbrev pub back : Run
+abbrev pub back : Run Event
 back = workedCase (point 2) (point 0)
 
 unfoldable pub worked : Rules → List Bool
 worked rules =
-    let m : Mesh = endOf rules there in
-    -- the premise holds for the one that is asked for and for the one that asks
-    isWithinWindow rules there
-    ∷ isWithinWindow rules back
-    -- the lines of the bench for the calls: `4 0 1`, three times `6 0 1`, `6 0 0` and `6 25 0`
-    ∷ agree eqb (lines rules there) (0 ∷ 1 ∷ 0 ∷ 1 ∷ 0 ∷ 1 ∷ 0 ∷ 1 ∷ 0 ∷ 0 ∷ 25 ∷ 0 ∷ [])
-    -- for the walk, `8 0 2` (the last delivery, after it in document 01, is refused and changes nothing)
-    ∷ agree eqb (walked there m) (0 ∷ 2 ∷ [])
+    let m : Mesh = endOf (happen rules) there in
+    -- the run is as demanded for the one that is asked for and for the one that asks
+    asDemanded (happen rules) eventFits there
+    ∷ asDemanded (happen rules) eventFits back
+    -- the lines of the bench for the calls: `4 0 1`, three times `6 0 1`, `6 0 0`, `8 0 2` and `6 25 0`
+    ∷ agree eqb (lines rules there) (0 ∷ 1 ∷ 0 ∷ 1 ∷ 0 ∷ 1 ∷ 0 ∷ 1 ∷ 0 ∷ 0 ∷ 0 ∷ 2 ∷ 25 ∷ 0 ∷ [])
     -- the walks of demand 3, there and back
     ∷ agree same (way there m) (point 0 ∷ point 1 ∷ point 2 ∷ [])
     ∷ agree same (way back m) (point 2 ∷ point 1 ∷ point 0 ∷ [])
@@ -210,7 +244,7 @@ worked rules =
 
 -- ---- a run in which numbers go round zero
 
-abbrev pub roundZero : Run
+abbrev pub roundZero : Run Event
 roundZero =
     towardsD (2 ^ 32 - 2) (2 ^ 32 - 6)
     -- D sends element 0 with 4,294,967,295; B 4294967295/5 via D, element 1; A 4294967295/10 via B, element 2
@@ -220,6 +254,7 @@ roundZero =
     -- B 0/largest, invalidated, newer than D's own number; the error is element 3; A 0/largest, invalidated, element 4
     ∷ B loses D
     ∷ A gets 3 over 5 at 0
+    ∷ A seeks D
     -- D sends element 5 with 0; B 0/7 via D, element 6; A's late element 2 is refused, as 4,294,967,295 is older than 0
     ∷ D requests-as-root 0
     ∷ B gets 5 over 7 at 0
@@ -230,21 +265,24 @@ roundZero =
     ∷ D announces-itself
     ∷ B gets 8 over 5 at 0
     ∷ A gets 9 over 5 at 0
+    ∷ A seeks D
+    ∷ A walks-to D
     ∷ [])
 
 unfoldable pub wentRound : Rules → List Bool
 wentRound rules =
-    let m : Mesh = endOf rules roundZero in
-    isWithinWindow rules roundZero
-    -- every call is accepted with one frame, but B's eighth, the late element, which is refused
+    let m : Mesh = endOf (happen rules) roundZero in
+    asDemanded (happen rules) eventFits roundZero
+    -- Each element is sent or taken with one frame, but the late element 2, which B refuses. A finds no next hop while its row is
+    -- invalidated, and in the end B; the walk has two hops.
     ∷ agree eqb (lines rules roundZero)
-    (0 ∷ 1 ∷ 0 ∷ 1 ∷ 0 ∷ 1 ∷ 0 ∷ 1 ∷ 0 ∷ 1 ∷ 0 ∷ 1 ∷ 0 ∷ 1 ∷ 25 ∷ 0 ∷ 0 ∷ 1 ∷ 0 ∷ 1 ∷ 0 ∷ 1 ∷ 0 ∷ 1 ∷ [])
-    -- what A, B and D hold after four events, after eight, and in the end
-    ∷ agree eqb (heldIn roundZero (after 4 rules roundZero)) (4_294_967_295 ∷ 0 ∷ 4_294_967_295 ∷ [])
-    ∷ agree eqb (heldIn roundZero (after 8 rules roundZero)) (0 ∷ 0 ∷ 0 ∷ [])
+    (0 ∷ 1 ∷ 0 ∷ 1 ∷ 0 ∷ 1 ∷ 0 ∷ 1 ∷ 0 ∷ 1 ∷ 28 ∷ 0
+    ∷ 0 ∷ 1 ∷ 0 ∷ 1 ∷ 25 ∷ 0 ∷ 0 ∷ 1 ∷ 0 ∷ 1 ∷ 0 ∷ 1 ∷ 0 ∷ 1 ∷ 0 ∷ B .0 ∷ 0 ∷ 2 ∷ [])
+    -- what A, B and D hold after four events, after nine, and in the end
+    ∷ agree eqb (heldIn roundZero (after (happen rules) 4 roundZero)) (4_294_967_295 ∷ 0 ∷ 4_294_967_295 ∷ [])
+    ∷ agree eqb (heldIn roundZero (after (happen rules) 9 roundZero)) (0 ∷ 0 ∷ 0 ∷ [])
     ∷ agree eqb (heldIn roundZero m) (1 ∷ 1 ∷ 1 ∷ [])
-    -- the walks of document 01 and of demand 3
-    ∷ agree eqb (walked roundZero m) (0 ∷ 2 ∷ [])
+    -- the walk of demand 3
     ∷ agree same (way roundZero m) (A ∷ B ∷ D ∷ [])
     ∷ []
 
@@ -252,11 +290,10 @@ wentRound rules =
 
 pub record Counterexample : Type 0 where
   pub rules : Rules
-  pub list : Run
+  pub list : Run Event
 
--- within the premise, and the walk meets a point twice
-unfoldable pub loops : Counterexample → Bool
-loops x = isWithinWindow (x .rules) (x .list) && hasDuplicate (way (x .list) (endOf (x .rules) (x .list)))
+abbrev pub loops : Counterexample → Bool
+loops x = goesRound (happen (x .rules)) eventFits (x .list)
 
 -- Numbers compared as plain numbers.
 abbrev pub plainNumbers : Counterexample
@@ -357,7 +394,7 @@ counterexamples = plainNumbers ∷ equalReply ∷ equalIfInactive ∷ dropped �
 -- ---- a loop under the rules, outside the premise
 
 -- No window has 1, 3 and 2,147,483,650.
-abbrev pub outside : Run
+abbrev pub outside : Run Event
 outside =
     towardsD (2 ^ 31 + 1) 0
     -- D sends element 0 with 2,147,483,650; A has it via D, element 1; B via A, element 2
@@ -377,4 +414,4 @@ outside =
     ∷ [])
 
 unfoldable pub outsideLoops : Bool
-outsideLoops = hasDuplicate (way outside (endOf decision outside))
+outsideLoops = hasDuplicate (way outside (endOf (happen decision) outside))

@@ -8,12 +8,11 @@
 use Prim.Native.Nat.{ℕ, _^_, _<_, _≤_}
 use mathlib.Core.Path.{_≡_}
 use mathlib.Core.Bool.{true, false}
-use mathlib.Core.List.{List, _++_, map}
+use mathlib.Core.List.{List, _++_}
 use lib.ListN.{length}
 use Rattle.octets.specs.LittleEndian.{Octets}
 use Rattle.counters.specs.declared.SequenceNumber.{SequenceNumber}
 use Rattle.layout.specs.declared.address.Address.{Address}
-use Rattle.layout.specs.Address.{individual}
 use Rattle.table.specs.Table.{isTable}
 use Rattle.element.specs.Element.{Element}
 use Rattle.element.specs.Entries.{All}
@@ -26,13 +25,20 @@ use Rattle.rules.specs.Fresh.{makeFresh}
 use Rattle.rules.specs.Forget.{forget}
 use Rattle.rules.specs.Errors.{broken}
 use Rattle.rules.specs.Receive.{isStaleFor}
-use Rattle.rules.specs.Calls.{Call, decision, OwnOperandsFit, OperandsFit}
+use Rattle.rules.specs.Calls.{Call, decision, OperandsFit}
 use Rattle.rules.specs.Walk.{Walked, walk}
 use Rattle.theorems.specs.Edges.{edges, shutOut}
-use Rattle.theorems.specs.Mesh.{Point, start, Action, delivers, makes, readsOnly, Event, run, throughout, met}
+use Rattle.theorems.specs.Mesh.{Point, start, Event, pointsFit, eventFits, happen, run, throughout, met}
 use Rattle.theorems.specs.Premise.{allWithin}
 use Rattle.theorems.specs.WrongRules.{ruledBy, receivingBy, breakingBy}
-use Rattle.theorems.specs.Runs.{worked, wentRound, loops, counterexamples, outside, outsideLoops}
+use Rattle.theorems.specs.Runs.{
+  worked,
+  wentRound,
+  loops,
+  counterexamples,
+  outside,
+  outsideLoops,
+}
 
 -- ---- P1 to P8 (`p1-to-p8`): every test in the list passes
 
@@ -95,21 +101,9 @@ HopsAtMost = (s : List ℕ) (count c : ℕ) (from d : Address) (w : Walked) → 
 
 -- ---- loop free, demand 3 (`loop-free`)
 
--- a point of the demand: an individual address, any own number, 1 to 128 rows
-pub record PointFits (p : Point) : Type 0 where
-  pub address : individual (p .address) ≡ true
-  pub six-octets : p .address .0 < 256 ^ 6
-  pub four-octets : p .number .0 < 256 ^ 4
-  pub rows : (1 ≤ p .rows) × (p .rows ≤ 128)
-
--- the operands of an action are what C's types can hold: a lifetime has 32 bits, an octet is below 256; all else is free
-abbrev pub ActionFits : Action → Type 0
-ActionFits (delivers place c link) = Unit {0}
-ActionFits (makes call) = OwnOperandsFit call
-ActionFits readsOnly = Unit {0}
-
 -- For any set of points with fresh tables and different addresses,
--- and any list of their calls, with elements delivered late, repeated, reordered or lost, whether refused or not:
+-- and any list of their calls, next hops and walks among them, with elements delivered late, repeated, reordered or lost,
+-- whether refused or not:
 -- if, from first to last, all numbers held or carried for a destination d lie within 2^31 consecutive ones counted round zero,
 -- then the walk along valid rows for d, from any point a and however long, meets no point twice.
 --
@@ -118,23 +112,22 @@ ActionFits readsOnly = Unit {0}
 -- A forget is not among the calls: a forgotten row is a dropped one, and with those there are loops.)
 abbrev pub LoopFree : Type 0
 LoopFree =
-    (points : List Point) → All PointFits points → hasDuplicate (map (λ (p : Point). p .address) points) ≡ false
-    → (events : List Event) → All (λ (e : Event). ActionFits (e .action)) events
+    (points : List Point) → pointsFit points ≡ true → (events : List Event) → all eventFits events ≡ true
     → (d : Address) (base : ℕ) → base < 2 ^ 32
-    → throughout decision (allWithin d base) (start points) events ≡ true
-    → (a : Address) (hops : ℕ) → hasDuplicate (met (run decision (start points) events) d hops a) ≡ false
+    → throughout (happen decision) (allWithin d base) (start points) events ≡ true
+    → (a : Address) (hops : ℕ) → hasDuplicate (met (run (happen decision) (start points) events) d hops a) ≡ false
 
 -- ---- not vacuous (`not-vacuous`)
 
--- The worked case of document 01, run on the rules, meets the premise, answers as the bench prints, and ends with the routes
--- that its walk finds. A second run, in which numbers pass from 4,294,967,295 to 0, meets the premise and finds its routes too.
+-- The worked case of document 01, run on the rules with its walk, is all that `LoopFree` asks for, answers as the bench prints, and
+-- ends with routes there and back. A second run, in which numbers pass from 4,294,967,295 to 0, is so too, and finds its route.
 abbrev pub NotVacuous : Type 0
 NotVacuous = all (λ b. b) (worked decision ++ wentRound decision) ≡ true
 
 -- ---- sharp (`sharp`, `else-the-rules`, `needs-its-premise`)
 
--- Five wrong rules (`WrongRules.antt`), each with a list of calls that meets the premise and ends with a walk that meets a point
--- twice: numbers compared as plain numbers, the reply of 11-06-1778 that takes an equal number with a worse metric,
+-- Five wrong rules (`WrongRules.antt`), each with a list of calls that is all that `LoopFree` asks for and ends with a walk that
+-- meets a point twice: numbers compared as plain numbers, the reply of 11-06-1778 that takes an equal number with a worse metric,
 -- an equal number into an inactive row at a worse metric, a broken row dropped, a break that does not step the number.
 --
 -- (For other errors no list is given: an error matched by destination only; an error with a newer number or a break that leaves
@@ -151,9 +144,10 @@ ElseTheRules =
     (l : Lent) (room : ℕ) (call : Call)
     → ruledBy (receivingBy (λ e. isStaleFor)) (breakingBy broken) l room call ≡ decision l room call
 
--- One list of calls loops under the rules themselves; so no base has all its numbers in its window.
+-- One list of calls, by points and with operands as `LoopFree` asks, loops under the rules themselves; so no base has all its
+-- numbers in its window.
 abbrev pub NeedsPremise : Type 0
 NeedsPremise =
-    (outsideLoops ≡ true)
+    (pointsFit (outside .points) ≡ true) × (all eventFits (outside .events) ≡ true) × (outsideLoops ≡ true)
     × ((base : ℕ) → base < 2 ^ 32
-    → throughout decision (allWithin (outside .destination) base) (start (outside .points)) (outside .events) ≡ false)
+    → throughout (happen decision) (allWithin (outside .destination) base) (start (outside .points)) (outside .events) ≡ false)
