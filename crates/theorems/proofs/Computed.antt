@@ -8,7 +8,7 @@ use Rattle.rules.proofs.Computing.{computing}
 use Rattle.theorems.specs.Mesh.{start, boxOf, withBox, callOf, walkOver, pointFits, pointsFit, ownCallFits, actionFits, eventFits, sentBy, afterCall, happen, run, throughout, nextAt, met}
 use Rattle.theorems.specs.Premise.{beside, held, heldByAll, carried, numbersFor, isWithin, allWithin}
 use Rattle.theorems.specs.WrongRules.{ruledBy}
-use Rattle.theorems.specs.Runs.{way, after, endOf, asDemanded, goesRound, heldIn, linesFrom, lines, agree, worked, wentRound, loops, counterexamples, outside, outsideLoops}
+use Rattle.theorems.specs.Runs.{way, after, endOf, asDemanded, goesRound, heldIn, linesFrom, lines, agree, worked, wentRound, loops, counterexamples, happenWider, widerFits, leftOut, outside, outsideLoops}
 
 -- what unfolds for a run to compute
 running : Unit {0}
@@ -16,7 +16,7 @@ unfolding computing start boxOf withBox callOf walkOver pointFits pointsFit ownC
     sentBy afterCall happen run throughout nextAt met
     beside held heldByAll carried numbersFor isWithin allWithin
     ruledBy way after endOf asDemanded goesRound heldIn linesFrom lines agree worked wentRound counterexamples
-    outsideLoops
+    happenWider widerFits leftOut outsideLoops
 running = tt
 
 pub runs-as-worked : all (λ b. b) (worked decision ++ wentRound decision) ≡ true
@@ -26,6 +26,10 @@ runs-as-worked = refl
 pub wrong-rules-loop : all loops counterexamples ≡ true
 unfolding running
 wrong-rules-loop = refl
+
+pub left-out-loop : all (goesRound happenWider widerFits) leftOut ≡ true
+unfolding running
+left-out-loop = refl
 
 pub outside-points-fit : pointsFit (outside .points) ≡ true
 unfolding running

@@ -13,11 +13,11 @@ use Rattle.rules.proofs.CallsKeep.{Kept, call-kept}
 use Rattle.rules.proofs.Room.{call-room}
 use Rattle.rules.proofs.Hops.{walk-hops}
 use Rattle.rules.proofs.StaysTable.{fresh-stays, forget-stays}
-use Rattle.theorems.specs.Statements.{EdgesHold, ErrorsShutOut, StaysTable, FreshIsTable, ForgetStaysTable, HasRoom, ReadsAs, ReadsBack, HopsAtMost, LoopFree, NotVacuous, Sharp, ElseTheRules, NeedsPremise}
+use Rattle.theorems.specs.Statements.{EdgesHold, ErrorsShutOut, StaysTable, FreshIsTable, ForgetStaysTable, HasRoom, ReadsAs, ReadsBack, HopsAtMost, LoopFree, NotVacuous, Sharp, ElseTheRules, NeedsExclusions, NeedsPremise}
 use Rattle.theorems.specs.WrongRules.{ruledBy}
 use Rattle.theorems.specs.Runs.{endOf, way, outside, outsideLoops}
 use Rattle.theorems.proofs.AllEdges.{all-edges, all-shut-out}
-use Rattle.theorems.proofs.Computed.{runs-as-worked, wrong-rules-loop, outside-points-fit, outside-events-fit, outside-loops}
+use Rattle.theorems.proofs.Computed.{runs-as-worked, wrong-rules-loop, left-out-loop, outside-points-fit, outside-events-fit, outside-loops}
 use Rattle.theorems.proofs.LoopFree
 
 pub p1-to-p8 : EdgesHold
@@ -70,6 +70,9 @@ else-the-rules l room (makes (asks lifetime items)) = refl
 else-the-rules l room (makes (announces flags lifetime)) = refl
 else-the-rules l room (makes (requestsAsRoot flags lifetime)) = refl
 else-the-rules l room (makes (breaks c neighbour)) = refl
+
+pub needs-its-exclusions : NeedsExclusions
+needs-its-exclusions = left-out-loop
 
 pub needs-its-premise : NeedsPremise
 unfolding outsideLoops way endOf

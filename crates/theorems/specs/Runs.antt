@@ -1,5 +1,5 @@
 -- Runs as data, and what is shown of them by computation: two as demand 3 asks that find their ways, and lists that loop: five
--- under wrong rules, and one outside the premise. In comments a row for D is written
+-- under wrong rules, two with a call that the demand leaves out, and one outside the premise. In comments a row for D is written
 -- number/metric via next hop, 'largest' is 4,294,967,295, and elements are named by their place in the log. What is defined here:
 --   _gets_over_at_, _asks-for_lasting_, ..        events, in words
 --   Run                                           points, events and a destination
@@ -7,6 +7,7 @@
 --   lines                                         the bench's lines for it
 --   workedCase, worked; roundZero, wentRound      the two that find their ways, and the tests that they pass
 --   Counterexample, loops, counterexamples        those under wrong rules
+--   WiderEvent, happenWider, leftOut              those with a forget or a second fresh table
 --   outside, outsideLoops                         the one outside the premise
 use Prim.Native.Nat.{ℕ, _+_, _-_, _*_, _^_}
 use mathlib.Core.Bool.{Bool, true, false, _&&_}
@@ -21,7 +22,9 @@ use Rattle.layout.specs.Address.{same}
 use Rattle.element.specs.Lists.{hasDuplicate}
 use Rattle.rules.specs.Lists.{all}
 use Rattle.rules.specs.Decision.{Decision, refused, accepted}
-use Rattle.rules.specs.Exit.{Lent, lend, Effect, Exit, atExit, leastOutput}
+use Rattle.rules.specs.Exit.{Lent, lend, withTable, Effect, Exit, atExit, leastOutput}
+use Rattle.rules.specs.Fresh.{makeFresh}
+use Rattle.rules.specs.Forget.{forget}
 use Rattle.rules.specs.NextHop.{nextHop}
 use Rattle.rules.specs.Calls.{Call, asks, announces, requestsAsRoot, breaks, decision}
 use Rattle.rules.specs.Walk.{Walked, walkedAtExit}
@@ -31,6 +34,7 @@ use Rattle.theorems.specs.Mesh.{
   Mesh,
   start,
   boxOf,
+  withBox,
   Action,
   delivers,
   makes,
@@ -390,6 +394,50 @@ unstepped =
 
 unfoldable pub counterexamples : List Counterexample
 counterexamples = plainNumbers ∷ equalReply ∷ equalIfInactive ∷ dropped ∷ unstepped ∷ []
+
+-- ---- loops under the rules, with a call that the demand leaves out
+
+-- a call of the demand's list; or a point forgets a destination; or it makes its table fresh once more, with this number
+pub data WiderEvent : Type 0 where
+  listed : Event → WiderEvent
+  forgets : (point destination : Address) → WiderEvent
+  startsAnew : (point : Address) → SequenceNumber → WiderEvent
+
+-- the mesh after the point a, with this box, has called fresh or forget on its table
+abbrev pub afterTableCall : Mesh → Address → Lent → Decision (List ℕ) → Mesh
+afterTableCall m a l (refused n) = m
+afterTableCall m a l (accepted t) = record { boxes = withBox a (withTable t l) (m .boxes); log = m .log }
+
+abbrev pub tableCalled : Mesh → Address → (List ℕ → Decision (List ℕ)) → Option Lent → Mesh
+tableCalled m a call none = m
+tableCalled m a call (some l) = afterTableCall m a l (call (l .table))
+
+unfoldable pub happenWider : Mesh → WiderEvent → Mesh
+happenWider m (listed e) = happen decision m e
+happenWider m (forgets a d) = tableCalled m a (λ t. forget t d) (boxOf a (m .boxes))
+happenWider m (startsAnew a n) = tableCalled m a (λ t. makeFresh t a n) (boxOf a (m .boxes))
+
+-- a number has four octets
+unfoldable pub widerFits : WiderEvent → Bool
+widerFits (listed e) = eventFits e
+widerFits (forgets a d) = true
+widerFits (startsAnew a n) = ltb (n .0) (256 ^ 4)
+
+-- A loses its row for D, by this call
+abbrev pub losingItsRow : WiderEvent → Run WiderEvent
+losingItsRow loss =
+    towardsD 0 0
+    -- D sends element 0 with 1; A 1/5 via D, element 1; B 1/10 via A, element 2
+    (listed (D announces-itself)
+    ∷ listed (A gets 0 over 5 at 0)
+    ∷ listed (B gets 1 over 5 at 0)
+    ∷ loss
+    -- A 1/11 via B
+    ∷ listed (A gets 2 over 1 at 0)
+    ∷ [])
+
+unfoldable pub leftOut : List (Run WiderEvent)
+leftOut = losingItsRow (forgets A D) ∷ losingItsRow (startsAnew A (record { 0 = 0 })) ∷ []
 
 -- ---- a loop under the rules, outside the premise
 

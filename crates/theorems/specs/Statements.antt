@@ -32,10 +32,14 @@ use Rattle.theorems.specs.Mesh.{Point, start, Event, pointsFit, eventFit
 use Rattle.theorems.specs.Premise.{allWithin}
 use Rattle.theorems.specs.WrongRules.{ruledBy, receivingBy, breakingBy}
 use Rattle.theorems.specs.Runs.{
+  goesRound,
   worked,
   wentRound,
   loops,
   counterexamples,
+  happenWider,
+  widerFits,
+  leftOut,
   outside,
   outsideLoops,
 }
@@ -109,7 +113,7 @@ HopsAtMost = (s : List ℕ) (count c : ℕ) (from d : Address) (w : Walked) → 
 --
 -- (The proof does not use what is said of the points: a call on octets that are no table is refused, and of two points with
 -- one address the second would never be called or met. Of the numbers it uses only those in rows: that these lie so is enough.
--- A forget is not among the calls: a forgotten row is a dropped one, and with those there are loops.)
+-- Forget and a second fresh table are not among the calls: with either there are loops, see `NeedsExclusions`.)
 abbrev pub LoopFree : Type 0
 LoopFree =
     (points : List Point) → pointsFit points ≡ true → (events : List Event) → all eventFits events ≡ true
@@ -124,7 +128,7 @@ LoopFree =
 abbrev pub NotVacuous : Type 0
 NotVacuous = all (λ b. b) (worked decision ++ wentRound decision) ≡ true
 
--- ---- sharp (`sharp`, `else-the-rules`, `needs-its-premise`)
+-- ---- sharp (`sharp`, `else-the-rules`, `needs-its-exclusions`, `needs-its-premise`)
 
 -- Five wrong rules (`WrongRules.antt`), each with a list of calls that is all that `LoopFree` asks for and ends with a walk that
 -- meets a point twice: numbers compared as plain numbers, the reply of 11-06-1778 that takes an equal number with a worse metric,
@@ -143,6 +147,11 @@ abbrev pub ElseTheRules : Type 0
 ElseTheRules =
     (l : Lent) (room : ℕ) (call : Call)
     → ruledBy (receivingBy (λ e. isStaleFor)) (breakingBy broken) l room call ≡ decision l room call
+
+-- Two lists have, beside calls of the demand, a call that it leaves out: a point forgets a destination, or makes its table fresh a
+-- second time. Else each is all that `LoopFree` asks for; and under the rules themselves its walk meets a point twice.
+abbrev pub NeedsExclusions : Type 0
+NeedsExclusions = all (goesRound happenWider widerFits) leftOut ≡ true
 
 -- One list of calls, by points and with operands as `LoopFree` asks, loops under the rules themselves; so no base has all its
 -- numbers in its window.
