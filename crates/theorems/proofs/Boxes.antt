@@ -1,7 +1,7 @@
 -- The boxes of a mesh by address: what is found after one of them is replaced.
 use mathlib.Core.Path.{_≡_, refl, sym, ap, _∙_}
 use mathlib.Core.Bool.{Bool, true, false, cond}
-use mathlib.Core.List.{List, [], _∷_, List·Memᴰ, List·Memᴰ·head, List·Memᴰ·tail}
+use mathlib.Core.List.{List, [], _∷_, map, List·Memᴰ, List·Memᴰ·head, List·Memᴰ·tail}
 use mathlib.Core.Option.{Option, some, Option·none-ne-some, Option·some-injective}
 use Rattle.layout.specs.declared.address.Address.{Address}
 use Rattle.layout.specs.Address.{same}
@@ -50,3 +50,15 @@ module _ (a : Address) (k : Lent) (is : own (k .table) ≡ a) where
       by true q rest =
           rw (differ (own (k .table)) b (λ e. apart (sym is ∙ e)), differ (own (h .table)) b (λ e. apart (sym (same-is (own (h .table)) a q) ∙ e)))
       by false q rest = ap (cond (same (own (h .table)) b) (some h)) rest
+
+-- what is alike in a box and in the box that is put in its place is alike in the lists
+pub box-alike : {A : Type 0} (f : Lent → A) (a : Address) (k : Lent) (boxes : List Lent) (l : Lent) → boxOf a boxes ≡ some l → f k ≡ f l
+    → map f (withBox a k boxes) ≡ map f boxes
+unfolding boxOf withBox
+box-alike f a k [] l e alike = refl
+box-alike {A} f a k (h ∷ boxes) l e alike = by (same (own (h .table)) a) e (λ e. box-alike f a k boxes l e alike)
+  where
+    by : (test : Bool) → cond test (some h) (boxOf a boxes) ≡ some l → (boxOf a boxes ≡ some l → map f (withBox a k boxes) ≡ map f boxes)
+        → map f (cond test (k ∷ boxes) (h ∷ withBox a k boxes)) ≡ f h ∷ map f boxes
+    by true e rest = ap (λ (x : A). x ∷ map f boxes) (alike ∙ ap f (sym (Option·some-injective h l e)))
+    by false e rest = ap (λ (xs : List A). f h ∷ xs) (rest e)

@@ -3,9 +3,11 @@ pub mod AllEdges
 pub mod Boxes
 pub mod Invariant
 pub mod Walks
+pub mod Pigeonhole
 pub mod Moves
 pub mod Frames
 pub mod Calls
 pub mod LoopFree
+pub mod NeverTooLong
 pub mod Computed
 pub mod Theorems

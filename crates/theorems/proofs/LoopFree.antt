@@ -2,11 +2,11 @@
 use Prim.Native.Nat.{ℕ, zero, suc, _+_, _*_, _^_, _<_}
 use mathlib.Core.Path.{_≡_, refl, sym, subst, _∙_}
 use mathlib.Core.Bool.{Bool, true, false, and-eq-true-iff}
-use mathlib.Core.List.{List, [], _∷_, _++_, flatMap, List·Memᴰ, List·Memᴰ·head, List·Memᴰ·tail, List·Memᴰ·not-nil, List·Memᴰ·cases-cons}
+use mathlib.Core.List.{List, [], _∷_, _++_, map, flatMap, List·Memᴰ, List·Memᴰ·head, List·Memᴰ·tail, List·Memᴰ·not-nil, List·Memᴰ·cases-cons}
 use mathlib.Core.Option.{Option, none, some, Option·none-ne-some, Option·some-injective}
 use mathlib.Core.Logic.{⊎-elim}
 use lib.Dec.{eqb, ltb}
-use lib.ListN.{getElem?}
+use lib.ListN.{length, getElem?}
 use borrow.Author.Tests.{ltb-true}
 use Rattle.octets.specs.LittleEndian.{Octets}
 use Rattle.octets.proofs.OctetLists.{octets-nil, octets-cons}
@@ -31,7 +31,7 @@ use Rattle.rules.proofs.Alls.{all-append, all-map}
 use Rattle.rules.proofs.CallsKeep.{Kept, call-kept}
 use Rattle.theorems.specs.Mesh.{Point, Sent, Mesh, freshTable, start, boxOf, withBox, Action, delivers, makes, findsNextHop, walks, Event, ownCallFits, actionFits, eventFits, deliveryOf, callOf, sentBy, afterCall, calls, happen, run, throughout, met}
 use Rattle.theorems.specs.Premise.{beside, knownIn, held, heldByAll, numbersFor, isWithin, allWithin}
-use Rattle.theorems.proofs.Boxes.{box-own, box-listed}
+use Rattle.theorems.proofs.Boxes.{box-own, box-listed, box-alike}
 use Rattle.theorems.proofs.Invariant.{Near, rowOf, rowAt, RowAt, row-at, Inv, all-at, inv-after}
 use Rattle.theorems.proofs.Walks.{no-duplicate}
 use Rattle.theorems.proofs.Calls.{FromLog, call-fine}
@@ -182,10 +182,16 @@ made log fits (makes own-call) fit call is =
 made log fits (findsNextHop c d) fit call is = absurd (Option·none-ne-some call is)
 made log fits (walks c from d) fit call is = absurd (Option·none-ne-some call is)
 
-module _ (d : Address) (base : ℕ) (small : base < 2 ^ 32) where
-  record Good (m : Mesh) : Type 0 where
+-- how long the tables are
+abbrev pub tableLengths : List Lent → List ℕ
+tableLengths boxes = map (λ (l : Lent). length (l .table)) boxes
+
+module _ (d : Address) (base : ℕ) (small : base < 2 ^ 32) (lengths : List ℕ) where
+  -- the invariant holds, and the tables have these lengths
+  pub record Good (m : Mesh) : Type 0 where
     sane : Sane m
     inv : Inv d base m
+    pub long : tableLengths (m .boxes) ≡ lengths
 
   -- an accepted call of a point, whose operands fit, with an element of the log if it receives one
   module _ (m : Mesh) (good : Good m) (within : allWithin d base m ≡ true) (a : Address) (l : Lent) (here : boxOf a (m .boxes) ≡ some l) where
@@ -201,9 +207,11 @@ module _ (d : Address) (base : ℕ) (small : base < 2 ^ 32) where
     unfolding afterCall
     call-good room call k (refused n) is within′ = good
     call-good room call k (accepted e) is within′ =
-        let sane′ : Sane (afterCall m a (accepted e)) = sane-after m (good .sane) a l here e (call-kept l octets room call (k .fit) e is) in
+        let kept : Kept (l .table) e = call-kept l octets room call (k .fit) e is in
+        let sane′ : Sane (afterCall m a (accepted e)) = sane-after m (good .sane) a l here e kept in
         record {
           sane = sane′;
+          long = box-alike (λ (x : Lent). length (x .table)) a (e .lent) (m .boxes) l here (kept .leaves .length) ∙ good .long;
           inv = inv-after d base m (good .inv) a l e here (call-fine d base small (m .log) l octets near room call (k .fit) (k .from) e is)
               (near-at d base (afterCall m a (accepted e)) sane′ within′ a);
         }
@@ -238,9 +246,12 @@ module _ (d : Address) (base : ℕ) (small : base < 2 ^ 32) where
       runs (happen decision m e) events (fits .1)
       (happens m e (fits .0) good (both .0) (at-first (happen decision m e) events (both .1))) (both .1)
 
-  pub loop-free : (points : List Point) (events : List Event) → all eventFits events ≡ true
-      → throughout (happen decision) (allWithin d base) (start points) events ≡ true
-      → (hops : ℕ) (a : Address) → hasDuplicate (met (run (happen decision) (start points) events) d hops a) ≡ false
-  loop-free points events fit within =
-      no-duplicate d base (run (happen decision) (start points) events)
-      (runs (start points) events fit (record { sane = sane-start points; inv = begins d base points }) within .inv)
+-- a list of calls as the demand has it
+module _ (d : Address) (base : ℕ) (small : base < 2 ^ 32) (points : List Point) (events : List Event) (fit : all eventFits events ≡ true)
+    (within : throughout (happen decision) (allWithin d base) (start points) events ≡ true) where
+  pub ends-good : Good d base small (tableLengths (start points .boxes)) (run (happen decision) (start points) events)
+  ends-good =
+      runs d base small _ (start points) events fit (record { sane = sane-start points; inv = begins d base points; long = refl }) within
+
+  pub loop-free : (hops : ℕ) (a : Address) → hasDuplicate (met (run (happen decision) (start points) events) d hops a) ≡ false
+  loop-free = no-duplicate d base (run (happen decision) (start points) events) (ends-good .inv)

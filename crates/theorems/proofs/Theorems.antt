@@ -13,12 +13,13 @@ use Rattle.rules.proofs.CallsKeep.{Kept, call-kept}
 use Rattle.rules.proofs.Room.{call-room}
 use Rattle.rules.proofs.Hops.{walk-hops}
 use Rattle.rules.proofs.StaysTable.{fresh-stays, forget-stays}
-use Rattle.theorems.specs.Statements.{EdgesHold, ErrorsShutOut, StaysTable, FreshIsTable, ForgetStaysTable, HasRoom, ReadsAs, ReadsBack, HopsAtMost, LoopFree, NotVacuous, Sharp, ElseTheRules, NeedsExclusions, NeedsPremise}
+use Rattle.theorems.specs.Statements.{EdgesHold, ErrorsShutOut, StaysTable, FreshIsTable, ForgetStaysTable, HasRoom, ReadsAs, ReadsBack, HopsAtMost, LoopFree, NeverTooLong, NotVacuous, Sharp, ElseTheRules, NeedsExclusions, NeedsPremise}
 use Rattle.theorems.specs.WrongRules.{ruledBy}
 use Rattle.theorems.specs.Runs.{endOf, way, outside, outsideLoops}
 use Rattle.theorems.proofs.AllEdges.{all-edges, all-shut-out}
 use Rattle.theorems.proofs.Computed.{runs-as-worked, wrong-rules-loop, left-out-loop, outside-points-fit, outside-events-fit, outside-loops}
 use Rattle.theorems.proofs.LoopFree
+use Rattle.theorems.proofs.NeverTooLong
 
 pub p1-to-p8 : EdgesHold
 p1-to-p8 = all-edges
@@ -56,6 +57,9 @@ hops-at-most = walk-hops
 
 pub loop-free : LoopFree
 loop-free points _ events fit d base small within a hops = LoopFree.loop-free d base small points events fit within hops a
+
+pub never-too-long : NeverTooLong
+never-too-long points _ events fit d base small within = NeverTooLong.never-too-long d base small points events fit within
 
 pub not-vacuous : NotVacuous
 not-vacuous = runs-as-worked

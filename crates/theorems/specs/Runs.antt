@@ -3,7 +3,7 @@
 -- number/metric via next hop, 'largest' is 4,294,967,295, and elements are named by their place in the log. What is defined here:
 --   _gets_over_at_, _asks-for_lasting_, ..        events, in words
 --   Run                                           points, events and a destination
---   way, endOf, asDemanded, goesRound             its walk and last mesh, all that the demand asks of it, and whether it then loops
+--   way, endOf, asDemanded, goesRound             its walk and last mesh, what the demand asks of it, whether it then loops
 --   lines                                         the bench's lines for it
 --   workedCase, worked; roundZero, wentRound      the two that find their ways, and the tests that they pass
 --   Counterexample, loops, counterexamples        those under wrong rules

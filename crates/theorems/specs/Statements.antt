@@ -1,14 +1,15 @@
 -- What is proved of the rules of document 01: each statement is a type here, and `proofs/Theorems.antt` has its proof under
 -- the name that is given beside it.
 --
--- How to read: `(x : T) → P` is 'for every x: P', `P → Q` 'if P then Q', `×` 'and', `≡` 'equals'; `x ∷ l` is a list that
--- begins with x, `l ++ k` one list after another; `cond b x y` is x if b holds, else y; `r .f` is the field f of r, and `a .0`
--- the number that an address, a sequence number or a metric is. A `List ℕ` is a list of octets; a `Lent` is what a point lends
--- to a call, and its field `table` the point's table.
+-- How to read: `(x : T) → P` is 'for every x: P', `P → Q` 'if P then Q', `×` 'and', `⊎` 'or', `≡` 'equals'; `x ∷ l` is a list
+-- that begins with x, `l ++ k` one list after another; `cond b x y` is x if b holds, else y; `r .f` is the field f of r, and
+-- `a .0` the number that an address, a sequence number or a metric is. A `List ℕ` is a list of octets; a `Lent` is what a point
+-- lends to a call, and its field `table` the point's table.
 use Prim.Native.Nat.{ℕ, _^_, _<_, _≤_}
 use mathlib.Core.Path.{_≡_}
 use mathlib.Core.Bool.{true, false}
 use mathlib.Core.List.{List, _++_}
+use mathlib.Core.Logic.{_⊎_}
 use lib.ListN.{length}
 use Rattle.octets.specs.LittleEndian.{Octets}
 use Rattle.counters.specs.declared.SequenceNumber.{SequenceNumber}
@@ -28,7 +29,7 @@ use Rattle.rules.specs.Receive.{isStaleFor}
 use Rattle.rules.specs.Calls.{Call, decision, OperandsFit}
 use Rattle.rules.specs.Walk.{Walked, walk}
 use Rattle.theorems.specs.Edges.{edges, shutOut}
-use Rattle.theorems.specs.Mesh.{Point, start, Event, pointsFit, eventFits, happen, run, throughout, met}
+use Rattle.theorems.specs.Mesh.{Point, start, Event, walkOver, pointsFit, eventFits, happen, run, throughout, met}
 use Rattle.theorems.specs.Premise.{allWithin}
 use Rattle.theorems.specs.WrongRules.{ruledBy, receivingBy, breakingBy}
 use Rattle.theorems.specs.Runs.{
@@ -121,10 +122,23 @@ LoopFree =
     → throughout (happen decision) (allWithin d base) (start points) events ≡ true
     → (a : Address) (hops : ℕ) → hasDuplicate (met (run (happen decision) (start points) events) d hops a) ≡ false
 
+-- ---- never too long (`never-too-long`)
+
+-- Where all that `LoopFree` asks holds, 42 never comes: document 01's walk over the tables of all points towards d, at any clock
+-- and from any start, answers 0 or 41 if it is accepted. (A walk takes tables of one length: all points have as many rows.)
+abbrev pub NeverTooLong : Type 0
+NeverTooLong =
+    (points : List Point) → pointsFit points ≡ true → (events : List Event) → all eventFits events ≡ true
+    → (d : Address) (base : ℕ) → base < 2 ^ 32
+    → throughout (happen decision) (allWithin d base) (start points) events ≡ true
+    → (rows : ℕ) → All (λ (p : Point). p .rows ≡ rows) points
+    → (c : ℕ) (from : Address) (w : Walked) → walkOver (run (happen decision) (start points) events) c from d ≡ accepted w
+    → (w .answer ≡ 0) ⊎ (w .answer ≡ 41)
+
 -- ---- not vacuous (`not-vacuous`)
 
--- The worked case of document 01, run on the rules with its walk, is all that `LoopFree` asks for, answers as the bench prints, and
--- ends with routes there and back. A second run, in which numbers pass from 4,294,967,295 to 0, is so too, and finds its route.
+-- The worked case of document 01, run on the rules with its walk, is all that `LoopFree` asks for, answers as the bench prints,
+-- and ends with routes there and back. A second run is all of it too, passes from 4,294,967,295 to 0, and finds its route.
 abbrev pub NotVacuous : Type 0
 NotVacuous = all (λ b. b) (worked decision ++ wentRound decision) ≡ true
 
@@ -148,8 +162,8 @@ ElseTheRules =
     (l : Lent) (room : ℕ) (call : Call)
     → ruledBy (receivingBy (λ e. isStaleFor)) (breakingBy broken) l room call ≡ decision l room call
 
--- Two lists have, beside calls of the demand, a call that it leaves out: a point forgets a destination, or makes its table fresh a
--- second time. Else each is all that `LoopFree` asks for; and under the rules themselves its walk meets a point twice.
+-- Two lists have, beside calls of the demand, a call that it leaves out: a point forgets a destination, or makes its table fresh
+-- a second time. Else each is all that `LoopFree` asks for; and under the rules themselves its walk meets a point twice.
 abbrev pub NeedsExclusions : Type 0
 NeedsExclusions = all (goesRound happenWider widerFits) leftOut ≡ true
 
