@@ -4,7 +4,7 @@ use Prim.Native.Nat.{ℕ, _+_, _*_}
 use mathlib.Core.Bool.{Bool, false, _&&_, _||_, not}
 use mathlib.Core.List.{List, [], _∷_, _++_}
 use lib.Dec.{eqb}
-use lib.ListN.{length, getD}
+use lib.ListN.{length, getD, set}
 use Rattle.octets.specs.LittleEndian.{zeros}
 use Rattle.counters.specs.Numbers.{newer, older}
 use Rattle.layout.specs.declared.address.Address.{Address}
@@ -14,10 +14,12 @@ use Rattle.layout.specs.Layout.{putRow}
 use Rattle.layout.specs.Row.{freeRow}
 use Rattle.table.specs.Places.{every}
 use Rattle.table.specs.Table.{number, rowFor, holds, fresh}
+use Rattle.element.specs.declared.Kind.the-variants.{Rreq}
 use Rattle.element.specs.declared.LostDestination.{LostDestination}
 use Rattle.element.specs.declared.PathInfo.{PathInfo}
 use Rattle.element.specs.declared.Target.{Target}
 use Rattle.element.specs.Element.{Element, rann, rreq, rrep, rerr, countOf}
+use Rattle.element.specs.Layout.{fits}
 use Rattle.element.specs.Entries.{each}
 use Rattle.element.specs.Octets.{wrongLength, otherId, misfit, writeElement}
 use Rattle.rules.specs.Decision.{Decision, refused, accepted}
@@ -75,6 +77,10 @@ withRows t i (r ∷ rs) = withRows (putRow t i r) (i + 1) rs
 abbrev tableWith : ℕ → List Row → List ℕ
 tableWith n rs = withRows (fresh (32 + 32 * length rs) point (record { 0 = n })) 0 rs
 
+-- the table with R = 4 of which rows 0 and 2 are held
+abbrev scattered : List ℕ
+scattered = tableWith 0 (heldFor 0 ∷ freeRow ∷ heldFor 1 ∷ freeRow ∷ [])
+
 -- ---- elements
 
 -- the fields of an element of the originator with this number and metric
@@ -106,6 +112,10 @@ target d n = record { flags = 0; address = d; number = record { 0 = n } }
 abbrev requestFor : ℕ → List ℕ
 requestFor n = request (each (λ i. target (other i) 0) 0 n)
 
+-- the octets of a RREQ with N replaced by n, which follows ID, Length and 25 octets of fields
+abbrev recounted : ℕ → List ℕ → List ℕ
+recounted n s = set s 27 n
+
 -- a RERR that names d with number n
 abbrev lost : Address → ℕ → LostDestination
 lost d n = record { address = d; number = record { 0 = n } }
@@ -121,6 +131,10 @@ heardAt c t link s = receive (lend t) leastOutput (record { clock = c; transmitt
 
 abbrev heard : List ℕ → ℕ → List ℕ → Decision Effect
 heard t link s = heardAt 0 t link s
+
+-- and with a fresh table of one row
+abbrev heardFirst : List ℕ → Decision Effect
+heardFirst s = heard (fresh 64 point (record { 0 = 0 })) 10 s
 
 -- ---- tests
 
@@ -144,25 +158,29 @@ leavesRow status n metric e =
     isSomeAnd (λ r. eqb (r .status) status && eqb (r .number .0) n && eqb (r .metric .0) metric)
     (rowFor (e .lent .table) originator)
 
--- an element is a reply for this point with number n
-abbrev isOwnReply : ℕ → Element → Bool
-isOwnReply n (rann p) = false
-isOwnReply n (rreq f targets) = false
-isOwnReply n (rrep f dependents) = same (f .path .subject) point && eqb (f .path .number .0) n
-isOwnReply n (rerr f destinations) = false
+-- an element is a reply for d with number n
+abbrev isReplyFor : Address → ℕ → Element → Bool
+isReplyFor d n (rann p) = false
+isReplyFor d n (rreq f targets) = false
+isReplyFor d n (rrep f dependents) = same (f .path .subject) d && eqb (f .path .number .0) n
+isReplyFor d n (rerr f destinations) = false
 
 -- the first frame has such a reply
-abbrev firstIsReply : ℕ → List Frame → Bool
-firstIsReply n [] = false
-firstIsReply n (f ∷ frames) = isOwnReply n (f .element)
+abbrev firstIsReply : Address → ℕ → List Frame → Bool
+firstIsReply d n [] = false
+firstIsReply d n (f ∷ frames) = isReplyFor d n (f .element)
 
--- the first frame has such a reply, and the own number is then n
+-- the first frame has a reply for this point with number n, and the own number is then n
 abbrev repliesWith : ℕ → Effect → Bool
-repliesWith n e = firstIsReply n (e .frames) && eqb (number (e .lent .table) .0) n
+repliesWith n e = firstIsReply point n (e .frames) && eqb (number (e .lent .table) .0) n
 
 -- row i is then held for the originator, and row j for the transmitter
 abbrev takesRows : ℕ → ℕ → Effect → Bool
 takesRows i j e = holds (e .lent .table) originator i && holds (e .lent .table) transmitter j
+
+-- row i is then as it was in t, octet by octet
+abbrev keepsRow : List ℕ → ℕ → Effect → Bool
+keepsRow t i e = every (λ k. eqb (getD (e .lent .table) (32 + 32 * i + k) 0) (getD t (32 + 32 * i + k) 0)) 32
 
 -- ---- the edges
 
@@ -173,10 +191,17 @@ edges =
     -- P2: 2,147,483,648 and 0 are each older than the other
     ∷ older (record { 0 = 2147483648 }) (record { 0 = 0 })
     ∷ older (record { 0 = 0 }) (record { 0 = 2147483648 })
-    -- P3: RREQ Lengths 37 and 246 fit; 26 and 257 cannot: no N fits 26, and no octet is the Length of 259 octets
+    -- P3: RREQ Lengths 37 and 246 fit; 26 and 257 cannot
     ∷ fitting 37 (requestFor 1)
     ∷ fitting 246 (requestFor 20)
-    ∷ every (λ n. misfit (130 ∷ 26 ∷ zeros 25 ++ n ∷ [])) 256
+    -- each with one N alone
+    ∷ every (λ n. eqb n 1 || not (fits Rreq 37 n)) 256
+    ∷ every (λ n. eqb n 20 || not (fits Rreq 246 n)) 256
+    ∷ refusedWith 8 (heardFirst (recounted 2 (requestFor 1)))
+    ∷ refusedWith 8 (heardFirst (recounted 19 (requestFor 20)))
+    -- 26 and 257 with no N; and no octet is the Length of 259 octets
+    ∷ every (λ n. refusedWith 8 (heardFirst (130 ∷ 26 ∷ zeros 25 ++ n ∷ []))) 256
+    ∷ every (λ n. not (fits Rreq 257 n)) 256
     ∷ every (λ long. wrongLength (130 ∷ long ∷ zeros 257)) 256
     -- P4: RERR Length 2 is refused (8), 12 fits
     ∷ refusedWith 8 (heard (tableWith 0 (row 1 originator 9 40 ∷ [])) 10 (132 ∷ 2 ∷ 0 ∷ 0 ∷ []))
@@ -194,8 +219,9 @@ edges =
     -- P7: own 12, requested 40: reply 41; requested 5: 13
     ∷ acceptedWith (repliesWith 41) (heard (tableWith 12 (freeRow ∷ freeRow ∷ [])) 10 (request (target point 40 ∷ [])))
     ∷ acceptedWith (repliesWith 13) (heard (tableWith 12 (freeRow ∷ freeRow ∷ [])) 10 (request (target point 5 ∷ [])))
-    -- P8: R = 4, rows 0 and 2 held, two needed: 1 and 3 taken; rows 0, 1, 2 held: 27
-    ∷ acceptedWith (takesRows 1 3) (heard (tableWith 0 (heldFor 0 ∷ freeRow ∷ heldFor 1 ∷ freeRow ∷ [])) 10 (announcement 9 25))
+    -- P8: R = 4, rows 0 and 2 held, two needed: 1 and 3 taken, and those held stay as they are; rows 0, 1, 2 held: 27
+    ∷ acceptedWith (takesRows 1 3) (heard scattered 10 (announcement 9 25))
+    ∷ acceptedWith (λ e. keepsRow scattered 0 e && keepsRow scattered 2 e) (heard scattered 10 (announcement 9 25))
     ∷ refusedWith 27 (heard (tableWith 0 (heldFor 0 ∷ heldFor 1 ∷ heldFor 2 ∷ freeRow ∷ [])) 10 (announcement 9 25))
     ∷ []
 
@@ -224,9 +250,19 @@ losesOne e =
 
 abbrev pub shutOut : List Bool
 shutOut =
-    -- comparing numbers unsigned: 4,294,967,295 is older than 0, and 0 is taken after it
+    -- comparing numbers unsigned: in refusal 25, 4,294,967,295 is older than 0, and 0 is taken after it
     refusedWith 25 (heard (tableWith 0 (row 1 originator 0 40 ∷ freeRow ∷ [])) 1 (announcement 4294967295 5))
     ∷ acceptedWith (leavesRow 1 0 6) (heard (tableWith 0 (row 1 originator 4294967295 40 ∷ freeRow ∷ [])) 1 (announcement 0 5))
+    -- in a reply for oneself: of own number 4,294,967,295, requested 0, it has 1
+    ∷ acceptedWith (repliesWith 1) (heard (tableWith 4294967295 (freeRow ∷ freeRow ∷ [])) 10 (request (target point 0 ∷ [])))
+    -- in an intermediate reply: a row with 0 answers where 4,294,967,295 is requested
+    ∷ acceptedWith (λ e. firstIsReply (other 0) 0 (e .frames))
+    (heard (tableWith 0 (row 1 (other 0) 0 10 ∷ freeRow ∷ freeRow ∷ [])) 10 (request (target (other 0) 4294967295 ∷ [])))
+    -- in an error: a row takes 0 after 4,294,967,295, and the largest metric; not the other way round
+    ∷ acceptedWith (leavesRow 2 0 4294967295)
+    (heard (tableWith 0 (row 1 originator 4294967295 40 ∷ [])) 10 (error (lost originator 0 ∷ [])))
+    ∷ acceptedWith (leavesRow 2 0 40)
+    (heard (tableWith 0 (row 1 originator 0 40 ∷ [])) 10 (error (lost originator 4294967295 ∷ [])))
     -- an equal number into an inactive row at a worse metric: refused, whether the row is invalidated or expired
     ∷ refusedWith 25 (heard (tableWith 0 (row 2 originator 9 40 ∷ freeRow ∷ [])) 36 (announcement 9 5))
     ∷ refusedWith 25 (heardAt 1000 (tableWith 0 (row 1 originator 9 40 ∷ freeRow ∷ [])) 36 (announcement 9 5))
