@@ -6,7 +6,7 @@ use mathlib.Core.List.{List, [], _∷_, _++_, map, flatMap, append-assoc}
 use mathlib.Core.Option.{Option, none, some, Option·none-ne-some, Option·some-injective}
 use mathlib.Core.Logic.{_⊎_, inl, inr, ⊎-elim, ⊎-map}
 use lib.Dec.{eqb, ltb}
-use lib.ListN.{length, take, drop, length-append, length-map}
+use lib.ListN.{length, length-append, length-map}
 use lib.Seq.{take-append-seam, drop-append-seam}
 use native.Mathlib.Nat.{mul-zero, mul-suc, mul-div-cancel}
 use native.Mathlib.Omega.{arith}
@@ -14,7 +14,7 @@ use Rattle.octets.specs.LittleEndian.{fieldsAt}
 use Rattle.octets.proofs.Tests.{clash}
 use Rattle.layout.specs.declared.address.Address.{Address}
 use Rattle.layout.specs.declared.row.Row.{Row}
-use Rattle.layout.specs.Address.{same, addressOf}
+use Rattle.layout.specs.Address.{same}
 use Rattle.layout.specs.Layout.{headAt}
 use Rattle.layout.specs.Row.{active}
 use Rattle.table.specs.Table.{own, rowFor, activeNext}
@@ -147,7 +147,7 @@ module _ (m : Mesh) (c : ℕ) (d : Address) where
   abbrev Ends : Walked → Type 0
   Ends w = (w .answer ≡ 0) ⊎ (w .answer ≡ 41)
 
-  -- A walk that does not end so meets one point more than it has hops.
+  -- Else the walk meets one point more than it has hops.
   abbrev EndsOrMeets : ℕ → Address → Walked → Type 0
   EndsOrMeets remaining a w = Ends w ⊎ (length (met m d remaining a) ≡ suc remaining)
 
@@ -199,7 +199,7 @@ module _ (m : Mesh) (c : ℕ) (d : Address) where
         ⊎-elim (λ ends. ends) (λ long. let few = met-fewer (length (m .boxes)) a in absurd (omega (arith, long, few)))
         (ends-or-meets (length (m .boxes)) a 0 point)
 
-    pub walk-ends : (from : Address) (w : Walked) → walkOver m c from d ≡ accepted w → Ends w
+    walk-ends : (from : Address) (w : Walked) → walkOver m c from d ≡ accepted w → Ends w
     unfolding walkOver walk
     walk-ends from w e =
         let s : List ℕ = flatMap (λ (l : Lent). l .table) (m .boxes) in

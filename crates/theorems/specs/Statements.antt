@@ -138,7 +138,8 @@ NeverTooLong =
 -- ---- not vacuous (`not-vacuous`)
 
 -- The worked case of document 01, run on the rules with its walk, is all that `LoopFree` asks for, answers as the bench prints,
--- and ends with routes there and back. A second run is all of it too, passes from 4,294,967,295 to 0, and finds its route.
+-- and ends with routes there and back. A second run, in which numbers pass from 4,294,967,295 to 0, is all that `LoopFree` asks
+-- for and finds its route.
 abbrev pub NotVacuous : Type 0
 NotVacuous = all (λ b. b) (worked decision ++ wentRound decision) ≡ true
 
@@ -150,8 +151,8 @@ NotVacuous = all (λ b. b) (worked decision ++ wentRound decision) ≡ true
 --
 -- (For other errors no list is given: an error matched by destination only; an error with a newer number or a break that leaves
 -- the metric; a break that hits expired rows too. That no row gets worse by these, and so none loops, is argued here and not
--- proved. Demand 3 does not exclude them. The edges exclude the first and a break that leaves the metric; code that is proved
--- equal to the rules, and tests, exclude all.)
+-- proved. Demand 3 does not exclude them. `edges` and `shutOut` exclude all but the last; code that is proved equal to the rules,
+-- and tests, exclude all.)
 abbrev pub Sharp : Type 0
 Sharp = all loops counterexamples ≡ true
 
