@@ -20,9 +20,9 @@ use Rattle.calls.specs.Answers.{exitOf}
 use Rattle.bench_core.specs.declared.State.{State}
 use Rattle.bench_core.specs.declared.Done.{Done}
 use Rattle.bench_core.specs.declared.Done.the-variants.{Fault}
-use Rattle.bench_core.specs.Frames.{senderOf, elementOf}
-use Rattle.bench_core.specs.Bench.{calledBy, settled, Done as Came}
-use Rattle.bench_core.specs.Commands.{askFor, announceSelf, handedOver, arrivalFrom, deliver, breakOff}
+use Rattle.bench_rules.specs.Frames.{senderOf, elementOf}
+use Rattle.bench_rules.specs.Bench.{calledBy, settled, Done as Came}
+use Rattle.bench_rules.specs.Commands.{askFor, announceSelf, handedOver, arrivalFrom, deliver, breakOff}
 use Rattle.bench_core.specs.InCode.{benchOf, doneIn, settledAs, settledSlots}
 use Rattle.walk.proofs.Tables.{piece-is}
 use Rattle.bench_core.proofs.Settling.{settled-so}

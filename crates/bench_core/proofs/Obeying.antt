@@ -1,16 +1,17 @@
 -- Commands by their octets.
 use Prim.Native.Nat.{ℕ, _<_, _≤_}
-use mathlib.Core.Path.{_≡_, sym}
+use mathlib.Core.Path.{_≡_, sym, ap, subst, _∙_}
 use mathlib.Core.List.{List, [], _∷_}
 use lib.ListN.{length, List·getD-eq-default}
 use borrow.Author.Tests.{ne-eqb, lt-ltb, le-ltb}
 use Rattle.octets.specs.LittleEndian.{numberAt}
 use Rattle.bench_core.specs.declared.State.{State}
 use Rattle.bench_core.specs.declared.Done.{Done}
-use Rattle.bench_core.specs.declared.Done.the-variants.{Fault}
-use Rattle.bench_core.specs.Bench.{Bench, WithLinks, Done as Came}
-use Rattle.bench_core.specs.InCode.{benchOf, doneIn, Adds, Advances, Links, Walks}
-use Rattle.bench_core.specs.Interpreter.{lengthOf, leavingLinks, obeyed, command}
+use Rattle.bench_core.specs.declared.Done.the-variants.{Fault, Line}
+use Rattle.bench_rules.specs.Bench.{Bench, WithLinks, Done as Came}
+use Rattle.bench_core.specs.InCode.{benchOf, doneIn, Memory, Remains, Adds, Advances, Links, Walks}
+use Rattle.bench_rules.specs.Interpreter.{lengthOf, leavingLinks, obeyed, command}
+use Rattle.bench_rules.proofs.Sound.{Stays, obeyed-sound}
 
 pub no-command : (c : ℕ) → 9 ≤ c → 0 ≡ lengthOf c
 no-command c l = sym (List·getD-eq-default (0 ∷ 11 ∷ 5 ∷ 7 ∷ 13 ∷ 6 ∷ 4 ∷ 3 ∷ 3 ∷ []) 0 l)
@@ -91,3 +92,16 @@ module _ (st : State) (tables slots : List ℕ) (links : List (List ℕ)) (s : L
           → x ≡ command (benchOf st tables slots) links s
       unfolding command
       command-obeyed l x xe = rw (← ce, ← ne, ne-eqb n 0 nz, le-ltb (length s) n l) xe
+
+-- what remains of the memory
+module _ (st : State) (tables slots : List ℕ) (m : Memory st tables slots) (links : List (List ℕ)) (s : List ℕ) (c : ℕ) where
+  pub memory-remains : (r : Done) (tables′ slots′ : List ℕ) (links′ : List (List ℕ))
+      → record { done = doneIn r tables′ slots′; links = links′ } ≡ obeyed (benchOf st tables slots) links s c
+      → length tables′ ≡ length tables → length slots′ ≡ length slots → Remains r tables′ slots′
+  memory-remains Fault tables′ slots′ links′ e te se = tt
+  memory-remains (Line x) tables′ slots′ links′ e te se =
+      record {
+        tables-long = te ∙ m .tables-long;
+        slots-long = se ∙ m .slots-long;
+        sound = subst Stays (sym (ap (λ (l : WithLinks). l .done) e)) (obeyed-sound (benchOf st tables slots) (m .sound) links s c);
+      }

@@ -16,8 +16,8 @@ use Rattle.calls.specs.Answers.{exitOf}
 use Rattle.bench_core.specs.declared.State.{State}
 use Rattle.bench_core.specs.declared.Done.{Done}
 use Rattle.bench_core.specs.declared.Done.the-variants.{Fault}
-use Rattle.bench_core.specs.Frames.{keep}
-use Rattle.bench_core.specs.Bench.{withTableAt, settled}
+use Rattle.bench_rules.specs.Frames.{keep}
+use Rattle.bench_rules.specs.Bench.{withTableAt, settled}
 use Rattle.bench_core.specs.InCode.{benchOf, doneIn, printed, keptAs, keptSlots, settledAs, settledSlots}
 
 -- ---- the frames of a call

@@ -25,7 +25,7 @@ use Rattle.bench_core.specs.declared.State.{State}
 use Rattle.bench_core.specs.declared.Done.{Done}
 use Rattle.bench_core.specs.declared.Done.the-variants.{Fault}
 use Rattle.bench_links.specs.Links.{linked}
-use Rattle.bench_core.specs.Commands.{addPoint, advance, link, walkedLine, walkTo}
+use Rattle.bench_rules.specs.Commands.{addPoint, advance, link, walkedLine, walkTo}
 use Rattle.bench_core.specs.InCode.{benchOf, printed, Adds, Advances, Links, Walks}
 use Rattle.bench_core.proofs.Settling.{put-back}
 use Rattle.bench_core.proofs.Calling.{lent-table}

@@ -6,7 +6,7 @@ use lib.ListN.{length, getD, set, take, drop, length-set, length-take}
 use native.Mathlib.Omega.{arith}
 use native.Mathlib.Nat.{min-eq-left, min-eq-right, sub-zero, add-zero}
 use Rattle.octets.specs.LittleEndian.{overwrite}
-use Rattle.bench_core.specs.Frames.{frameEnd, senderOf, elementOf, keep}
+use Rattle.bench_rules.specs.Frames.{frameEnd, senderOf, elementOf, keep}
 
 -- the first n of a list
 pub front-long : (s : List ℕ) (n : ℕ) → n ≤ length s → n ≡ length (take n s)

@@ -1,10 +1,9 @@
 -- What the code holds of the bench, as the definitions have it.
-use Prim.Native.Nat.{ℕ, _+_, _≤_}
+use Prim.Native.Nat.{ℕ, _+_}
 use mathlib.Core.Path.{_≡_}
 use mathlib.Core.Bool.{cond}
 use mathlib.Core.List.{List}
 use lib.ListN.{length}
-use Rattle.layout.specs.Row.{maxClock}
 use Rattle.counters.specs.declared.SequenceNumber.{SequenceNumber}
 use Rattle.layout.specs.declared.address.Address.{Address}
 use Rattle.rules.specs.Decision.{_above_}
@@ -13,9 +12,9 @@ use Rattle.calls.specs.declared.Outcome.the-variants.{Accepted, Refused}
 use Rattle.bench_core.specs.declared.State.{State}
 use Rattle.bench_core.specs.declared.Done.{Done}
 use Rattle.bench_core.specs.declared.Done.the-variants.{Line, Fault}
-use Rattle.bench_core.specs.Frames.{keep}
-use Rattle.bench_core.specs.Bench.{Bench, fault, line, Done as Came}
-use Rattle.bench_core.specs.Commands.{addPoint, advance, link, walkTo}
+use Rattle.bench_rules.specs.Frames.{keep}
+use Rattle.bench_rules.specs.Bench.{Bench, Sound, fault, line, Done as Came}
+use Rattle.bench_rules.specs.Commands.{addPoint, advance, link, walkTo}
 
 abbrev pub benchOf : State → List ℕ → List ℕ → Bench
 benchOf s tables slots = record { tables = tables; points = s .points; slots = slots; frames = s .frames; clock = s .clock }
@@ -50,15 +49,16 @@ abbrev pub settledSlots : State → Outcome → (sender : ℕ) → (output slots
 settledSlots s (Refused n) sender output slots = slots
 settledSlots s (Accepted e) sender output slots = keptSlots s (e .frames) sender output slots
 
--- what holds of the numbers beside the memory
-abbrev pub Bounded : (points frames clock : ℕ) → Type 0
-Bounded points frames clock = (points ≤ 16) × (frames ≤ 128) × (clock ≤ maxClock)
-
 -- what the code's functions know of the memory and of the numbers beside it
 pub record Memory (s : State) (tables slots : List ℕ) : Type 0 where
   pub tables-long : length tables ≡ 8704
   pub slots-long : length slots ≡ 33792
-  pub bounded : Bounded (s .points) (s .frames) (s .clock)
+  pub sound : Sound (benchOf s tables slots)
+
+-- after a line the functions know it again; after a fault the memory plays no part
+abbrev pub Remains : Done → (tables slots : List ℕ) → Type 0
+Remains Fault tables slots = Unit {0}
+Remains (Line x) tables slots = Memory (record { points = x .points; frames = x .frames; clock = x .clock }) tables slots
 
 -- ---- commands that leave a part of the memory alone, whatever stands there
 

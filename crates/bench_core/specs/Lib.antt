@@ -1,5 +1,1 @@
-pub mod Frames
-pub mod Bench
-pub mod Commands
-pub mod Interpreter
 pub mod InCode

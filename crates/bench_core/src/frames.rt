@@ -4,7 +4,7 @@ ghost use mathlib.Core.List.{_∷_};
 ghost use Prim.Native.Nat.{_+_, _*_, _<_, _≤_};
 ghost use lib.ListN.{getD, length};
 ghost use Rattle.octets.specs.LittleEndian.{overwrite};
-ghost use Rattle.bench_core.specs.Frames.{elementOf, frameEnd, keep, senderOf};
+ghost use Rattle.bench_rules.specs.Frames.{elementOf, frameEnd, keep, senderOf};
 
 pub const MOST_FRAMES: usize = 128;
 

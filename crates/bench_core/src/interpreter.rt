@@ -5,8 +5,8 @@ use crate::operands;
 ghost use mathlib.Core.Path.{_≡_};
 ghost use Prim.Native.Nat.{_<_, _≤_};
 ghost use lib.ListN.{length};
-ghost use Rattle.bench_core.specs.InCode.{Memory, benchOf, doneIn};
-ghost use Rattle.bench_core.specs.Interpreter.{command, lengthOf, obeyed};
+ghost use Rattle.bench_core.specs.InCode.{Memory, Remains, benchOf, doneIn};
+ghost use Rattle.bench_rules.specs.Interpreter.{command, lengthOf, obeyed};
 
 // Octets of a command with its operands; 0 if there is no such command.
 pub fn length_of(command: u8) -> usize
@@ -80,6 +80,7 @@ pub fn obey_first(
     requires { ⌜ Memory s (now tables) (now slots) ⌝ }
     ensures { λ r. ⌜ record { done = doneIn r (now (tables .exit)) (now (slots .exit)); links = now (links .exit) }
         ≡ command (benchOf s (now (tables .entry)) (now (slots .entry))) (now (links .entry)) (now (input .entry)) ⌝ }
+    ensures { λ r. ⌜ Remains r (now (tables .exit)) (now (slots .exit)) ⌝ }
 {
     let command = octets::read_u8(input, 0);
     let length = length_of(command);

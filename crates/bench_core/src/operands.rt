@@ -11,7 +11,7 @@ ghost use Prim.Native.Nat.{_≤_};
 ghost use lib.ListN.{drop, length, take};
 ghost use Rattle.layout.specs.Row.{maxClock};
 ghost use Rattle.octets.specs.LittleEndian.{numberAt};
-ghost use Rattle.bench_core.specs.Commands.{announceSelf, askFor, breakOff, deliver};
+ghost use Rattle.bench_rules.specs.Commands.{announceSelf, askFor, breakOff, deliver};
 ghost use Rattle.bench_core.specs.InCode.{Adds, Advances, Links, Memory, Walks, benchOf, doneIn};
 
 pub fn point(input: &[u8], s: State, tables: &mut [u8]) -> Done

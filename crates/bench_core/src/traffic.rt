@@ -14,7 +14,7 @@ use rules::Arrival;
 ghost use mathlib.Core.Path.{_≡_};
 ghost use Prim.Native.Nat.{_<_};
 ghost use lib.ListN.{length};
-ghost use Rattle.bench_core.specs.Commands.{announceSelf, arrivalFrom, askFor, breakOff, deliver, handedOver};
+ghost use Rattle.bench_rules.specs.Commands.{announceSelf, arrivalFrom, askFor, breakOff, deliver, handedOver};
 ghost use Rattle.bench_core.specs.InCode.{Memory, benchOf, doneIn};
 
 // The item of the one destination is its flags and its address.

@@ -8,9 +8,8 @@ ghost use mathlib.Core.Path.{_≡_};
 ghost use Prim.Native.Nat.{_+_, _<_, _≤_};
 ghost use lib.ListN.{length};
 ghost use Rattle.octets.specs.LittleEndian.{numberAt};
-ghost use Rattle.bench_core.specs.InCode.{Bounded};
-ghost use Rattle.bench_run.specs.Blocks.{Stands};
-ghost use Rattle.bench_core.specs.Interpreter.{lengthOf};
+ghost use Rattle.bench_run.specs.Blocks.{Bounded, Stands};
+ghost use Rattle.bench_rules.specs.Interpreter.{lengthOf};
 
 // How far the commands have come: octets of the block used, octets of the text written, whether the bench has ended, and what it
 // holds.

@@ -3,7 +3,7 @@ use Prim.Native.Nat.{_≤_}
 use mathlib.Core.Path.{_≡_}
 use lib.ListN.{length}
 use borrow.Author.Needs.{needs}
-use Rattle.bench_core.specs.InCode.{Bounded}
+use Rattle.bench_run.specs.Blocks.{Bounded}
 use Rattle.bench_run.proofs.run.Statement.{statement}
 use Rattle.bench_run.proofs.run.Tie as tie
 

@@ -3,7 +3,7 @@ use Prim.Native.Nat.{_+_, _-_, _≤_}
 use mathlib.Core.Path.{_≡_}
 use lib.ListN.{length}
 use borrow.Author.Needs.{needs}
-use Rattle.bench_core.specs.Frames.{keep}
+use Rattle.bench_rules.specs.Frames.{keep}
 use Rattle.bench_core.proofs.Slots.{keep-start, keep-more, keep-ended}
 use Rattle.bench_core.proofs.frames.keep_frames.Statement.{statement}
 use Rattle.bench_core.proofs.frames.keep_frames.Tie as tie

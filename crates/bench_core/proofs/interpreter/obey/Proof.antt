@@ -1,6 +1,6 @@
 -- `bench_core::interpreter::obey` meets its contract: by the number of the command.
 use borrow.Author.Needs.{needs}
-use Rattle.bench_core.specs.Interpreter.{obeyed}
+use Rattle.bench_rules.specs.Interpreter.{obeyed}
 use Rattle.bench_core.proofs.Obeying.{enough, obeyed-1, obeyed-2, obeyed-3, obeyed-call, obeyed-8, obeyed-none}
 use Rattle.bench_core.proofs.interpreter.obey.Statement.{statement}
 use Rattle.bench_core.proofs.interpreter.obey.Tie as tie

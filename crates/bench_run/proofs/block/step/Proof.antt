@@ -11,7 +11,14 @@ step-spec =
     (λ c. search needs)
     (λ c. search needs)
     (λ c. search needs)
-    (λ c κs. search needs)
+    (λ c κs. (
+      search needs,
+      record {
+        tables-long = search needs;
+        slots-long = search needs;
+        sound = record { points = search needs; frames = search needs; clock = search needs };
+      },
+    ))
     (λ c. search needs)
     (λ c κs. ((search some-octets, search all-octets), ((search needs, search needs), (search line-points, search line-frames, search line-clock))))
     (λ c. search needs)

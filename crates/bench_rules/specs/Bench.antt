@@ -1,5 +1,5 @@
 -- What the bench holds, and what a command comes to.
-use Prim.Native.Nat.{ℕ, _+_, _*_}
+use Prim.Native.Nat.{ℕ, _+_, _*_, _≤_}
 use mathlib.Core.Bool.{Bool, cond}
 use mathlib.Core.List.{List, _++_}
 use lib.Dec.{ltb}
@@ -7,10 +7,11 @@ use lib.ListN.{take, drop}
 use Rattle.octets.specs.LittleEndian.{zeros}
 use Rattle.layout.specs.declared.address.Address.{Address}
 use Rattle.layout.specs.Address.{addressOf}
+use Rattle.layout.specs.Row.{maxClock}
 use Rattle.rules.specs.Decision.{Decision, _above_}
 use Rattle.rules.specs.Exit.{lend, Effect, Exit, atExit, leastOutput}
 use Rattle.rules.specs.Walk.{tableAt}
-use Rattle.bench_core.specs.Frames.{keep}
+use Rattle.bench_rules.specs.Frames.{keep}
 
 -- tables of 16 rows side by side, and how many are points; the frames kept, and how many there are; the clock
 pub record Bench : Type 0 where
@@ -19,6 +20,12 @@ pub record Bench : Type 0 where
   pub slots : List ℕ
   pub frames : ℕ
   pub clock : ℕ
+
+-- what holds of a bench at any time
+pub record Sound (b : Bench) : Type 0 where
+  pub points : b .points ≤ 16
+  pub frames : b .frames ≤ 128
+  pub clock : b .clock ≤ maxClock
 
 -- a command prints a line, its answer and what stands third, and goes on; or it is at fault, and the bench ends
 pub data Done : Type 0 where

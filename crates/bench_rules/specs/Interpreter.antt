@@ -6,8 +6,8 @@ use lib.Dec.{eqb}
 use lib.ListN.{length, getD, take, drop}
 use Rattle.octets.specs.LittleEndian.{numberAt}
 use Rattle.rules.specs.Decision.{_below_}
-use Rattle.bench_core.specs.Bench.{Bench, Done, fault, WithLinks}
-use Rattle.bench_core.specs.Commands.{addPoint, advance, link, askFor, announceSelf, deliver, breakOff, walkTo}
+use Rattle.bench_rules.specs.Bench.{Bench, Done, fault, WithLinks}
+use Rattle.bench_rules.specs.Commands.{addPoint, advance, link, askFor, announceSelf, deliver, breakOff, walkTo}
 
 -- the octets of commands 1 to 8 with their operands; 0 where there is no such command
 abbrev pub lengthOf : ℕ → ℕ

@@ -18,8 +18,8 @@ use Rattle.rules.specs.Receive.{receive}
 use Rattle.rules.specs.Break.{breakNeighbour}
 use Rattle.rules.specs.Walk.{Walked, tableAt, walkedAtExit, walk}
 use Rattle.bench_links.specs.Links.{metricOf, linked}
-use Rattle.bench_core.specs.Frames.{senderOf, elementOf}
-use Rattle.bench_core.specs.Bench.{
+use Rattle.bench_rules.specs.Frames.{senderOf, elementOf}
+use Rattle.bench_rules.specs.Bench.{
   Bench,
   Done,
   fault,

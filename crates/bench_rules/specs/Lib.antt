@@ -1,0 +1,4 @@
+pub mod Frames
+pub mod Bench
+pub mod Commands
+pub mod Interpreter

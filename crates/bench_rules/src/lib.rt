@@ -1,0 +1,1 @@
+// What the bench does, as definitions: see specs/. No code.
