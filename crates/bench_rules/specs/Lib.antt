@@ -2,3 +2,5 @@ pub mod Frames
 pub mod Bench
 pub mod Commands
 pub mod Interpreter
+pub mod Text
+pub mod Run

@@ -1,0 +1,72 @@
+-- The run of the bench: its start, the commands of an input one after another, and the text that it prints.
+use Prim.Native.Nat.{ℕ, zero, suc, _+_}
+use mathlib.Core.Bool.{Bool, false, _||_, cond}
+use mathlib.Core.List.{List, [], _++_}
+use lib.Dec.{eqb}
+use lib.ListN.{length, drop, replicate}
+use Rattle.octets.specs.LittleEndian.{numberAt, zeros}
+use Rattle.bench_rules.specs.Bench.{Bench, Done, fault, line, WithLinks}
+use Rattle.bench_rules.specs.Interpreter.{lengthOf, command}
+use Rattle.bench_rules.specs.Text.{lineText, faultText}
+
+-- where the bench stands between two commands: what it holds, the links, and the offset of the next command in the input
+pub record Standing : Type 0 where
+  pub bench : Bench
+  pub links : List (List ℕ)
+  pub offset : ℕ
+
+-- at its start there are no points, no frames and no links, and the clock is 0
+abbrev pub atStart : Standing
+atStart =
+    record {
+      bench = record { tables = zeros 8704; points = 0; slots = zeros 33792; frames = 0; clock = 0 };
+      links = replicate 16 (zeros 16);
+      offset = 0;
+    }
+
+-- the text printed so far, and where the bench stands; or the text, where a fault has ended it
+pub data Course : Type 0 where
+  going : (text : List ℕ) → Standing → Course
+  ended : (text : List ℕ) → Course
+
+-- after command c: its line, and the bench goes on behind it; or E and its offset, and the bench ends
+abbrev pub afterCommand : (text : List ℕ) → Standing → (c : ℕ) → List (List ℕ) → Done → Course
+afterCommand text x c links fault = ended (text ++ faultText (x .offset))
+afterCommand text x c links (line answer third b) =
+    going (text ++ lineText c answer third) (record { bench = b; links = links; offset = x .offset + lengthOf c })
+
+-- the command at the start of these octets, and what is behind it
+unfoldable pub obeyFirst : (text : List ℕ) → Standing → List ℕ → Course
+obeyFirst text x s =
+    let w : WithLinks = command (x .bench) (x .links) s in
+    afterCommand text x (numberAt 1 s 0) (w .links) (w .done)
+
+abbrev pub behind : List ℕ → List ℕ
+behind s = drop (lengthOf (numberAt 1 s 0)) s
+
+-- a bench that has ended stays so
+abbrev pub unlessEnded : Course → ((text : List ℕ) → Standing → Course) → Course
+unlessEnded (ended text) further = ended text
+unlessEnded (going text x) further = further text x
+
+-- Commands one after another, at most n, until the octets end, a fault ends the bench, or this test of the text and the octets left
+-- says that it pauses.
+unfoldable pub obeyUntil : (pauses : (text s : List ℕ) → Bool) → (n : ℕ) → Course → List ℕ → Course
+obeyUntil pauses zero c s = c
+obeyUntil pauses (suc n) c s =
+    unlessEnded c (λ text x. cond (eqb (length s) 0 || pauses text s) c (obeyUntil pauses n (obeyFirst text x s) (behind s)))
+
+-- all commands of these octets, without a pause: no command is shorter than an octet
+abbrev pub never : (text s : List ℕ) → Bool
+never text s = false
+
+abbrev pub obeyAll : Course → List ℕ → Course
+obeyAll c s = obeyUntil never (length s) c s
+
+-- the text that the bench prints for an input
+abbrev pub textOf : Course → List ℕ
+textOf (going text x) = text
+textOf (ended text) = text
+
+unfoldable pub textFor : (input : List ℕ) → List ℕ
+textFor input = textOf (obeyAll (going [] atStart) input)
