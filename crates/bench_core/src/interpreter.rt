@@ -6,7 +6,7 @@ ghost use mathlib.Core.Path.{_≡_};
 ghost use Prim.Native.Nat.{_<_, _≤_};
 ghost use lib.ListN.{length};
 ghost use Rattle.bench_core.specs.InCode.{Memory, Remains, benchOf, doneIn};
-ghost use Rattle.bench_rules.specs.Interpreter.{command, lengthOf, obeyed};
+ghost use Rattle.bench_rules.specs.Interpreter.{command, isCut, lengthOf, obeyed};
 
 // Octets of a command with its operands; 0 if there is no such command.
 pub fn length_of(command: u8) -> usize
@@ -21,7 +21,9 @@ pub fn length_of(command: u8) -> usize
 }
 
 // Whether octets of the first command are still to come. A command that is unknown has none.
-pub fn is_cut(input: &[u8]) -> bool {
+pub fn is_cut(input: &[u8]) -> bool
+    ensures { λ r. ⌜ r ≡ isCut (now (input .entry)) ⌝ }
+{
     if input.len() == 0 {
         return true;
     }

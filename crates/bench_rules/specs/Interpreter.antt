@@ -1,6 +1,6 @@
 -- A command by its octets.
 use Prim.Native.Nat.{ℕ}
-use mathlib.Core.Bool.{_||_, cond}
+use mathlib.Core.Bool.{Bool, _||_, cond}
 use mathlib.Core.List.{List, [], _∷_}
 use lib.Dec.{eqb}
 use lib.ListN.{length, getD, take, drop}
@@ -35,3 +35,7 @@ unfoldable pub command : Bench → List (List ℕ) → List ℕ → WithLinks
 command b links s =
     let c = numberAt 1 s 0 in
     cond (eqb (lengthOf c) 0 || (length s) below (lengthOf c)) (leavingLinks links fault) (obeyed b links s c)
+
+-- octets of the first command are still to come; an unknown command has all of its octets
+unfoldable pub isCut : List ℕ → Bool
+isCut s = eqb (length s) 0 || (length s) below (lengthOf (numberAt 1 s 0))
