@@ -1,7 +1,11 @@
 -- The link metric of every pair of 16 points; 0 is no link.
 use Prim.Native.Nat.{ℕ}
 use mathlib.Core.List.{List, []}
-use lib.ListN.{getD, set}
+use lib.ListN.{getD, set, replicate}
+
+-- at first there is none
+abbrev pub noLinks : List (List ℕ)
+noLinks = replicate 16 (replicate 16 0)
 
 -- the metric from p to q
 abbrev pub metricOf : List (List ℕ) → ℕ → ℕ → ℕ

@@ -1,7 +1,14 @@
 // The bench's link metrics: one for every pair of points, both ways.
 ghost use mathlib.Core.Path.{_≡_};
 ghost use Prim.Native.Nat.{_<_};
-ghost use Rattle.bench_links.specs.Links.{linked, metricOf};
+ghost use Rattle.bench_links.specs.Links.{linked, metricOf, noLinks};
+
+// No link between any two points.
+pub fn none() -> [[u32; 16]; 16]
+    ensures { λ r. ⌜ r ≡ noLinks ⌝ }
+{
+    [[0u32; 16]; 16]
+}
 
 // Both ways: a frame goes over a link in either.
 pub fn set_both_ways(links: &mut [[u32; 16]; 16], p: usize, q: usize, metric: u32)

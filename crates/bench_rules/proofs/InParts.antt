@@ -28,6 +28,10 @@ empty-test : (s : List ℕ) (other : Bool) → (eqb (length s) 0 || other) ≡ f
 empty-test [] other e = clash cc
 empty-test (o ∷ s) other e = omega arith
 
+or-true : (b : Bool) → (b || true) ≡ true
+or-true true = refl
+or-true false = refl
+
 number-before : (n : ℕ) (s y : List ℕ) (at : ℕ) → at + n ≤ length s → numberAt n (s ++ y) at ≡ numberAt n s at
 unfolding numberAt
 number-before zero s y at l = refl
@@ -108,16 +112,21 @@ module _ (text : List ℕ) (x : Standing) (s : List ℕ) where
 -- ---- how many commands are allowed plays no part, if there may be as many as octets
 
 module _ (pauses : (text s : List ℕ) → Bool) where
-  ended-stays : (n : ℕ) (text s : List ℕ) → obeyUntil pauses n (ended text) s ≡ ended text
+  pub ended-stays : (n : ℕ) (text s : List ℕ) → obeyUntil pauses n (ended text) s ≡ ended text
   unfolding obeyUntil
   ended-stays zero text s = refl
   ended-stays (suc n) text s = refl
 
-  over-stays : (n : ℕ) (c : Course) (s : List ℕ) → length s ≡ 0 → obeyUntil pauses n c s ≡ c
+  pub over-stays : (n : ℕ) (c : Course) (s : List ℕ) → length s ≡ 0 → obeyUntil pauses n c s ≡ c
   unfolding obeyUntil
   over-stays zero c s e = refl
   over-stays (suc n) (ended text) s e = refl
   over-stays (suc n) (going text x) s e = rw e
+
+  pub paused-stays : (n : ℕ) (text : List ℕ) (x : Standing) (s : List ℕ) → pauses text s ≡ true → obeyUntil pauses n (going text x) s ≡ going text x
+  unfolding obeyUntil
+  paused-stays zero text x s e = refl
+  paused-stays (suc n) text x s e = rw (e, or-true (eqb (length s) 0))
 
   -- behind the first command, if it is so of whatever is shorter
   module _ (text : List ℕ) (x : Standing) (s : List ℕ) (n m : ℕ) where

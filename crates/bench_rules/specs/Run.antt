@@ -3,8 +3,9 @@ use Prim.Native.Nat.{ℕ, zero, suc, _+_}
 use mathlib.Core.Bool.{Bool, false, _||_, cond}
 use mathlib.Core.List.{List, [], _++_}
 use lib.Dec.{eqb}
-use lib.ListN.{length, drop, replicate}
+use lib.ListN.{length, drop}
 use Rattle.octets.specs.LittleEndian.{numberAt, zeros}
+use Rattle.bench_links.specs.Links.{noLinks}
 use Rattle.bench_rules.specs.Bench.{Bench, Done, fault, line, WithLinks}
 use Rattle.bench_rules.specs.Interpreter.{lengthOf, command}
 use Rattle.bench_rules.specs.Text.{lineText, faultText}
@@ -20,7 +21,7 @@ abbrev pub atStart : Standing
 atStart =
     record {
       bench = record { tables = zeros 8704; points = 0; slots = zeros 33792; frames = 0; clock = 0 };
-      links = replicate 16 (zeros 16);
+      links = noLinks;
       offset = 0;
     }
 

@@ -28,8 +28,8 @@ decimal n = digitsOf 20 n
 
 -- a line per command: command, answer or refusal, then what stands third
 unfoldable pub lineText : (command answer third : ℕ) → List ℕ
-lineText command answer third = (decimal command ++ space) ++ (decimal answer ++ space) ++ (decimal third ++ newline)
+lineText command answer third = decimal command ++ space ++ decimal answer ++ space ++ decimal third ++ newline
 
 -- E and the command's octet offset
 unfoldable pub faultText : (offset : ℕ) → List ℕ
-faultText offset = letterE ++ space ++ (decimal offset ++ newline)
+faultText offset = letterE ++ space ++ decimal offset ++ newline

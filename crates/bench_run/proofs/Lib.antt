@@ -1,2 +1,3 @@
-mod Printing
-mod Bounds
+mod Stepping
+mod Looping
+mod Turning

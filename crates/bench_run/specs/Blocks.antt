@@ -1,12 +1,41 @@
--- How far a block may have come: for the code's own functions.
-use Prim.Native.Nat.{ℕ, _≤_}
-use Rattle.layout.specs.Row.{maxClock}
+-- What the code holds of a run while it obeys a block of the input: for its own functions.
+use Prim.Native.Nat.{ℕ, _+_, _-_, _<_, _≤_}
+use mathlib.Core.Path.{_≡_}
+use mathlib.Core.Bool.{Bool, true, false, not, _&&_, _||_, cond}
+use mathlib.Core.List.{List}
+use lib.ListN.{length, take, drop}
+use Rattle.rules.specs.Decision.{_below_}
+use Rattle.bench_rules.specs.Interpreter.{isCut}
+use Rattle.bench_rules.specs.Run.{Standing, Course, going, ended, behind}
+use Rattle.bench_core.specs.declared.State.{State}
+use Rattle.bench_core.specs.InCode.{benchOf, Memory}
 use Rattle.bench_run.specs.declared.block.Progress.{Progress}
 
--- what holds of the numbers beside the memory
-abbrev pub Bounded : (points frames clock : ℕ) → Type 0
-Bounded points frames clock = (points ≤ 16) × (frames ≤ 128) × (clock ≤ maxClock)
+abbrev pub stateOf : Progress → State
+stateOf p = record { points = p .points; frames = p .frames; clock = p .clock }
 
--- in a block of n octets, with a text of so many octets
-abbrev pub Stands : Progress → (n room : ℕ) → Type 0
-Stands p n room = (p .used ≤ n) × (p .written ≤ room) × Bounded (p .points) (p .frames) (p .clock)
+-- where the bench stands, with this offset of the next command
+abbrev pub standing : State → (offset : ℕ) → (tables slots : List ℕ) → (links : List (List ℕ)) → Standing
+standing s offset tables slots links = record { bench = benchOf s tables slots; links = links; offset = offset }
+
+-- how far a block has come that begins at this offset
+abbrev pub courseOf : Progress → (offset : ℕ) → (tables slots : List ℕ) → (links : List (List ℕ)) → (text : List ℕ) → Course
+courseOf p offset tables slots links text =
+    cond (p .ended) (ended (take (p .written) text))
+    (going (take (p .written) text) (standing (stateOf p) (offset + p .used) tables slots links))
+
+-- a block pauses before a command that is cut, unless the input has ended, and where a line may have no room in the text
+unfoldable pub pausesIn : (last : Bool) → (room : ℕ) → (text s : List ℕ) → Bool
+pausesIn last room text s = (not last && isCut s) || (room - length text) below 64
+
+-- what the functions know of a block of n octets and of the memory; after a fault nothing is left of the block
+pub record Stands (p : Progress) (n : ℕ) (tables slots text : List ℕ) : Type 0 where
+  pub used : p .used ≤ n
+  pub written : p .written ≤ length text
+  pub over : p .ended ≡ true → n ≤ p .used
+  pub memory : p .ended ≡ false → Memory (stateOf p) tables slots
+
+-- what a command uses of the block: some octets, and if it printed a line, its own
+pub record Uses (p r : Progress) (block : List ℕ) : Type 0 where
+  pub later : p .used < r .used
+  pub rest : r .ended ≡ false → drop (r .used) block ≡ behind (drop (p .used) block)

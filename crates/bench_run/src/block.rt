@@ -1,15 +1,20 @@
 // The commands of a block, one after another, and the lines that they print.
-use crate::text;
 use bench_core::Done;
 use bench_core::Printed;
 use bench_core::State;
 use bench_core::interpreter;
+use libc::STDOUT_FILENO;
 ghost use mathlib.Core.Path.{_≡_};
+ghost use mathlib.Core.Bool.{false, true};
+ghost use mathlib.Core.List.{[]};
 ghost use Prim.Native.Nat.{_+_, _<_, _≤_};
-ghost use lib.ListN.{length};
-ghost use Rattle.octets.specs.LittleEndian.{numberAt};
-ghost use Rattle.bench_run.specs.Blocks.{Bounded, Stands};
+ghost use lib.ListN.{drop, length, take};
+ghost use Rattle.octets.specs.LittleEndian.{numberAt, overwrite};
 ghost use Rattle.bench_rules.specs.Interpreter.{lengthOf};
+ghost use Rattle.bench_rules.specs.Run.{going, obeyFirst, obeyUntil};
+ghost use Rattle.bench_rules.specs.Text.{faultText, lineText};
+ghost use Rattle.bench_core.specs.InCode.{Memory};
+ghost use Rattle.bench_run.specs.Blocks.{Stands, Uses, courseOf, pausesIn, standing, stateOf};
 
 // How far the commands have come: octets of the block used, octets of the text written, whether the bench has ended, and what it
 // holds.
@@ -22,20 +27,28 @@ pub struct Progress {
     pub clock: u64,
 }
 
-// After a command that was obeyed, so that all its octets are at the start of the rest.
+// After a command that was obeyed: its octets, all at the start of the rest, are used.
 fn print_line(p: Progress, rest: &[u8], x: Printed, text: &mut [u8]) -> Progress
-    requires { ⌜ (0 < lengthOf (numberAt 1 (now rest) 0)) × (lengthOf (numberAt 1 (now rest) 0) ≤ length (now rest)) ⌝ }
+    requires { ⌜ (0 < length (now rest)) × (lengthOf (numberAt 1 (now rest) 0) ≤ length (now rest)) ⌝ }
     requires { ⌜ (p .used + length (now rest) < 18446744073709551616) × (p .written + 64 ≤ length (now text)) ⌝ }
-    requires { ⌜ Bounded (x .points) (x .frames) (x .clock) ⌝ }
-    ensures { λ r. ⌜ (p .used < r .used) × (r .used ≤ p .used + length (now (rest .entry)))
-        × (r .written ≤ p .written + 64) × Bounded (r .points) (r .frames) (r .clock) ⌝ }
+    ensures { λ r. ⌜ r ≡ record {
+      used = p .used + lengthOf (numberAt 1 (now (rest .entry)) 0);
+      written = p .written + length (lineText (numberAt 1 (now (rest .entry)) 0) (x .answer) (x .third));
+      ended = false;
+      points = x .points;
+      frames = x .frames;
+      clock = x .clock;
+    } ⌝ }
+    ensures { λ r. ⌜ r .written ≤ p .written + 64 ⌝ }
+    ensures { λ _. ⌜ now (text .exit) ≡ overwrite (now (text .entry)) (p .written)
+        (lineText (numberAt 1 (now (rest .entry)) 0) (x .answer) (x .third)) ⌝ }
 {
     let used = p.used;
     let written = p.written;
     let command = octets::read_u8(rest, 0);
     Progress {
         used: used + interpreter::length_of(command),
-        written: text::put_line(text, written, command, x.answer, x.third),
+        written: bench_text::put_line(text, written, command, x.answer, x.third),
         ended: false,
         points: x.points,
         frames: x.frames,
@@ -46,13 +59,21 @@ fn print_line(p: Progress, rest: &[u8], x: Printed, text: &mut [u8]) -> Progress
 // After a fault in a block of n octets, at this offset of the input: nothing behind it is obeyed.
 fn print_fault(p: Progress, n: usize, offset: u64, text: &mut [u8]) -> Progress
     requires { ⌜ p .written + 64 ≤ length (now text) ⌝ }
-    requires { ⌜ Bounded (p .points) (p .frames) (p .clock) ⌝ }
-    ensures { λ r. ⌜ (r .used ≡ n) × (r .written ≤ p .written + 64) × Bounded (r .points) (r .frames) (r .clock) ⌝ }
+    ensures { λ r. ⌜ r ≡ record {
+      used = n;
+      written = p .written + length (faultText offset);
+      ended = true;
+      points = p .points;
+      frames = p .frames;
+      clock = p .clock;
+    } ⌝ }
+    ensures { λ r. ⌜ r .written ≤ p .written + 64 ⌝ }
+    ensures { λ _. ⌜ now (text .exit) ≡ overwrite (now (text .entry)) (p .written) (faultText offset) ⌝ }
 {
     let written = p.written;
     Progress {
         used: n,
-        written: text::put_fault(text, written, offset),
+        written: bench_text::put_fault(text, written, offset),
         ended: true,
         points: p.points,
         frames: p.frames,
@@ -71,10 +92,14 @@ fn step(
     text: &mut [u8],
 ) -> Progress
     requires { ⌜ (p .used < length (now block)) × (p .written + 64 ≤ length (now text)) ⌝ }
-    requires { ⌜ (length (now tables) ≡ 8704) × (length (now slots) ≡ 33792) ⌝ }
-    requires { ⌜ Bounded (p .points) (p .frames) (p .clock) ⌝ }
-    ensures { λ r. ⌜ (p .used < r .used) × (r .used ≤ length (now (block .entry))) × (r .written ≤ p .written + 64)
-        × Bounded (r .points) (r .frames) (r .clock) ⌝ }
+    requires { ⌜ offset + length (now block) < 18446744073709551616 ⌝ }
+    requires { ⌜ Memory (stateOf p) (now tables) (now slots) ⌝ }
+    ensures { λ r. ⌜ courseOf r offset (now (tables .exit)) (now (slots .exit)) (now (links .exit)) (now (text .exit))
+        ≡ obeyFirst (take (p .written) (now (text .entry)))
+        (standing (stateOf p) (offset + p .used) (now (tables .entry)) (now (slots .entry)) (now (links .entry)))
+        (drop (p .used) (now (block .entry))) ⌝ }
+    ensures { λ r. ⌜ Stands r (length (now (block .entry))) (now (tables .exit)) (now (slots .exit)) (now (text .exit)) ⌝ }
+    ensures { λ r. ⌜ Uses p r (now (block .entry)) ⌝ }
 {
     let used = p.used;
     let s = State {
@@ -85,10 +110,7 @@ fn step(
     let rest = &block[used..];
     match interpreter::obey_first(rest, s, tables, slots, links) {
         Done::Line(x) => print_line(p, rest, x, text),
-        Done::Fault => {
-            let at = std::num::wrapping_add_u64(offset, used as u64);
-            print_fault(p, block.len(), at, text)
-        }
+        Done::Fault => print_fault(p, block.len(), offset + used as u64, text),
     }
 }
 
@@ -103,9 +125,12 @@ fn obey_block(
     links: &mut [[u32; 16]; 16],
     text: &mut [u8],
 ) -> Progress
-    requires { ⌜ (length (now tables) ≡ 8704) × (length (now slots) ≡ 33792) ⌝ }
-    requires { ⌜ Bounded (s .points) (s .frames) (s .clock) ⌝ }
-    ensures { λ r. ⌜ Stands r (length (now (block .entry))) (length (now (text .exit))) ⌝ }
+    requires { ⌜ Memory s (now tables) (now slots) ⌝ }
+    requires { ⌜ offset + length (now block) < 18446744073709551616 ⌝ }
+    ensures { λ r. ⌜ courseOf r offset (now (tables .exit)) (now (slots .exit)) (now (links .exit)) (now (text .exit))
+        ≡ obeyUntil (pausesIn last (length (now (text .entry)))) (length (now (block .entry)))
+        (going [] (standing s offset (now (tables .entry)) (now (slots .entry)) (now (links .entry)))) (now (block .entry)) ⌝ }
+    ensures { λ r. ⌜ Stands r (length (now (block .entry))) (now (tables .exit)) (now (slots .exit)) (now (text .exit)) ⌝ }
 {
     let n = block.len();
     let mut p = Progress {
@@ -122,12 +147,18 @@ fn obey_block(
             return p;
         }
         let room = text.len() - p.written;
-        if room < text::LONGEST_LINE {
+        if room < bench_text::LONGEST_LINE {
             return p;
         }
         p = step(block, offset, p, tables, slots, links, text);
     }
     p
+}
+
+fn print(text: &[u8], n: usize)
+    requires { ⌜ n ≤ length (now text) ⌝ }
+{
+    io::write_all(STDOUT_FILENO, &text[..n]);
 }
 
 // A block, and its lines printed at once. The bench ends with the last of the input, or at a fault.
@@ -141,18 +172,14 @@ pub fn obey_and_print(
     links: &mut [[u32; 16]; 16],
     text: &mut [u8],
 ) -> Progress
-    requires { ⌜ (length (now tables) ≡ 8704) × (length (now slots) ≡ 33792) ⌝ }
-    requires { ⌜ Bounded (s .points) (s .frames) (s .clock) ⌝ }
-    ensures { λ r. ⌜ (r .used ≤ length (now (block .entry))) × Bounded (r .points) (r .frames) (r .clock) ⌝ }
+    requires { ⌜ Memory s (now tables) (now slots) ⌝ }
+    requires { ⌜ offset + length (now block) < 18446744073709551616 ⌝ }
+    ensures { λ r. ⌜ courseOf r offset (now (tables .exit)) (now (slots .exit)) (now (links .exit)) (now (text .exit))
+        ≡ obeyUntil (pausesIn last (length (now (text .entry)))) (length (now (block .entry)))
+        (going [] (standing s offset (now (tables .entry)) (now (slots .entry)) (now (links .entry)))) (now (block .entry)) ⌝ }
+    ensures { λ r. ⌜ Stands r (length (now (block .entry))) (now (tables .exit)) (now (slots .exit)) (now (text .exit)) ⌝ }
 {
     let p = obey_block(block, last, offset, s, tables, slots, links, text);
-    text::print(text, p.written);
-    Progress {
-        used: p.used,
-        written: p.written,
-        ended: p.ended | (last & (p.used == block.len())),
-        points: p.points,
-        frames: p.frames,
-        clock: p.clock,
-    }
+    print(text, p.written);
+    p
 }

@@ -1,50 +1,48 @@
 // The bench on standard input and output.
 mod block;
-mod reader;
-mod text;
+mod turn;
 
 use bench_core::SLOTS;
 use bench_core::State;
 use bench_core::TABLES;
+use turn::Turn;
+
+// A loop has to end, and nothing says that the input does: no run has so many turns. The offset, which grows by at most 65,536 in
+// a turn, stays below 2^63.
+const MOST_TURNS: u64 = 140_737_488_355_328;
 
 // Obeys the commands on standard input, and prints a line for each.
 pub fn run() {
     let mut tables = [0u8; TABLES];
     let mut slots = [0u8; SLOTS];
-    let mut links = [[0u32; 16]; 16];
+    let mut links = bench_links::none();
     let mut buffer = io::large_buffer();
     let mut text = io::large_buffer();
-    let mut c = reader::start();
-    let mut s = State {
-        points: 0,
-        frames: 0,
-        clock: 0,
+    let mut t = Turn {
+        ended: false,
+        cursor: bench_input::start(),
+        state: State {
+            points: 0,
+            frames: 0,
+            clock: 0,
+        },
     };
-    // A loop has to end, and nothing says that the input does: no run uses up so many turns.
-    let mut turns = u64::MAX;
+    let mut turns = MOST_TURNS;
     while 0 < turns {
-        c = reader::refill(&mut buffer, c);
-        let from = c.from;
-        let filled = c.filled;
-        let p = block::obey_and_print(
-            &buffer[from..filled],
-            c.last,
-            c.offset,
+        let c = t.cursor;
+        let s = t.state;
+        t = turn::take_turn(
+            c,
             s,
+            &mut buffer,
             &mut tables,
             &mut slots,
             &mut links,
             &mut text,
         );
-        if p.ended {
+        if t.ended {
             return;
         }
-        s = State {
-            points: p.points,
-            frames: p.frames,
-            clock: p.clock,
-        };
-        c = reader::go_past(c, p.used);
         turns -= 1;
     }
 }

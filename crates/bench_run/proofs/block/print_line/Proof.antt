@@ -1,6 +1,6 @@
--- `bench_run::block::print_line` meets its contract: the command's octets are used, and its line has room.
+-- `bench_run::block::print_line` meets its contract: the line, and the octets of the command are used.
 use borrow.Author.Needs.{needs}
-use Rattle.bench_run.proofs.Bounds.{end-fits, ends-later, ends-inside}
+use Rattle.bench_run.proofs.Stepping.{octets-fit, line-printed, line-text}
 use Rattle.bench_run.proofs.block.print_line.Statement.{statement}
 use Rattle.bench_run.proofs.block.print_line.Tie as tie
 
@@ -10,7 +10,7 @@ print-line-spec =
     (tie.spec
     (λ c κs. search needs)
     (λ c κs. search needs)
-    (λ c. search (needs, end-fits))
+    (λ c. search octets-fit)
     (λ c κs. search needs)
     (λ c. search needs)
-    (λ c. (search ends-later, search ends-inside, search needs, search needs)))
+    (λ c. (search line-printed, (search needs, search line-text))))

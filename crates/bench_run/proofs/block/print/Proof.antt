@@ -1,8 +1,8 @@
--- `bench_run::text::print` meets its contract.
+-- `bench_run::block::print` meets its contract.
 use borrow.Author.Needs.{needs}
 use Rattle.bench_core.proofs.Slots.{front-long}
-use Rattle.bench_run.proofs.text.print.Statement.{statement}
-use Rattle.bench_run.proofs.text.print.Tie as tie
+use Rattle.bench_run.proofs.block.print.Statement.{statement}
+use Rattle.bench_run.proofs.block.print.Tie as tie
 
 pub print-spec : {M : Type 1} → statement M
 print-spec =

@@ -2,8 +2,10 @@
 use bench_core::interpreter;
 use libc::STDIN_FILENO;
 ghost use mathlib.Core.Path.{_≡_};
+ghost use mathlib.Core.Bool.{false};
 ghost use Prim.Native.Nat.{_+_, _-_, _<_, _≤_};
-ghost use lib.ListN.{length};
+ghost use lib.ListN.{drop, length, take};
+ghost use Rattle.bench_input.specs.Reading.{Extends, Keeps, Unread, left};
 
 // Which octets of the buffer are still to be obeyed, whether standard input has ended, and the offset of the first of them.
 pub struct Cursor {
@@ -14,7 +16,7 @@ pub struct Cursor {
 }
 
 pub fn start() -> Cursor
-    ensures { λ r. ⌜ (r .from ≡ 0) × (r .filled ≡ 0) ⌝ }
+    ensures { λ r. ⌜ r ≡ record { from = 0; filled = 0; last = false; offset = 0 } ⌝ }
 {
     Cursor {
         from: 0,
@@ -28,6 +30,7 @@ pub fn start() -> Cursor
 fn move_to_start(buffer: &mut [u8], from: usize, filled: usize) -> usize
     requires { ⌜ (from ≤ filled) × (filled ≤ length (now buffer)) ⌝ }
     ensures { λ r. ⌜ r ≡ filled - from ⌝ }
+    ensures { λ r. ⌜ take r (now (buffer .exit)) ≡ take r (drop from (now (buffer .entry))) ⌝ }
 {
     let n = filled - from;
     let mut i = 0;
@@ -42,26 +45,21 @@ fn move_to_start(buffer: &mut [u8], from: usize, filled: usize) -> usize
 fn read_from(buffer: &mut [u8], at: usize) -> usize
     requires { ⌜ at ≤ length (now buffer) ⌝ }
     ensures { λ r. ⌜ at + r ≤ length (now (buffer .exit)) ⌝ }
+    ensures { λ _. ⌜ Keeps at (now (buffer .entry)) (now (buffer .exit)) ⌝ }
 {
     let part = &mut buffer[at..];
     let got = libc::read(STDIN_FILENO, part);
     io::count(got, part)
 }
 
-// Reads on where the next command is not all there, so that a whole one is obeyed before more is waited for.
-pub fn refill(buffer: &mut [u8], c: Cursor) -> Cursor
-    requires { ⌜ (c .from ≤ c .filled) × (c .filled ≤ length (now buffer)) ⌝ }
-    ensures { λ r. ⌜ (r .from ≤ r .filled) × (r .filled ≤ length (now (buffer .exit))) ⌝ }
+// Reads more octets behind those that are left, which come to the start of the buffer.
+fn read_more(buffer: &mut [u8], c: Cursor) -> Cursor
+    requires { ⌜ Unread c (now buffer) ⌝ }
+    ensures { λ r. ⌜ Unread r (now (buffer .exit)) ⌝ }
+    ensures { λ r. ⌜ r .offset ≡ c .offset ⌝ }
+    ensures { λ r. ⌜ Extends (left c (now (buffer .entry))) (left r (now (buffer .exit))) ⌝ }
 {
-    let from = c.from;
-    let filled = c.filled;
-    if c.last {
-        return c;
-    }
-    if !interpreter::is_cut(&buffer[from..filled]) {
-        return c;
-    }
-    let left = move_to_start(buffer, from, filled);
+    let left = move_to_start(buffer, c.from, c.filled);
     let got = read_from(buffer, left);
     Cursor {
         from: 0,
@@ -71,10 +69,29 @@ pub fn refill(buffer: &mut [u8], c: Cursor) -> Cursor
     }
 }
 
+// Reads on where the next command is not all there, so that a whole one is obeyed before more is waited for.
+pub fn refill(buffer: &mut [u8], c: Cursor) -> Cursor
+    requires { ⌜ Unread c (now buffer) ⌝ }
+    ensures { λ r. ⌜ Unread r (now (buffer .exit)) ⌝ }
+    ensures { λ r. ⌜ r .offset ≡ c .offset ⌝ }
+    ensures { λ r. ⌜ Extends (left c (now (buffer .entry))) (left r (now (buffer .exit))) ⌝ }
+{
+    let from = c.from;
+    let filled = c.filled;
+    if c.last {
+        return c;
+    }
+    if !interpreter::is_cut(&buffer[from..filled]) {
+        return c;
+    }
+    read_more(buffer, c)
+}
+
 // After so many octets were obeyed.
 pub fn go_past(c: Cursor, used: usize) -> Cursor
-    requires { ⌜ c .from + used ≤ c .filled ⌝ }
-    ensures { λ r. ⌜ (r .from ≤ r .filled) × (r .filled ≡ c .filled) ⌝ }
+    requires { ⌜ c .from + used < 18446744073709551616 ⌝ }
+    requires { ⌜ c .offset + used < 18446744073709551616 ⌝ }
+    ensures { λ r. ⌜ r ≡ record { from = c .from + used; filled = c .filled; last = c .last; offset = c .offset + used } ⌝ }
 {
     let from = c.from;
     let offset = c.offset;
@@ -82,6 +99,6 @@ pub fn go_past(c: Cursor, used: usize) -> Cursor
         from: from + used,
         filled: c.filled,
         last: c.last,
-        offset: std::num::wrapping_add_u64(offset, used as u64),
+        offset: offset + used as u64,
     }
 }

@@ -1,0 +1,15 @@
+-- `bench_input::read_more` meets its contract: what is left is moved, and some octets may come behind it.
+use borrow.Author.Needs.{needs}
+use Rattle.bench_input.proofs.Refilling.{more-read}
+use Rattle.bench_input.proofs.read_more.Statement.{statement}
+use Rattle.bench_input.proofs.read_more.Tie as tie
+
+pub read-more-spec : {M : Type 1} → statement M
+read-more-spec =
+    tie.close
+    (tie.spec
+    (λ c κs. search needs)
+    (λ c κs. search needs)
+    (λ c. search needs)
+    (λ c. search needs)
+    (λ c. (search needs, (search needs, search more-read))))

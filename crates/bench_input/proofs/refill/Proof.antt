@@ -1,0 +1,20 @@
+-- `bench_input::refill` meets its contract: all stays as it is, or more is read.
+use borrow.Author.Needs.{needs}
+use Rattle.bench_input.proofs.Refilling.{nothing-more}
+use Rattle.bench_input.proofs.refill.Statement.{statement}
+use Rattle.bench_input.proofs.refill.Tie as tie
+
+pub refill-spec : {M : Type 1} → statement M
+refill-spec =
+    tie.close
+    (tie.spec
+    (λ c. (search needs, (search needs, search nothing-more)))
+    (λ c. search needs)
+    (λ c. search needs)
+    (λ c. search needs)
+    (λ c κs. search needs)
+    (λ c. search needs)
+    (λ c. (search needs, (search needs, search nothing-more)))
+    (λ c κs. search needs)
+    (λ c. search needs)
+    (λ c. search needs))

@@ -1,0 +1,67 @@
+// A turn of the bench: more of the input is read where a command is not all there, and whole commands are obeyed.
+use crate::block;
+use bench_core::State;
+use bench_input::Cursor;
+ghost use mathlib.Core.Path.{_≡_};
+ghost use Prim.Native.Nat.{_+_, _<_, _≤_};
+ghost use lib.ListN.{length};
+ghost use Rattle.bench_run.specs.Turns.{GoesOn, Ready};
+
+// Whether the bench has ended, which octets are still to be obeyed, and what it holds beside its memory.
+pub struct Turn {
+    pub ended: bool,
+    pub cursor: Cursor,
+    pub state: State,
+}
+
+// Obeys what has been read. The bench ends at a fault, or with the last of the input.
+fn obey_unread(
+    c: Cursor,
+    s: State,
+    buffer: &[u8],
+    tables: &mut [u8],
+    slots: &mut [u8],
+    links: &mut [[u32; 16]; 16],
+    text: &mut [u8],
+) -> Turn
+    requires { ⌜ Ready c s (now buffer) (now tables) (now slots) (now links) ⌝ }
+    requires { ⌜ c .offset + length (now buffer) < 18446744073709551616 ⌝ }
+    ensures { λ r. ⌜ GoesOn r (now (buffer .entry)) (now (tables .exit)) (now (slots .exit)) (now (links .exit)) ⌝ }
+    ensures { λ r. ⌜ r .cursor .offset ≤ c .offset + length (now (buffer .entry)) ⌝ }
+{
+    let from = c.from;
+    let filled = c.filled;
+    let last = c.last;
+    let block = &buffer[from..filled];
+    let p = block::obey_and_print(block, last, c.offset, s, tables, slots, links, text);
+    let used = p.used;
+    let cursor = bench_input::go_past(c, used);
+    let state = State {
+        points: p.points,
+        frames: p.frames,
+        clock: p.clock,
+    };
+    Turn {
+        ended: p.ended | (last & (used == filled - from)),
+        cursor,
+        state,
+    }
+}
+
+pub fn take_turn(
+    c: Cursor,
+    s: State,
+    buffer: &mut [u8],
+    tables: &mut [u8],
+    slots: &mut [u8],
+    links: &mut [[u32; 16]; 16],
+    text: &mut [u8],
+) -> Turn
+    requires { ⌜ Ready c s (now buffer) (now tables) (now slots) (now links) ⌝ }
+    requires { ⌜ c .offset + length (now buffer) < 18446744073709551616 ⌝ }
+    ensures { λ r. ⌜ GoesOn r (now (buffer .exit)) (now (tables .exit)) (now (slots .exit)) (now (links .exit)) ⌝ }
+    ensures { λ r. ⌜ r .cursor .offset ≤ c .offset + length (now (buffer .entry)) ⌝ }
+{
+    let unread = bench_input::refill(buffer, c);
+    obey_unread(unread, s, buffer, tables, slots, links, text)
+}
