@@ -22,7 +22,7 @@ use Rattle.element.specs.declared.Kind.the-variants.{Rrep}
 use Rattle.element.specs.declared.PathInfo.{PathInfo}
 use Rattle.element.specs.declared.Target.{Target}
 use Rattle.element.specs.declared.RrepFields.{RrepFields}
-use Rattle.element.specs.Element.{Element, rrep, rrepNumbers, kindOf, countOf}
+use Rattle.element.specs.Element.{rrep, rrepNumbers, kindOf, countOf}
 use Rattle.element.specs.Layout.{lengthWith}
 use Rattle.element.specs.Entries.{each, All, targetAt}
 use Rattle.element.specs.Octets.{frameStart, writeFrame}
@@ -33,7 +33,7 @@ use Rattle.rules.specs.declared.Arrival.{Arrival}
 use Rattle.element.specs.Flags.{replyWanted}
 use Rattle.rules.specs.Exit.{Frame, frameOctets}
 use Rattle.rules.specs.Destinations.{Answered, reply, replyFields, ownReply, answeredNumber, forOneself, forAllOnes, forAnother, answered, allAnswered}
-use Rattle.rules.proofs.Emitting.{Each, Emits, one-answered, replies-emitted}
+use Rattle.rules.proofs.Emitting.{Emits, one-answered, replies-emitted}
 use Rattle.rules.proofs.FrameOctets.{one-frame, frames-append}
 use Rattle.answering.specs.declared.Answering.{Answering}
 use Rattle.answering.specs.declared.Answering.the-variants.{By, Nobody}
@@ -226,10 +226,10 @@ module _ (t : List ℕ) (a : Arrival) (p : PathInfo) (q : Target) (before : Repl
 
 -- ---- all of them: each takes 40 octets
 
-abbrev Bare : Element → Type 0
-Bare e = lengthWith (kindOf e) (countOf e) ≡ 32
+abbrev Bare : Frame → Type 0
+Bare f = lengthWith (kindOf (f .element)) (countOf (f .element)) ≡ 32
 
-frames-long : (l : List Frame) → Each Bare l → length (frameOctets l) ≡ 40 * length l
+frames-long : (l : List Frame) → All Bare l → length (frameOctets l) ≡ 40 * length l
 unfolding frameOctets flatMap All
 frames-long [] h = refl
 frames-long (f ∷ l) h =

@@ -184,11 +184,11 @@ module _ (u : List ℕ) (a : Arrival) (f : RreqFields) (n : SequenceNumber) (par
 
   module _ (onward : Emitted) (oe : onward ≡ emitted (rreqOnward u a f kept)) where
     -- a RREQ with so many destinations is at most so long
-    abbrev Short : Element → Type 0
-    Short e = lengthWith (kindOf e) (countOf e) ≤ 26 + 11 * (length part / 11)
+    abbrev Short : Frame → Type 0
+    Short f = lengthWith (kindOf (f .element)) (countOf (f .element)) ≤ 26 + 11 * (length part / 11)
 
     goes-on : Emits Short 1 (rreqOnward u a f kept)
-    goes-on = rreq-emitted Short u a f kept (λ _. omega (arith, kept-few u (a .clock) part))
+    goes-on = rreq-emitted Short u a f kept (λ _ _ _. omega (arith, kept-few u (a .clock) part))
 
     pub onward-few : onward .frames ≤ 1
     onward-few = rw oe (goes-on .few)

@@ -1,4 +1,4 @@
--- Every accepted call leaves a table, and emits elements that fit their octets.
+-- Every accepted call leaves a table, and emits frames that fit their octets.
 use Prim.Native.Nat.{ℕ, _-_, _*_, _/_, _%_, _^_, _<_, _≤_}
 use mathlib.Core.Path.{_≡_, refl, _∙_}
 use mathlib.Core.Bool.{Bool, true, false, not, _&&_, and-eq-true-iff, true≢false}
@@ -36,10 +36,9 @@ use Rattle.element.specs.Entries.{All, itemAt, itemsIn}
 use Rattle.element.proofs.Lengths.{count-range}
 use Rattle.element.proofs.Scans.{each-length}
 use Rattle.element.proofs.ListParts.{all-each, FitsTarget, FitsNumbered, FitsLost}
-use Rattle.element.proofs.ReadBack.{Fits}
 use Rattle.rules.specs.Decision.{Check, accepted}
 use Rattle.rules.specs.Lists.{any, filter}
-use Rattle.rules.specs.Exit.{Frame, Lent, Effect}
+use Rattle.rules.specs.Exit.{Lent, Effect}
 use Rattle.rules.specs.declared.Arrival.{Arrival}
 use Rattle.rules.specs.Learn.{learnt}
 use Rattle.rules.specs.Destinations.{Answered, allAnswered}
@@ -51,12 +50,11 @@ use Rattle.rules.specs.Break.{brokenOff, breaking, breakNeighbour}
 use Rattle.rules.specs.Calls.{Call, receives, makes, asks, announces, requestsAsRoot, breaks, decision, OperandsFit}
 use Rattle.rules.proofs.Rulings.{listed, passed, passed-check}
 use Rattle.rules.proofs.Branches.{cond-cases}
-use Rattle.rules.proofs.Alls.{all-append, all-map, all-filter, filter-fewer, filter-some}
+use Rattle.rules.proofs.Alls.{all-one, all-append, all-map, all-filter, filter-fewer, filter-some}
 use Rattle.rules.proofs.Tables.{Whole, whole, Keeps, Leaves, own-fits, number-fits, request-fits, clock-small, head-leaves}
 use Rattle.rules.proofs.Learning.{PathFits, Heard, learnt-keeps}
 use Rattle.rules.proofs.Falling.{next-fits, through-acts, break-keeps, error-keeps}
-use Rattle.rules.proofs.Emitting.{to-all-emitted}
-use Rattle.rules.proofs.Sending.{FramesFit, AnsweredFits, replies-fit, rann-fits, rreq-fits, rerr-fits, rann-onward-fits, rreq-onward-fits, rrep-onward-fits, all-answered-fits, entries-fit, errors-fit}
+use Rattle.rules.proofs.Sending.{FrameFits, FramesFit, to-all-fits, AnsweredFits, replies-fit, rann-fits, rreq-fits, rerr-fits, rann-onward-fits, rreq-onward-fits, rrep-onward-fits, all-answered-fits, entries-fit, errors-fit}
 use Rattle.rules.proofs.Accepted.{Accepted, accepted-element}
 
 -- the call leaves a table of the same point, and emits what fits
@@ -88,7 +86,7 @@ module _ (l : Lent) (a : Arrival) where
       let source : FitsNumbered (f .source) = search (ok .fits .fields) in
       record {
         leaves = at-clock (rrep f dependents) ok (learnt a (f .path) (l .table)) (learnt-keeps (l .table) a (f .path) h) (number (l .table)) (number-fits (l .table) (ok .whole));
-        frames = rrep-onward-fits a f (h .fits) (h .hops) (h .metric) (learnt a (f .path) (l .table)) dependents
+        frames = rrep-onward-fits a f (h .fits) (h .hops) (h .metric) (learnt a (f .path) (l .table)) (learnt-keeps (l .table) a (f .path) h .whole .octets) dependents
             source (ok .fits .entries) (count-range Rrep (length dependents) (ok .fits .count) .1);
       }
 
@@ -104,9 +102,9 @@ module _ (l : Lent) (a : Arrival) where
       let few = count-range Rreq (length targets) (ok .fits .count) .1 in
       record {
         leaves = at-clock (rreq f targets) ok u k (done .number) (fit .number);
-        frames = all-append (λ (x : Frame). Fits (x .element)) (done .replies) (rreqOnward u a f (done .kept))
-            (replies-fit u (k .whole) a (f .path) (h .fits) (number (l .table)) targets)
-            (rreq-onward-fits a f request (h .fits) (h .hops) (h .metric) u (done .kept) (fit .kept)
+        frames = all-append FrameFits (done .replies) (rreqOnward u a f (done .kept))
+            (replies-fit u (k .whole) a (h .transmitter-fits) (f .path) (h .fits) (number (l .table)) targets)
+            (rreq-onward-fits a f request (h .fits) (h .hops) (h .metric) u (k .whole .octets) (done .kept) (fit .kept)
             (omega (arith, few, fit .fewer)));
       }
 
@@ -118,9 +116,9 @@ module _ (l : Lent) (a : Arrival) where
       record {
         leaves = at-clock (rerr f destinations) ok _
             (error-keeps (a .clock) (a .transmitter) destinations (ok .fits .entries) (l .table) (ok .whole)) (number (l .table)) (number-fits (l .table) (ok .whole));
-        frames = to-all-emitted Fits (rerr f (filter test destinations))
+        frames = all-one FrameFits _ (to-all-fits _
             (rerr-fits f (filter test destinations) (ok .fits .fields .0) (all-filter FitsLost test destinations (ok .fits .entries))
-            (filter-some test destinations (not-false (any test destinations) (ok .matched))) (omega (arith, few, filter-fewer test destinations))) .each;
+            (filter-some test destinations (not-false (any test destinations) (ok .matched))) (omega (arith, few, filter-fewer test destinations))));
       }
 
   received-kept : (e : Element) → Accepted (l .table) a e → Kept (l .table) (received l a e)
@@ -160,7 +158,7 @@ module _ (l : Lent) (w : Whole (l .table)) where
   announced-kept flags lifetime f short =
       record {
         leaves = head-leaves (l .table) (l .table) w same-table (nextNumber (number (l .table))) (requestId (l .table)) (clock (l .table)) (next-fits (number (l .table))) (request-fits (l .table) w) (clock-small (l .table) w);
-        frames = to-all-emitted Fits _ (rann-fits _ (own-path-fits (requestId (l .table)) flags lifetime f short)) .each;
+        frames = all-one FrameFits _ (to-all-fits _ (rann-fits _ (own-path-fits (requestId (l .table)) flags lifetime f short)));
       }
 
   requested-kept : (flags lifetime : ℕ) (targets : List Target) → flags < 256 ^ 1 → lifetime < 256 ^ 4 → All FitsTarget targets
@@ -170,7 +168,7 @@ module _ (l : Lent) (w : Whole (l .table)) where
       record {
         leaves = head-leaves (l .table) (l .table) w same-table (nextNumber (number (l .table))) (nextRequest (requestId (l .table))) (clock (l .table)) (next-fits (number (l .table))) request-next-fits
             (clock-small (l .table) w);
-        frames = to-all-emitted Fits _ (rreq-fits _ targets request-next-fits (own-path-fits (nextRequest (requestId (l .table))) flags lifetime f short) fit one few) .each;
+        frames = all-one FrameFits _ (to-all-fits _ (rreq-fits _ targets request-next-fits (own-path-fits (nextRequest (requestId (l .table))) flags lifetime f short) fit one few));
       }
 
   -- the items of an ask

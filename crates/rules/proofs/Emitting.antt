@@ -1,6 +1,6 @@
--- The frames that calls emit, whatever is asked of their elements: it holds of all of them if it holds of each kind, and there
--- are at most so many.
-use Prim.Native.Nat.{ℕ, _+_, _/_, _<_, _≤_}
+-- The frames that calls emit, whatever is asked of them: it holds of all of them if it holds of each kind, and there are at most
+-- so many.
+use Prim.Native.Nat.{ℕ, _<_, _≤_}
 use mathlib.Core.Path.{_≡_, refl}
 use mathlib.Core.Bool.{true, not, _&&_, and-eq-true-iff}
 use mathlib.Core.List.{List, [], _∷_}
@@ -34,14 +34,15 @@ use Rattle.rules.specs.Errors.{errorAt, errorsTaken, errorsFor}
 use Rattle.rules.proofs.Branches.{cond-cases}
 use Rattle.rules.proofs.Alls.{all-append, all-between}
 
--- the elements of all frames are as Q says
-abbrev pub Each : (Element → Type 0) → List Frame → Type 0
-Each Q frames = All (λ (f : Frame). Q (f .element)) frames
-
--- and there are at most n
-pub record Emits (Q : Element → Type 0) (n : ℕ) (frames : List Frame) : Type 0 where
-  pub each : Each Q frames
+-- all frames are as Q says, and there are at most n
+pub record Emits (Q : Frame → Type 0) (n : ℕ) (frames : List Frame) : Type 0 where
+  pub each : All Q frames
   pub few : length frames ≤ n
+
+-- to whom an element goes on from a point with the table t, at clock c
+pub data GoesTo (t : List ℕ) (c : ℕ) : Address → Type 0 where
+  all : GoesTo t c allOnes
+  next : (d to : Address) → activeNext c (rowFor t d) ≡ some to → GoesTo t c to
 
 -- an intermediate reply is given only from a row of known number
 answers-known : (c : ℕ) (q : Target) (r : Row) → answersFor c q r ≡ true → eqb (r .known) 1 ≡ true
@@ -50,52 +51,57 @@ answers-known c q r h =
     let first = and-eq-true-iff (not (hasDO q) && active c r && eqb (r .known) 1) (not (older (r .number) (q .number))) .0 h in
     and-eq-true-iff (not (hasDO q) && active c r) (eqb (r .known) 1) .0 (first .0) .1
 
-module _ (Q : Element → Type 0) where
+module _ (Q : Frame → Type 0) where
   none-emitted : (n : ℕ) → Emits Q n []
   unfolding All
   none-emitted n = record { each = tt; few = omega arith }
 
-  one-emitted : (f : Frame) → Q (f .element) → Emits Q 1 (f ∷ [])
+  one-emitted : (f : Frame) → Q f → Emits Q 1 (f ∷ [])
   unfolding All
   one-emitted f h = record { each = (h, tt); few = omega arith }
 
-  pub to-all-emitted : (e : Element) → Q e → Emits Q 1 (toAll e)
+  pub to-all-emitted : (e : Element) → Q (record { receiver = allOnes; element = e }) → Emits Q 1 (toAll e)
   to-all-emitted e h = one-emitted _ h
 
   -- ---- what goes on
 
-  sent-emitted : (e : Element) → Q e → (to : Option Address) → Emits Q 1 (sentTo e to)
-  sent-emitted e h none = none-emitted 1
-  sent-emitted e h (some to) = one-emitted _ h
+  sent-emitted : (e : Element) (o : Option Address) → ((to : Address) → o ≡ some to → Q (record { receiver = to; element = e })) → Emits Q 1 (sentTo e o)
+  sent-emitted e none h = none-emitted 1
+  sent-emitted e (some to) h = one-emitted _ (h to refl)
 
   if-ttl-left-emitted : (p : PathInfo) (frames : List Frame) → Emits Q 1 frames → Emits Q 1 (ifTtlLeft p frames)
   if-ttl-left-emitted p frames h = cond-cases (Emits Q 1) (ltb (p .ttl) 2) (λ _. none-emitted 1) (λ _. h)
 
-  pub rann-emitted : (a : Arrival) (p : PathInfo) → Q (rann (onward a p)) → Emits Q 1 (rannOnward a p)
+  pub rann-emitted : (a : Arrival) (p : PathInfo) → Q (record { receiver = allOnes; element = rann (onward a p) }) → Emits Q 1 (rannOnward a p)
   unfolding rannOnward
   rann-emitted a p h = if-ttl-left-emitted p (toAll (rann (onward a p))) (to-all-emitted (rann (onward a p)) h)
 
   module _ (u : List ℕ) (a : Arrival) where
     pub rreq-emitted : (f : RreqFields) (kept : List Target)
-        → (1 ≤ length kept → Q (rreq (record { request = f .request; path = onward a (f .path) }) kept)) → Emits Q 1 (rreqOnward u a f kept)
+        → ((to : Address) → GoesTo u (a .clock) to → 1 ≤ length kept
+        → Q (record { receiver = to; element = rreq (record { request = f .request; path = onward a (f .path) }) kept }))
+        → Emits Q 1 (rreqOnward u a f kept)
     unfolding rreqOnward
     rreq-emitted f [] h = none-emitted 1
     rreq-emitted f (q ∷ qs) h =
         if-ttl-left-emitted (f .path) _
-        (cond-cases (Emits Q 1) (unicast (f .path)) (λ _. sent-emitted _ (h (omega arith)) (activeNext (a .clock) (rowFor u (q .address))))
-        (λ _. to-all-emitted _ (h (omega arith))))
+        (cond-cases (Emits Q 1) (unicast (f .path))
+        (λ _. sent-emitted _ (activeNext (a .clock) (rowFor u (q .address))) (λ to is. h to (next (q .address) to is) (omega arith)))
+        (λ _. to-all-emitted _ (h allOnes all (omega arith))))
 
     pub rrep-emitted : (f : RrepFields) (dependents : List NumberedAddress)
-        → Q (rrep (record { path = onward a (f .path); source = f .source }) dependents) → Emits Q 1 (rrepOnward u a f dependents)
+        → ((to : Address) → GoesTo u (a .clock) to
+        → Q (record { receiver = to; element = rrep (record { path = onward a (f .path); source = f .source }) dependents }))
+        → Emits Q 1 (rrepOnward u a f dependents)
     unfolding rrepOnward
     rrep-emitted f dependents h =
         cond-cases (Emits Q 1) (same (f .source .address) (own u)) (λ _. none-emitted 1)
-        (λ _. sent-emitted _ h (activeNext (a .clock) (rowFor u (f .source .address))))
+        (λ _. sent-emitted _ (activeNext (a .clock) (rowFor u (f .source .address))) (λ to is. h to (next (f .source .address) to is)))
 
     -- ---- replies: for oneself, under a number that was stepped; and from a row of known number
 
-    module _ (p : PathInfo) (oneself : (n : SequenceNumber) → Q (ownReply a p (own u) (nextNumber n) .element))
-        (fromRow : (d : Address) (r : Row) → rowFor u d ≡ some r → eqb (r .known) 1 ≡ true → Q (rowReply a p r .element)) where
+    module _ (p : PathInfo) (oneself : (n : SequenceNumber) → Q (ownReply a p (own u) (nextNumber n)))
+        (fromRow : (d : Address) (r : Row) → rowFor u d ≡ some r → eqb (r .known) 1 ≡ true → Q (rowReply a p r)) where
       abbrev Replies : ℕ → Answered → Type 0
       Replies n x = Emits Q n (x .replies)
 
@@ -131,18 +137,18 @@ module _ (Q : Element → Type 0) where
           let first : Replies 1 this = one-answered n q in
           let others : Replies (length qs) rest = replies-emitted (this .number) qs in
           record {
-            each = all-append (λ (f : Frame). Q (f .element)) (this .replies) (rest .replies) (first .each) (others .each);
+            each = all-append Q (this .replies) (rest .replies) (first .each) (others .each);
             few = omega (arith, length-append (this .replies) (rest .replies), first .few, others .few);
           }
 
   -- ---- the errors of a break
 
-  pub errors-emitted : (entries : List LostDestination) → ((i : ℕ) → i < errorsTaken (length entries) → Q (errorAt entries i .element))
+  pub errors-emitted : (entries : List LostDestination) → ((i : ℕ) → i < errorsTaken (length entries) → Q (errorAt entries i))
       → Emits Q (errorsTaken (length entries)) (errorsFor entries)
   unfolding errorsFor
   errors-emitted entries h =
       let n : ℕ = errorsTaken (length entries) in
       record {
-        each = all-between (λ (f : Frame). Q (f .element)) (errorAt entries) 0 n (λ k _ l. h k (omega (arith, l)));
+        each = all-between Q (errorAt entries) 0 n (λ k _ l. h k (omega (arith, l)));
         few = omega (arith, each-length (errorAt entries) 0 n);
       }

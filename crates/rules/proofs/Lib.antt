@@ -14,6 +14,7 @@ pub mod Sending
 pub mod Accepted
 pub mod CallsKeep
 pub mod Room
+pub mod Output
 pub mod StaysTable
 pub mod Hops
 pub mod Computing

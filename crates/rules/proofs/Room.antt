@@ -1,13 +1,13 @@
 -- The frames of an accepted call take at most 1,560 octets: an output that passes refusal 2 has room for them.
 use Prim.Native.Nat.{ℕ, _+_, _*_, _≤_}
-use mathlib.Core.Path.{_≡_, refl, ap, subst}
+use mathlib.Core.Path.{_≡_, refl, sym, ap, subst, _∙_}
 use mathlib.Core.Bool.{Bool, true, and-eq-true-iff}
 use mathlib.Core.List.{List, [], _∷_, flatMap}
-use lib.Dec.{leb}
+use lib.Dec.{leb, ltb}
 use lib.ListN.{length, length-append}
 use native.Mathlib.Omega.{arith}
 use native.Mathlib.Nat.{mul-zero, mul-suc}
-use borrow.Author.Tests.{leb-true, not-false}
+use borrow.Author.Tests.{leb-true, ltb-false, not-false}
 use Rattle.octets.specs.LittleEndian.{Octets}
 use Rattle.layout.specs.declared.row.Row.{Row}
 use Rattle.layout.specs.Layout.{sized, rows, rowAt}
@@ -23,9 +23,8 @@ use Rattle.element.specs.Octets.{writeFrame, readElement}
 use Rattle.element.proofs.Lengths.{longest, length-range}
 use Rattle.element.proofs.Scans.{each-length}
 use Rattle.element.proofs.Sizes.{frame-length}
-use Rattle.element.proofs.ReadBack.{Fits}
-use Rattle.rules.specs.Decision.{accepted}
-use Rattle.rules.specs.Exit.{Frame, Lent, Effect, frameOctets}
+use Rattle.rules.specs.Decision.{Ruling, accepted, decide}
+use Rattle.rules.specs.Exit.{Frame, Lent, Effect, frameOctets, leastOutput}
 use Rattle.rules.specs.declared.Arrival.{Arrival}
 use Rattle.rules.specs.Learn.{learnt}
 use Rattle.rules.specs.Destinations.{Answered, reply, allAnswered}
@@ -37,30 +36,30 @@ use Rattle.rules.specs.Originate.{announced, requested, asking, ask, ann
 use Rattle.rules.specs.Break.{brokenOff, breaking, breakNeighbour}
 use Rattle.rules.specs.Calls.{Call, receives, makes, asks, announces, requestsAsRoot, breaks, decision, OperandsFit}
 use Rattle.rules.proofs.Branches.{cond-cases}
-use Rattle.rules.proofs.Rulings.{listed, passed, passed-check}
+use Rattle.rules.proofs.Rulings.{listed, testOf, passed, passed-check}
 use Rattle.rules.proofs.Alls.{all-after, all-implies, flat-fewer}
-use Rattle.rules.proofs.Emitting.{Each, Emits, rann-emitted, rreq-emitted, rrep-emitted, replies-emitted, errors-emitted}
+use Rattle.rules.proofs.Emitting.{Emits, rann-emitted, rreq-emitted, rrep-emitted, replies-emitted, errors-emitted}
 use Rattle.rules.proofs.FrameOctets.{frames-append}
-use Rattle.rules.proofs.Sending.{FramesFit}
+use Rattle.rules.proofs.Sending.{FrameFits, FramesFit}
 use Rattle.rules.proofs.Accepted.{Accepted, accepted-element}
 use Rattle.rules.proofs.CallsKeep.{call-kept}
 
 -- ---- octets of frames: a receiver, ID and Length, and as many as Length says
 
-abbrev Long : ℕ → Element → Type 0
-Long n e = lengthWith (kindOf e) (countOf e) ≤ n
+abbrev Long : ℕ → Frame → Type 0
+Long n f = lengthWith (kindOf (f .element)) (countOf (f .element)) ≤ n
 
 -- an element that fits is at most 252 octets long, by its Length
-fitting-small : (e : Element) → Fits e → Long 252 e
-fitting-small e f = by (kindOf e) (length-range (kindOf e) (countOf e) (f .count) .1)
+fitting-small : (f : Frame) → FrameFits f → Long 252 f
+fitting-small f fit = by (kindOf (f .element)) (length-range (kindOf (f .element)) (countOf (f .element)) (fit .element .count) .1)
   where
-    by : (k : Kind) → lengthWith k (countOf e) ≤ longest k → lengthWith k (countOf e) ≤ 252
+    by : (k : Kind) → lengthWith k (countOf (f .element)) ≤ longest k → lengthWith k (countOf (f .element)) ≤ 252
     by Rann l = omega arith
     by Rreq l = omega arith
     by Rrep l = omega arith
     by Rerr l = omega arith
 
-frames-small : (n : ℕ) (frames : List Frame) → Each (Long n) frames → length (frameOctets frames) ≤ (8 + n) * length frames
+frames-small : (n : ℕ) (frames : List Frame) → All (Long n) frames → length (frameOctets frames) ≤ (8 + n) * length frames
 unfolding frameOctets flatMap All
 frames-small n [] h = omega (arith, mul-zero (8 + n))
 frames-small n (f ∷ frames) h =
@@ -75,8 +74,7 @@ frames-small n (f ∷ frames) h =
 
 fitting-frames : (frames : List Frame) → FramesFit frames → length (frameOctets frames) ≤ 260 * length frames
 fitting-frames frames fit =
-    frames-small 252 frames
-    (all-implies (λ (f : Frame). Fits (f .element)) (λ (f : Frame). Long 252 (f .element)) (λ f. fitting-small (f .element)) frames fit)
+    frames-small 252 frames (all-implies FrameFits (Long 252) fitting-small frames fit)
 
 -- ---- at most 128 entries in the errors of a break, so at most six errors
 
@@ -98,9 +96,9 @@ entries-128 t size test =
 
 -- ---- every call
 
--- of an element of which only the count of frames is asked
-abbrev Anything : Element → Type 0
-Anything e = Unit {0}
+-- of frames of which only the count is asked
+abbrev Anything : Frame → Type 0
+Anything f = Unit {0}
 
 module _ (l : Lent) (octets : Octets (l .table)) (room : ℕ) where
   abbrev t : List ℕ
@@ -113,7 +111,7 @@ module _ (l : Lent) (octets : Octets (l .table)) (room : ℕ) where
   received-room : (a : Arrival) (e : Element) → Accepted t a e → FramesFit (received l a e .frames) → length (frameOctets (received l a e .frames)) ≤ 1560
   unfolding received rannReceived rrepReceived rerrReceived rreqReceived reply
   received-room a (rann p) ok fit = few-frames 1 (omega arith) _ (rann-emitted Anything a p tt .few) fit
-  received-room a (rrep f dependents) ok fit = few-frames 1 (omega arith) _ (rrep-emitted Anything (learnt a (f .path) t) a f dependents tt .few) fit
+  received-room a (rrep f dependents) ok fit = few-frames 1 (omega arith) _ (rrep-emitted Anything (learnt a (f .path) t) a f dependents (λ _ _. tt) .few) fit
   received-room a (rerr f destinations) ok fit = few-frames 1 (omega arith) _ (omega arith) fit
   received-room a (rreq f targets) ok fit =
       let u : List ℕ = learnt a (f .path) t in
@@ -123,7 +121,7 @@ module _ (l : Lent) (octets : Octets (l .table)) (room : ℕ) where
       let replies : Emits (Long 32) (length targets) (done .replies) =
       replies-emitted (Long 32) u a (f .path) (λ n. omega arith) (λ d r found known. omega arith) (number t) targets in
       let few = leb-true (length targets) 20 (and-eq-true-iff (leb 1 (length targets)) (leb (length targets) 20) .0 (ok .fits .count) .1) in
-      let goes-on = all-after (λ (x : Frame). Fits (x .element)) (done .replies) onward fit in
+      let goes-on = all-after FrameFits (done .replies) onward fit in
       omega (
         arith,
         ap length (frames-append (done .replies) onward),
@@ -132,7 +130,7 @@ module _ (l : Lent) (octets : Octets (l .table)) (room : ℕ) where
         replies .few,
         few,
         fitting-frames onward goes-on,
-        rreq-emitted Anything u a f (done .kept) (λ _. tt) .few,
+        rreq-emitted Anything u a f (done .kept) (λ _ _ _. tt) .few,
       )
 
   -- no more frames than the outcome of its ruling has
@@ -160,3 +158,22 @@ module _ (l : Lent) (octets : Octets (l .table)) (room : ℕ) where
       let entries : List LostDestination = brokenEntries (isThrough c neighbour) t in
       let errors = errors-emitted Anything entries (λ _ _. tt) .few in
       call-few 6 (omega arith) (makes (breaks c neighbour)) fit e _ is (p .1) (omega (arith, errors, entries-128 t size (isThrough c neighbour)))
+
+-- ---- an output that passed refusal 2
+
+long-enough : {A : Type 0} (room : ℕ) (r : Ruling A) (u : A) → testOf 2 (r .checks) ≡ ltb room leastOutput → decide r ≡ accepted u → leastOutput ≤ room
+long-enough room r u second is = ltb-false room leastOutput (sym second ∙ passed-check 2 (r .checks) (passed r u is .0))
+
+call-output : (l : Lent) (room : ℕ) (call : Call) (e : Effect) → decision l room call ≡ accepted e → leastOutput ≤ room
+unfolding listed decision receive ask announce rootRequest breakNeighbour
+call-output l room (receives a s) e is = long-enough room (receiving l room a s) e refl is
+call-output l room (makes (asks lifetime items)) e is = long-enough room (asking l room lifetime items) e refl is
+call-output l room (makes (announces flags lifetime)) e is = long-enough room (announcing l room flags lifetime) e refl is
+call-output l room (makes (requestsAsRoot flags lifetime)) e is = long-enough room (requestingAsRoot l room flags lifetime) e refl is
+call-output l room (makes (breaks c neighbour)) e is = long-enough room (breaking l room c neighbour) e refl is
+
+-- the output that an accepted call was lent holds its frames
+pub output-room : (l : Lent) → Octets (l .table) → (output : List ℕ) (call : Call) → OperandsFit call → (e : Effect)
+    → decision l (length output) call ≡ accepted e → length (frameOctets (e .frames)) ≤ length output
+output-room l octets output call fit e is =
+    omega (arith, call-room l octets (length output) call fit e is, call-output l (length output) call e is)

@@ -1,9 +1,9 @@
--- Every element that a call emits fits its octets and has as many entries as it may have.
-use Prim.Native.Nat.{ℕ, _+_, _-_, _*_, _/_, _^_, _<_, _≤_}
-use mathlib.Core.Path.{_≡_, refl}
+-- Every frame that a call emits fits its octets, and its element has as many entries as it may have.
+use Prim.Native.Nat.{ℕ, _-_, _*_, _^_, _<_, _≤_}
+use mathlib.Core.Path.{_≡_, refl, subst}
 use mathlib.Core.Bool.{Bool}
 use mathlib.Core.List.{List, [], _∷_}
-use mathlib.Core.Option.{Option, none, some}
+use mathlib.Core.Option.{Option, none, some, Option·none-ne-some, Option·some-injective}
 use lib.Dec.{eqb}
 use lib.ListN.{length, take, drop, length-append, length-take, length-drop}
 use native.Mathlib.Omega.{arith}
@@ -17,9 +17,9 @@ use Rattle.counters.specs.Numbers.{nextNumber}
 use Rattle.layout.specs.declared.address.Address.{Address}
 use Rattle.layout.specs.declared.row.Row.{Row}
 use Rattle.layout.specs.Address.{same}
-use Rattle.layout.specs.Row.{invalidated, raised}
+use Rattle.layout.specs.Row.{active, invalidated, raised}
 use Rattle.layout.specs.Layout.{rows, rowAt}
-use Rattle.table.specs.Table.{own, rowFor}
+use Rattle.table.specs.Table.{own, rowFor, activeNext}
 use Rattle.layout.proofs.HeadAndRows.{FitRow, row-fits}
 use Rattle.table.proofs.Lookup.{row-fits-its-octets}
 use Rattle.element.specs.declared.LostDestination.{LostDestination}
@@ -29,7 +29,7 @@ use Rattle.element.specs.declared.RreqFields.{RreqFields}
 use Rattle.element.specs.declared.RrepFields.{RrepFields}
 use Rattle.element.specs.declared.RerrFields.{RerrFields}
 use Rattle.element.specs.declared.Target.{Target}
-use Rattle.element.specs.Element.{rann, rreq, rrep, rerr}
+use Rattle.element.specs.Element.{Element, rann, rreq, rrep, rerr}
 use Rattle.element.specs.Lists.{allOnes}
 use Rattle.element.specs.Entries.{each, All}
 use Rattle.element.proofs.ListParts.{all-each, FitsTarget, FitsNumbered, FitsLost}
@@ -38,7 +38,7 @@ use Rattle.element.specs.Flags.{replyWanted, hasRF, withDO}
 use Rattle.rules.specs.Exit.{Frame}
 use Rattle.rules.specs.declared.Arrival.{Arrival}
 use Rattle.rules.specs.Learn.{metricHere}
-use Rattle.rules.specs.Destinations.{Answered, rowReply, reply, answeredNumber, answersFor, forOneself, forAllOnes, forAnother, answered, allAnswered, keptAfterReply}
+use Rattle.rules.specs.Destinations.{Answered, replyFields, rowReply, reply, answeredNumber, answersFor, forOneself, forAllOnes, forAnother, answered, allAnswered, keptAfterReply}
 use Rattle.rules.specs.Onward.{onward, rannOnward, rreqOnward, rrepOnward}
 use Rattle.rules.specs.Errors.{broken, brokenEntry, brokenEntries, ownError, errorAt, errorsTaken, errorsFor}
 use Rattle.rules.proofs.Branches.{cond-cases}
@@ -46,10 +46,19 @@ use Rattle.rules.proofs.Alls.{all-one, all-append, all-take, all-drop, 
 use Rattle.rules.proofs.Tables.{Whole, own-fits}
 use Rattle.rules.proofs.Learning.{PathFits}
 use Rattle.rules.proofs.Falling.{next-fits}
-use Rattle.rules.proofs.Emitting.{Each, rann-emitted, rreq-emitted, rrep-emitted, replies-emitted, errors-emitted}
+use Rattle.rules.proofs.Emitting.{GoesTo, all, next, rann-emitted, rreq-emitted, rrep-emitted, replies-emitted, errors-emitted}
+
+-- frames that octets can hold
+pub record FrameFits (f : Frame) : Type 0 where
+  pub receiver : f .receiver .0 < 256 ^ 6
+  pub element : Fits (f .element)
 
 abbrev pub FramesFit : List Frame → Type 0
-FramesFit frames = Each Fits frames
+FramesFit frames = All FrameFits frames
+
+-- all ones fits six octets
+pub to-all-fits : (e : Element) → Fits e → FrameFits (record { receiver = allOnes; element = e })
+to-all-fits e fits = record { receiver = omega arith; element = fits }
 
 -- ---- elements whose path fits
 
@@ -90,6 +99,19 @@ rerr-fits g entries f fit one few =
 
 -- ---- what goes on
 
+-- a next hop in a row fits too
+goes-to-fits : (t : List ℕ) → Octets t → (c : ℕ) (to : Address) → GoesTo t c to → to .0 < 256 ^ 6
+unfolding activeNext
+goes-to-fits t o c _ all = omega arith
+goes-to-fits t o c _ (next d to is) = by (rowFor t d) refl is
+  where
+    by : (r : Option Row) → rowFor t d ≡ r → activeNext c r ≡ some to → to .0 < 256 ^ 6
+    by none found e = absurd (Option·none-ne-some to e)
+    by (some r) found e =
+        cond-cases (λ (n : Option Address). n ≡ some to → to .0 < 256 ^ 6) (active c r)
+        (λ _ q. subst (λ (x : Address). x .0 < 256 ^ 6) (Option·some-injective (r .next) to q) (row-fits-its-octets t d r found o .next))
+        (λ _ q. absurd (Option·none-ne-some to q)) e
+
 module _ (a : Arrival) (p : PathInfo) (f : PathFits p) (hops : p .hops .0 < 255) (metric : metricHere a p .0 ≤ 2 ^ 32 - 2) where
   onward-fits : PathFits (onward a p)
   unfolding onward
@@ -106,40 +128,48 @@ module _ (a : Arrival) (p : PathInfo) (f : PathFits p) (hops : p .hops .0 < 255)
       }
 
   pub rann-onward-fits : FramesFit (rannOnward a p)
-  rann-onward-fits = rann-emitted Fits a p (rann-fits (onward a p) onward-fits) .each
+  rann-onward-fits = rann-emitted FrameFits a p (to-all-fits _ (rann-fits (onward a p) onward-fits)) .each
 
 module _ (a : Arrival) (f : RreqFields) (request : f .request .0 < 256 ^ 4) (fits : PathFits (f .path)) (hops : f .path .hops .0 < 255)
     (metric : metricHere a (f .path) .0 ≤ 2 ^ 32 - 2) where
-  pub rreq-onward-fits : (t : List ℕ) (kept : List Target) → All FitsTarget kept → length kept ≤ 20 → FramesFit (rreqOnward t a f kept)
-  rreq-onward-fits t kept fit few =
-      rreq-emitted Fits t a f kept (λ one. rreq-fits _ kept request (onward-fits a (f .path) fits hops metric) fit one few) .each
+  pub rreq-onward-fits : (t : List ℕ) → Octets t → (kept : List Target) → All FitsTarget kept → length kept ≤ 20 → FramesFit (rreqOnward t a f kept)
+  rreq-onward-fits t o kept fit few =
+      rreq-emitted FrameFits t a f kept
+      (λ to goes one. record {
+        receiver = goes-to-fits t o (a .clock) to goes;
+        element = rreq-fits _ kept request (onward-fits a (f .path) fits hops metric) fit one few;
+      }) .each
 
 module _ (a : Arrival) (f : RrepFields) (fits : PathFits (f .path)) (hops : f .path .hops .0 < 255)
     (metric : metricHere a (f .path) .0 ≤ 2 ^ 32 - 2) where
-  pub rrep-onward-fits : (t : List ℕ) (dependents : List NumberedAddress) → FitsNumbered (f .source) → All FitsNumbered dependents
+  pub rrep-onward-fits : (t : List ℕ) → Octets t → (dependents : List NumberedAddress) → FitsNumbered (f .source) → All FitsNumbered dependents
       → length dependents ≤ 22 → FramesFit (rrepOnward t a f dependents)
-  rrep-onward-fits t dependents source fit few =
-      rrep-emitted Fits t a f dependents (rrep-fits _ dependents (onward-fits a (f .path) fits hops metric) source fit few) .each
+  rrep-onward-fits t o dependents source fit few =
+      rrep-emitted FrameFits t a f dependents
+      (λ to goes. record {
+        receiver = goes-to-fits t o (a .clock) to goes;
+        element = rrep-fits _ dependents (onward-fits a (f .path) fits hops metric) source fit few;
+      }) .each
 
 -- ---- the replies
 
 -- the table t is that after steps 1 and 2
-module _ (t : List ℕ) (w : Whole t) (a : Arrival) (p : PathInfo) (f : PathFits p) where
+module _ (t : List ℕ) (w : Whole t) (a : Arrival) (transmitter-fits : a .transmitter .0 < 256 ^ 6) (p : PathInfo) (f : PathFits p) where
   reply-fits : (d : Address) (n : SequenceNumber) (hops : HopCount) (metric : Metric) → d .0 < 256 ^ 6 → n .0 < 256 ^ 4 → hops .0 < 256 ^ 1
-      → metric .0 < 256 ^ 4 → Fits (reply a p d n hops metric .element)
+      → metric .0 < 256 ^ 4 → FrameFits (reply a p d n hops metric)
   unfolding reply FitFields All
   reply-fits d n hops metric d-fits n-fits hops-fit metric-fits =
-      rrep-fits _ []
-      (record { flags = omega arith; hops = hops-fit; ttl = omega arith; subject = d-fits; number = n-fits; lifetime = f .lifetime; metric = metric-fits })
-      (f .subject, (f .number, tt)) tt (omega arith)
+      let path : PathFits (replyFields p d n hops metric .path) =
+      record { flags = omega arith; hops = hops-fit; ttl = omega arith; subject = d-fits; number = n-fits; lifetime = f .lifetime; metric = metric-fits } in
+      record { receiver = transmitter-fits; element = rrep-fits _ [] path (f .subject, (f .number, tt)) tt (omega arith) }
 
-  row-reply-fits : (r : Row) → FitRow r → Fits (rowReply a p r .element)
+  row-reply-fits : (r : Row) → FitRow r → FrameFits (rowReply a p r)
   row-reply-fits r g =
       reply-fits (r .destination) (r .number) (r .hops) (r .metric) (g .destination) (g .number) (g .hops) (g .metric)
 
   pub replies-fit : (n : SequenceNumber) (targets : List Target) → FramesFit (allAnswered t a p n targets .replies)
   replies-fit n targets =
-      replies-emitted Fits t a p
+      replies-emitted FrameFits t a p
       (λ k. reply-fits (own t) (nextNumber k) (record { 0 = 0 }) (record { 0 = 0 }) (own-fits t w) (next-fits k) (omega arith) (omega arith))
       (λ d r found known. row-reply-fits r (row-fits-its-octets t d r found (w .octets))) n targets .each
 
@@ -215,13 +245,14 @@ module _ (t : List ℕ) (o : Octets t) (test : Row → Bool) where
       all-flat-map FitsLost FitRow (brokenEntry test) entry-fits (each (rowAt t) 0 (rows t))
       (all-each FitRow (rowAt t) (λ i. row-fits t i o) 0 (rows t))
 
-error-at-fits : (entries : List LostDestination) → All FitsLost entries → (i : ℕ) → i < errorsTaken (length entries) → Fits (errorAt entries i .element)
+error-at-fits : (entries : List LostDestination) → All FitsLost entries → (i : ℕ) → i < errorsTaken (length entries) → FrameFits (errorAt entries i)
 unfolding errorAt
 error-at-fits entries fit i l =
     let part : List LostDestination = drop (25 * i) entries in
     let long : length part ≡ length entries - 25 * i = length-drop (25 * i) entries in
-    rerr-fits ownError (take 25 part) (omega arith) (all-take FitsLost 25 part (all-drop FitsLost (25 * i) entries fit))
-    (omega (arith, long, length-take 25 part)) (omega (arith, length-take 25 part))
+    to-all-fits _
+    (rerr-fits ownError (take 25 part) (omega arith) (all-take FitsLost 25 part (all-drop FitsLost (25 * i) entries fit))
+    (omega (arith, long, length-take 25 part)) (omega (arith, length-take 25 part)))
 
 pub errors-fit : (entries : List LostDestination) → All FitsLost entries → FramesFit (errorsFor entries)
-errors-fit entries fit = errors-emitted Fits entries (error-at-fits entries fit) .each
+errors-fit entries fit = errors-emitted FrameFits entries (error-at-fits entries fit) .each

@@ -1,15 +1,16 @@
 -- Calls that may emit frames: what an accepted one leaves, and what stands at exit.
-use Prim.Native.Nat.{ℕ}
-use mathlib.Core.List.{List, flatMap}
-use lib.ListN.{length}
+use Prim.Native.Nat.{ℕ, zero, suc, _+_}
+use mathlib.Core.List.{List, [], _∷_, flatMap}
+use lib.ListN.{length, getD, take, drop}
 use Rattle.octets.specs.LittleEndian.{overwrite}
 use Rattle.counters.specs.declared.SequenceNumber.{SequenceNumber}
 use Rattle.layout.specs.declared.address.Address.{Address}
+use Rattle.layout.specs.Address.{addressOf}
 use Rattle.layout.specs.Row.{headWith}
 use Rattle.layout.specs.Layout.{headAt, putHead}
 use Rattle.table.specs.Table.{requestId}
 use Rattle.element.specs.Element.{Element}
-use Rattle.element.specs.Octets.{writeFrame}
+use Rattle.element.specs.Octets.{readElement, writeFrame}
 use Rattle.rules.specs.Decision.{Decision, refused, accepted}
 
 -- octets of an output that holds the frames of any call
@@ -72,6 +73,26 @@ atExit l output (accepted e) =
       lent = e .lent;
       output = overwrite output 0 (frameOctets (e .frames));
     }
+
+-- ---- frames read from octets
+
+-- the first n frames in s, each as its octets: receiver 6, ID 1, Length 1, and as many octets as Length says
+unfoldable pub framesIn : ℕ → List ℕ → List (List ℕ)
+framesIn zero s = []
+framesIn (suc n) s = take (8 + getD s 7 0) s ∷ framesIn n (drop (8 + getD s 7 0) s)
+
+-- the frames in the output at exit, as many as the call reports
+abbrev pub framesAt : Exit → List (List ℕ)
+framesAt x = framesIn (x .frames) (x .output)
+
+-- the octets of a frame without its receiver, and the frame that the octets are
+abbrev pub elementIn : List ℕ → List ℕ
+elementIn s = drop 6 s
+
+abbrev pub readFrame : List ℕ → Frame
+readFrame s = record { receiver = addressOf s; element = readElement (elementIn s) }
+
+-- ---- calls that write no frame
 
 -- of a call that writes no frame: the answer, and what stands in the table
 pub record TableExit : Type 0 where

@@ -61,7 +61,7 @@ module _ (d : Address) (base : ℕ) (log : List Sent) (l : Lent) where
       record {
         move = rw row (stay (rowFor (l .table) d));
         absent = λ self before. row ∙ before;
-        backed = to-all-emitted (λ (x : Element). Backed d base (own (l .table)) (rowFor (putHead (l .table) h) d) (pathOf x)) e
+        backed = to-all-emitted (λ (f : Frame). Backed d base (own (l .table)) (rowFor (putHead (l .table) h) d) (pathOf (f .element))) e
             (rw is (backed-path _ (λ about. inl (sym same-point ∙ about)))) .each;
       }
 
@@ -102,7 +102,7 @@ module _ (d : Address) (base : ℕ) (small : base < 2 ^ 32) (log : List Sent) (l
   unfolding brokenOff errorAt
   break-sound c test acts =
       fallen-sound test broken (break-keeps-rows test c acts) (break-falls base small) _ _
-      (errors-emitted (λ (x : Element). Backed d base (own t) _ (pathOf x)) (brokenEntries test t) (λ i long. backed-none) .each)
+      (errors-emitted (λ (f : Frame). Backed d base (own t) _ (pathOf (f .element))) (brokenEntries test t) (λ i long. backed-none) .each)
 
   -- ---- an element from the log
 
@@ -131,9 +131,9 @@ module _ (d : Address) (base : ℕ) (small : base < 2 ^ 32) (log : List Sent) (l
       unfolding u onward
       onward-backed = backed-path _ (λ about. inr (learnt-stands d t a p heard base about))
 
-    -- an element is backed by the row for d after steps 1 and 2
-    abbrev BackedAfter : PathInfo → Element → Type 0
-    BackedAfter p e = Backed d base (own (learnt a p t)) (rowFor (learnt a p t) d) (pathOf e)
+    -- a frame is backed by the row for d after steps 1 and 2
+    abbrev BackedAfter : PathInfo → Frame → Type 0
+    BackedAfter p f = Backed d base (own (learnt a p t)) (rowFor (learnt a p t) d) (pathOf (f .element))
 
     rann-sound : (p : PathInfo) → pathIn (s .octets) ≡ some p → Heard t a p → Near base (rowFor (rannReceived l a p .lent .table) d)
         → Sound d base log t (rannReceived l a p)
@@ -148,7 +148,7 @@ module _ (d : Address) (base : ℕ) (small : base < 2 ^ 32) (log : List Sent) (l
     rrep-sound f dependents isSomeAnd heard =
         let v : List ℕ = learnt a (f .path) t in
         heard-sound (f .path) isSomeAnd heard _ (rrepOnward (learnt a (f .path) t) a f dependents)
-        (rrep-emitted (BackedAfter (f .path)) v a f dependents (onward-backed (f .path) isSomeAnd heard) .each)
+        (rrep-emitted (BackedAfter (f .path)) v a f dependents (λ _ _. onward-backed (f .path) isSomeAnd heard) .each)
 
     rreq-sound : (f : RreqFields) (targets : List Target) → pathIn (s .octets) ≡ some (f .path) → Heard t a (f .path)
         → Near base (rowFor (rreqReceived l a f targets .lent .table) d) → Sound d base log t (rreqReceived l a f targets)
@@ -159,7 +159,7 @@ module _ (d : Address) (base : ℕ) (small : base < 2 ^ 32) (log : List Sent) (l
         heard-sound (f .path) isSomeAnd heard _ (done .replies ++ rreqOnward v a f (done .kept))
         (all-append (λ (g : Frame). Backed d base (own v) (rowFor v d) (pathOf (g .element))) (done .replies) (rreqOnward v a f (done .kept))
         (replies-backed d base v a (f .path) (number t) targets)
-        (rreq-emitted (BackedAfter (f .path)) v a f (done .kept) (λ _. onward-backed (f .path) isSomeAnd heard) .each))
+        (rreq-emitted (BackedAfter (f .path)) v a f (done .kept) (λ _ _ _. onward-backed (f .path) isSomeAnd heard) .each))
 
     received-sound : (e : Element) → readElement (s .octets) ≡ e → Accepted t a e → Near base (rowFor (received l a e .lent .table) d)
         → Sound d base log t (received l a e)
@@ -170,7 +170,7 @@ module _ (d : Address) (base : ℕ) (small : base < 2 ^ 32) (log : List Sent) (l
     received-sound (rerr g destinations) is ok =
         fallen-sound (isMatch (a .clock) (a .transmitter) destinations) (erred destinations)
         (error-keeps-rows (a .clock) (a .transmitter) destinations (ok .fits .entries)) (error-falls base small destinations) _ _
-        (to-all-emitted (λ (x : Element). Backed d base (own t) _ (pathOf x)) _ backed-none .each)
+        (to-all-emitted (λ (f : Frame). Backed d base (own t) _ (pathOf (f .element))) _ backed-none .each)
 
   -- ---- every call
 

@@ -18,26 +18,26 @@ use Rattle.table.specs.Table.{own, rowFor}
 use Rattle.table.proofs.Lookup.{row-destination}
 use Rattle.element.specs.declared.PathInfo.{PathInfo}
 use Rattle.element.specs.declared.Target.{Target}
-use Rattle.element.specs.Element.{Element}
+use Rattle.element.specs.Entries.{All}
 use Rattle.rules.specs.Exit.{Frame}
 use Rattle.rules.specs.declared.Arrival.{Arrival}
 use Rattle.rules.specs.Destinations.{reply, allAnswered}
 use Rattle.rules.specs.Receive.{pathOf}
-use Rattle.rules.proofs.Emitting.{Each, replies-emitted}
+use Rattle.rules.proofs.Emitting.{replies-emitted}
 use Rattle.theorems.proofs.Invariant.{Stands, Backed, backed-path}
 
 -- every path in the frames is backed, at the point with this address and this row for d
 abbrev pub AllBacked : Address → ℕ → Address → Option Row → List Frame → Type 0
-AllBacked d base self o frames = Each (λ (e : Element). Backed d base self o (pathOf e)) frames
+AllBacked d base self o frames = All (λ (f : Frame). Backed d base self o (pathOf (f .element))) frames
 
 -- the point of the table u, after steps 1 and 2
 module _ (d : Address) (base : ℕ) (u : List ℕ) where
-  -- an element is backed by the row for d
-  abbrev BackedHere : Element → Type 0
-  BackedHere e = Backed d base (own u) (rowFor u d) (pathOf e)
+  -- a frame is backed by the row for d
+  abbrev BackedHere : Frame → Type 0
+  BackedHere f = Backed d base (own u) (rowFor u d) (pathOf (f .element))
 
   reply-backed : (a : Arrival) (p : PathInfo) (to : Address) (n : SequenceNumber) (hops : HopCount) (metric : Metric)
-      → (to ≡ d → (own u ≡ d) ⊎ Stands base (rowFor u d) n (metric .0)) → BackedHere (reply a p to n hops metric .element)
+      → (to ≡ d → (own u ≡ d) ⊎ Stands base (rowFor u d) n (metric .0)) → BackedHere (reply a p to n hops metric)
   unfolding reply
   reply-backed a p to n hops metric h = backed-path _ h
 

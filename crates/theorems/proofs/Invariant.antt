@@ -19,12 +19,12 @@ use Rattle.table.proofs.WellFormed.{equal-or-not}
 use Rattle.element.specs.declared.PathInfo.{PathInfo}
 use Rattle.element.specs.Octets.{readElement, writeElement}
 use Rattle.element.specs.Entries.{All}
-use Rattle.element.proofs.ReadBack.{Fits, read-back}
+use Rattle.element.proofs.ReadBack.{read-back}
 use Rattle.rules.specs.Decision.{accepted}
 use Rattle.rules.specs.Exit.{Frame, Lent, Effect}
 use Rattle.rules.specs.Receive.{pathOf}
 use Rattle.rules.proofs.AsGood.{InWindow}
-use Rattle.rules.proofs.Sending.{FramesFit}
+use Rattle.rules.proofs.Sending.{FrameFits, FramesFit}
 use Rattle.theorems.specs.Mesh.{Sent, Mesh, boxOf, withBox, sentBy, afterCall}
 use Rattle.theorems.proofs.Boxes.{box-own, box-same, box-other}
 
@@ -193,7 +193,7 @@ module _ (d : Address) (base : ℕ) (m : Mesh) (inv : Inv d base m) (a : Address
   -- what is written is read back, so the element in the log is that of the frame
   frame-backed : (f : Frame) → List·Memᴰ f (e .frames) → BackedNow (record { sender = a; octets = writeElement (f .element) })
   frame-backed f k =
-      rw (row-same, ← is-a, read-back (f .element) (all-at (λ (g : Frame). Fits (g .element)) (e .frames) (fine .frames) k))
+      rw (row-same, ← is-a, read-back (f .element) (all-at FrameFits (e .frames) (fine .frames) k .element))
       (all-at (λ (g : Frame). Backed d base (own (l .table)) (rowFor (e .lent .table) d) (pathOf (g .element))) (e .frames) (sound .backed) k)
 
   newly-backed : (s : Sent) → List·Memᴰ s (sentBy a (e .frames)) → BackedNow s

@@ -21,13 +21,14 @@ use Rattle.table.proofs.Lookup.{row-fits-its-octets}
 use Rattle.element.specs.Octets.{writeElement}
 use Rattle.element.specs.Lists.{hasDuplicate}
 use Rattle.element.specs.Entries.{All}
-use Rattle.element.proofs.ReadBack.{Fits, octets-written}
+use Rattle.element.proofs.ReadBack.{octets-written}
 use Rattle.rules.specs.Decision.{Decision, refused, accepted}
 use Rattle.rules.specs.Lists.{all}
 use Rattle.rules.specs.Exit.{Frame, Lent, Effect}
 use Rattle.rules.specs.Calls.{OwnCall, asks, announces, requestsAsRoot, breaks, Call, decision, OwnOperandsFit, OperandsFit}
 use Rattle.rules.proofs.Branches.{cond-cases}
 use Rattle.rules.proofs.Alls.{all-append, all-map}
+use Rattle.rules.proofs.Sending.{FrameFits}
 use Rattle.rules.proofs.CallsKeep.{Kept, call-kept}
 use Rattle.theorems.specs.Mesh.{Point, Sent, Mesh, freshTable, start, boxOf, withBox, Action, delivers, makes, findsNextHop, walks, Event, ownCallFits, actionFits, eventFits, deliveryOf, callOf, sentBy, afterCall, calls, happen, run, throughout, met}
 use Rattle.theorems.specs.Premise.{beside, knownIn, held, heldByAll, numbersFor, isWithin, allWithin}
@@ -69,8 +70,8 @@ module _ (m : Mesh) (sane : Sane m) (a : Address) (l : Lent) (here : boxOf a (m 
       record {
         boxes = with-box-fits a (e .lent) (k .leaves .whole .octets) (m .boxes) (sane .boxes);
         log = all-append SentFits (m .log) (sentBy a (e .frames)) (sane .log)
-            (all-map SentFits (λ (f : Frame). Fits (f .element)) (λ (f : Frame). record { sender = a; octets = writeElement (f .element) })
-            (λ f g. (fits, octets-written (f .element) (g .count))) (e .frames) (k .frames));
+            (all-map SentFits FrameFits (λ (f : Frame). record { sender = a; octets = writeElement (f .element) })
+            (λ f g. (fits, octets-written (f .element) (g .element .count))) (e .frames) (k .frames));
       }
 
 -- ---- the numbers of a row are among those held

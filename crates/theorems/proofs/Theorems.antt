@@ -1,19 +1,26 @@
 -- The theorems about the rules of document 01: the statements are in `specs/Statements.antt`.
-use mathlib.Core.Path.{refl}
+use Prim.Native.Nat.{ℕ}
+use mathlib.Core.Path.{_≡_, refl, sym, ap, _∙_}
+use mathlib.Core.List.{List, map, flatMap}
+use lib.ListN.{length}
+use Rattle.octets.specs.LittleEndian.{Octets}
 use Rattle.table.proofs.WellFormed.{true-not-false, false-of, legal-is}
-use Rattle.element.specs.Octets.{writeElement}
-use Rattle.element.proofs.ReadBack.{Fits, read-back, passes-6, passes-7, passes-8}
-use Rattle.rules.specs.Exit.{Frame}
+use Rattle.element.specs.Entries.{All}
+use Rattle.element.proofs.ReadBack.{passes-6, passes-7, passes-8}
+use Rattle.rules.specs.Decision.{Decision, refused, accepted}
+use Rattle.rules.specs.Exit.{Frame, Effect, atExit, framesIn, framesAt, elementIn, readFrame}
 use Rattle.rules.specs.Receive.{isStale, receive}
 use Rattle.rules.specs.Break.{brokenOff, breakNeighbour}
 use Rattle.rules.proofs.Rulings.{listed}
 use Rattle.rules.specs.Calls.{receives, makes, asks, announces, requestsAsRoot, breaks, decision}
-use Rattle.rules.proofs.Alls.{all-implies}
+use Rattle.rules.proofs.Alls.{all-map}
+use Rattle.rules.proofs.Sending.{FrameFits}
 use Rattle.rules.proofs.CallsKeep.{Kept, call-kept}
-use Rattle.rules.proofs.Room.{call-room}
+use Rattle.rules.proofs.Room.{call-room, output-room}
+use Rattle.rules.proofs.Output.{written, element-in, all-read, together, cut-output, first-octets}
 use Rattle.rules.proofs.Hops.{walk-hops}
 use Rattle.rules.proofs.StaysTable.{fresh-stays, forget-stays}
-use Rattle.theorems.specs.Statements.{EdgesHold, ErrorsShutOut, StaysTable, FreshIsTable, ForgetStaysTable, HasRoom, ReadsAs, ReadsBack, HopsAtMost, LoopFree, NeverTooLong, NotVacuous, Sharp, ElseTheRules, NeedsExclusions, NeedsPremise}
+use Rattle.theorems.specs.Statements.{EdgesHold, ErrorsShutOut, StaysTable, FreshIsTable, ForgetStaysTable, HasRoom, FramesInOutput, ReadsAsElement, ReadsBack, HopsAtMost, LoopFree, NeverTooLong, NotVacuous, Sharp, ElseTheRules, NeedsExclusions, NeedsPremise}
 use Rattle.theorems.specs.WrongRules.{ruledBy}
 use Rattle.theorems.specs.Runs.{endOf, way, outside, outsideLoops}
 use Rattle.theorems.proofs.AllEdges.{all-edges, all-shut-out}
@@ -41,16 +48,36 @@ forget-stays-a-table = forget-stays
 pub has-room : HasRoom
 has-room = call-room
 
-pub reads-back : ReadsBack
-reads-back l octets room call fit e is =
-    all-implies (λ (f : Frame). Fits (f .element)) (λ (f : Frame). ReadsAs (writeElement (f .element)) (f .element))
-    (λ f fits. record {
+pub frames-in-output : FramesInOutput
+unfolding atExit
+frames-in-output l octets output call fit e is x ends =
+    let k : Kept (l .table) e = call-kept l octets (length output) call fit e is in
+    let room = output-room l octets output call fit e is in
+    let cut = cut-output output (e .frames) room in
+    rw (← ends, is) (
+      ap (map readFrame) cut ∙ all-read (e .frames) (k .frames),
+      ap (flatMap (λ (s : List ℕ). s)) cut ∙ together (e .frames) ∙ sym (first-octets output (e .frames) room),
+    )
+
+reads-written : (f : Frame) → FrameFits f → ReadsAsElement (elementIn (written f))
+reads-written f fits =
+    rw (element-in f) (record {
       passes-6 = passes-6 (f .element);
       passes-7 = passes-7 (f .element);
-      passes-8 = passes-8 (f .element) (fits .count);
-      fields = read-back (f .element) fits;
+      passes-8 = passes-8 (f .element) (fits .element .count);
     })
-    (e .frames) (call-kept l octets room call fit e is .frames)
+
+pub reads-back : ReadsBack
+unfolding atExit framesIn All
+reads-back l octets output call fit x ends = by (decision l (length output) call) refl ends
+  where
+    by : (d : Decision Effect) → decision l (length output) call ≡ d → atExit l output d ≡ x
+        → All (λ (s : List ℕ). ReadsAsElement (elementIn s)) (framesAt x)
+    by (refused n) is ends = rw (← ends) tt
+    by (accepted e) is ends =
+        rw (← ends, cut-output output (e .frames) (output-room l octets output call fit e is))
+        (all-map (λ (s : List ℕ). ReadsAsElement (elementIn s)) FrameFits written reads-written (e .frames)
+        (call-kept l octets (length output) call fit e is .frames))
 
 pub hops-at-most : HopsAtMost
 hops-at-most = walk-hops

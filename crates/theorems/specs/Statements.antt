@@ -8,20 +8,19 @@
 use Prim.Native.Nat.{ℕ, _^_, _<_, _≤_}
 use mathlib.Core.Path.{_≡_}
 use mathlib.Core.Bool.{true, false}
-use mathlib.Core.List.{List, _++_}
+use mathlib.Core.List.{List, _++_, map, flatMap}
 use mathlib.Core.Logic.{_⊎_}
-use lib.ListN.{length}
+use lib.ListN.{length, take}
 use Rattle.octets.specs.LittleEndian.{Octets}
 use Rattle.counters.specs.declared.SequenceNumber.{SequenceNumber}
 use Rattle.layout.specs.declared.address.Address.{Address}
 use Rattle.table.specs.Table.{isTable}
-use Rattle.element.specs.Element.{Element}
 use Rattle.element.specs.Entries.{All}
-use Rattle.element.specs.Octets.{wrongLength, otherId, misfit, readElement, writeElement}
+use Rattle.element.specs.Octets.{wrongLength, otherId, misfit}
 use Rattle.element.specs.Lists.{hasDuplicate}
 use Rattle.rules.specs.Decision.{accepted}
 use Rattle.rules.specs.Lists.{all}
-use Rattle.rules.specs.Exit.{Frame, Lent, Effect, frameOctets, leastOutput}
+use Rattle.rules.specs.Exit.{Lent, Effect, frameOctets, leastOutput, Exit, atExit, framesAt, elementIn, readFrame}
 use Rattle.rules.specs.Fresh.{makeFresh}
 use Rattle.rules.specs.Forget.{forget}
 use Rattle.rules.specs.Errors.{broken}
@@ -82,21 +81,29 @@ HasRoom =
     → (e : Effect) → decision l room call ≡ accepted e
     → length (frameOctets (e .frames)) ≤ leastOutput
 
--- ---- reads back (`reads-back`)
+-- ---- frames in the output (`frames-in-output`, `reads-back`)
 
--- the octets of an element pass refusals 6, 7 and 8, and are read as its fields
-pub record ReadsAs (s : List ℕ) (e : Element) : Type 0 where
+-- Whatever output an accepted call was lent: the frames that are cut from it by their Length octets alone, as many as the call
+-- reports, are read as the receivers and elements that the rules say; one after another they are the octets that it reports.
+abbrev pub FramesInOutput : Type 0
+FramesInOutput =
+    (l : Lent) → Octets (l .table) → (output : List ℕ) (call : Call) → OperandsFit call
+    → (e : Effect) → decision l (length output) call ≡ accepted e
+    → (x : Exit) → atExit l output (decision l (length output) call) ≡ x
+    → (map readFrame (framesAt x) ≡ e .frames) × (flatMap (λ (s : List ℕ). s) (framesAt x) ≡ take (x .octets) (x .output))
+
+-- octets that pass refusals 6, 7 and 8
+pub record ReadsAsElement (s : List ℕ) : Type 0 where
   pub passes-6 : wrongLength s ≡ false
   pub passes-7 : otherId s ≡ false
   pub passes-8 : misfit s ≡ false
-  pub fields : readElement s ≡ e
 
--- Such are the octets of the elements in all frames of an accepted call.
+-- What a point emits, another point reads back: each frame in the output of any call, without its receiver, passes 6, 7 and 8.
 abbrev pub ReadsBack : Type 0
 ReadsBack =
-    (l : Lent) → Octets (l .table) → (room : ℕ) (call : Call) → OperandsFit call
-    → (e : Effect) → decision l room call ≡ accepted e
-    → All (λ (f : Frame). ReadsAs (writeElement (f .element)) (f .element)) (e .frames)
+    (l : Lent) → Octets (l .table) → (output : List ℕ) (call : Call) → OperandsFit call
+    → (x : Exit) → atExit l output (decision l (length output) call) ≡ x
+    → All (λ (s : List ℕ). ReadsAsElement (elementIn s)) (framesAt x)
 
 -- ---- walks (`hops-at-most`)
 
