@@ -1,4 +1,5 @@
 pub mod Slots
+mod Keeping
 mod Settling
 mod Calling
 mod Silent

@@ -4,21 +4,27 @@ use mathlib.Core.Path.{_≡_, sym, ap, subst, _∙_}
 use mathlib.Core.Bool.{true}
 use mathlib.Core.List.{List, [], _∷_}
 use lib.Dec.{ltb}
-use lib.ListN.{length, List·getD-eq-default}
+use lib.ListN.{length, getD, List·getD-eq-default}
+use native.Mathlib.Omega.{arith}
 use borrow.Author.Tests.{ne-eqb, lt-ltb, le-ltb}
-use Rattle.octets.specs.LittleEndian.{numberAt}
+use Rattle.octets.specs.LittleEndian.{numberAt, Octets}
+use Rattle.element.proofs.Scans.{each-length}
 use Rattle.bench_core.specs.declared.State.{State}
 use Rattle.bench_core.specs.declared.Done.{Done}
 use Rattle.bench_core.specs.declared.Done.the-variants.{Fault, Line}
-use Rattle.bench_rules.specs.Bench.{Bench, WithLinks, Done as Came}
-use Rattle.bench_core.specs.InCode.{benchOf, doneIn, Memory, Remains, Adds, Advances, Links, Walks}
+use Rattle.bench_rules.specs.Bench.{Bench, Sound, WithLinks, Done as Came}
+use Rattle.bench_core.specs.InCode.{keptAt, benchOf, doneIn, Memory, Remains, Adds, Advances, Links, Walks}
 use Rattle.bench_rules.specs.Interpreter.{lengthOf, leavingLinks, obeyed, command, isCut}
 use Rattle.bench_rules.proofs.Sound.{Stays, obeyed-sound}
 
 pub no-command : (c : ℕ) → 9 ≤ c → 0 ≡ lengthOf c
 no-command c l = sym (List·getD-eq-default (0 ∷ 11 ∷ 5 ∷ 7 ∷ 13 ∷ 6 ∷ 4 ∷ 3 ∷ 3 ∷ []) 0 l)
 
--- ---- octets still to come
+-- ---- the first octet, and octets still to come
+
+pub first-read : (s : List ℕ) (c : ℕ) → c ≡ getD s 0 0 → c ≡ numberAt 1 s 0
+unfolding numberAt
+first-read s c e = omega arith
 
 pub cut-nothing : (s : List ℕ) → length s ≡ 0 → true ≡ isCut s
 unfolding isCut
@@ -108,14 +114,17 @@ module _ (st : State) (tables slots : List ℕ) (links : List (List ℕ)) (s : L
       command-obeyed l x xe = rw (← ce, ← ne, ne-eqb n 0 nz, le-ltb (length s) n l) xe
 
 -- what remains of the memory
-module _ (st : State) (tables slots : List ℕ) (m : Memory st tables slots) (links : List (List ℕ)) (s : List ℕ) (c : ℕ) where
+module _ (st : State) (tables slots : List ℕ) (m : Memory st tables slots) (links : List (List ℕ)) (s : List ℕ) (octets : Octets s) (c : ℕ) where
   pub memory-remains : (r : Done) (tables′ slots′ : List ℕ) (links′ : List (List ℕ))
       → record { done = doneIn r tables′ slots′; links = links′ } ≡ obeyed (benchOf st tables slots) links s c
       → length tables′ ≡ length tables → length slots′ ≡ length slots → Remains r tables′ slots′
   memory-remains Fault tables′ slots′ links′ e te se = tt
   memory-remains (Line x) tables′ slots′ links′ e te se =
+      let sound : Sound (benchOf (record { points = x .points; frames = x .frames; clock = x .clock }) tables′ slots′) =
+      subst Stays (sym (ap (λ (l : WithLinks). l .done) e)) (obeyed-sound (benchOf st tables slots) (m .sound) links s octets c) in
       record {
         tables-long = te ∙ m .tables-long;
         slots-long = se ∙ m .slots-long;
-        sound = subst Stays (sym (ap (λ (l : WithLinks). l .done) e)) (obeyed-sound (benchOf st tables slots) (m .sound) links s c);
+        frames-few = omega (arith, sound .few, each-length (keptAt slots′) 0 (x .frames));
+        sound = sound;
       }

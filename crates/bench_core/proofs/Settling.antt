@@ -1,14 +1,23 @@
 -- What becomes of a call that may emit frames: its table and its frames are kept.
 use Prim.Native.Nat.{ℕ, _+_, _-_, _*_, _<_, _≤_}
-use mathlib.Core.Path.{_≡_, refl, ap, _∙_}
-use mathlib.Core.Bool.{Bool, true, false}
-use mathlib.Core.List.{List}
+use mathlib.Core.Path.{_≡_, refl, sym, ap, ap₂, subst, _∙_}
+use mathlib.Core.Bool.{Bool, true, false, cond}
+use mathlib.Core.List.{List, _++_}
 use lib.Dec.{ltb}
+use lib.ListN.{length, take, drop, length-append, length-map, length-replicate, take-append-drop}
 use native.Mathlib.Omega.{arith}
 use native.Mathlib.Nat.{add-zero}
-use borrow.Author.Tests.{lt-ltb, le-ltb}
+use borrow.Author.Tests.{lt-ltb, le-ltb, ltb-false}
 use borrow.Rule.Slice.PartMut.{putMid}
-use Rattle.rules.specs.Exit.{lend, Exit}
+use Rattle.octets.specs.LittleEndian.{zeros, Octets}
+use Rattle.element.proofs.Scans.{each-length}
+use Rattle.rules.specs.Decision.{Decision, refused, accepted}
+use Rattle.rules.specs.Exit.{lend, Effect, frameOctets, Exit, atExit, framesIn, framesAt}
+use Rattle.rules.specs.Calls.{Call, decision, OperandsFit}
+use Rattle.rules.specs.Walk.{tableAt}
+use Rattle.rules.proofs.CallsKeep.{call-kept}
+use Rattle.rules.proofs.Room.{call-room}
+use Rattle.rules.proofs.Output.{cut-output}
 use Rattle.calls.specs.declared.Emitted.{Emitted}
 use Rattle.calls.specs.declared.Outcome.{Outcome}
 use Rattle.calls.specs.declared.Outcome.the-variants.{Accepted, Refused}
@@ -16,9 +25,10 @@ use Rattle.calls.specs.Answers.{exitOf}
 use Rattle.bench_core.specs.declared.State.{State}
 use Rattle.bench_core.specs.declared.Done.{Done}
 use Rattle.bench_core.specs.declared.Done.the-variants.{Fault}
-use Rattle.bench_rules.specs.Frames.{keep}
-use Rattle.bench_rules.specs.Bench.{withTableAt, settled}
-use Rattle.bench_core.specs.InCode.{benchOf, doneIn, printed, keptAs, keptSlots, settledAs, settledSlots}
+use Rattle.bench_rules.specs.Bench.{KeptFrame, KeptSoundly, Bench, fault, line, Done as Came, withTableAt, keptFrom, settled}
+use Rattle.bench_rules.proofs.Sound.{table-octets, found-sound}
+use Rattle.bench_core.specs.InCode.{keptAt, keptIn, putFrames, Holds, benchOf, doneIn, Memory, printed, keptAs, keptSlots, settledAs, settledSlots, HoldsFrames}
+use Rattle.bench_core.proofs.Keeping.{ShortBelow, frame-found, frames-kept, output-holds}
 
 -- ---- the frames of a call
 
@@ -34,7 +44,7 @@ module _ (s : State) (n : ℕ) where
     pub too-many-keeps : 128 < s .frames + n → slots ≡ keptSlots s n sender output slots
     too-many-keeps l = rw (lt-ltb 128 (s .frames + n) l)
 
-    pub few-keeps : s .frames + n ≤ 128 → (slots′ : List ℕ) → slots′ ≡ keep slots output sender (s .frames) n 0
+    pub few-keeps : s .frames + n ≤ 128 → (slots′ : List ℕ) → slots′ ≡ putFrames slots sender (s .frames) (framesIn n output)
         → slots′ ≡ keptSlots s n sender output slots
     few-keeps l slots′ se = rw (le-ltb 128 (s .frames + n) l) se
 
@@ -49,6 +59,10 @@ module _ (s : State) (o : Outcome) (sender : ℕ) (output slots : List ℕ) wher
   pub refused-keeps : (n : ℕ) → o ≡ Refused n → slots ≡ settledSlots s o sender output slots
   refused-keeps n e = rw e
 
+  pub accepted-holds : (e : Emitted) → o ≡ Accepted e → HoldsFrames o output → Holds (e .frames) output
+  unfolding HoldsFrames
+  accepted-holds e oe h = rw oe at h
+
   pub accepted-keeps : (e : Emitted) → o ≡ Accepted e → (slots′ : List ℕ) → slots′ ≡ keptSlots s (e .frames) sender output slots
       → slots′ ≡ settledSlots s o sender output slots
   accepted-keeps e oe slots′ se = rw oe se
@@ -60,21 +74,94 @@ pub put-back : (tables u : List ℕ) (p : ℕ) → putMid (544 * p) (544 * p + 5
 unfolding withTableAt
 put-back tables u p = let n : 544 * p + 544 - 544 * p ≡ 544 = omega arith in rw n
 
--- the point's call gave outcome o, table u and output, which is the exit x
-module _ (s : State) (few : s .frames ≤ 128) (tables slots : List ℕ) (p : ℕ) (o : Outcome) (u output : List ℕ) (x : Exit) (xe : exitOf o (lend u) output ≡ x)
-    (r : Done) (re : r ≡ settledAs s o) (slots′ : List ℕ) (se : slots′ ≡ settledSlots s o p output slots) where
-  kept-so : doneIn r (withTableAt tables p u) slots′ ≡ settled (benchOf s tables slots) p x
-  unfolding settled keep
-  kept-so = by o xe re se
-    where
-      by : (o : Outcome) → exitOf o (lend u) output ≡ x → r ≡ settledAs s o → slots′ ≡ settledSlots s o p output slots
-          → doneIn r (withTableAt tables p u) slots′ ≡ settled (benchOf s tables slots) p x
-      by (Refused n) xe re se = rw (re, se, ← xe, add-zero (s .frames), le-ltb 128 (s .frames) few)
-      by (Accepted e) xe re se = cases (ltb 128 (s .frames + e .frames)) refl
-        where
-          cases : (b : Bool) → ltb 128 (s .frames + e .frames) ≡ b → doneIn r (withTableAt tables p u) slots′ ≡ settled (benchOf s tables slots) p x
-          cases true be = rw (re, ← xe, be)
-          cases false be = rw (re, se, ← xe, be)
+table-back : (tables : List ℕ) (p : ℕ) → withTableAt tables p (tableAt tables 544 p) ≡ tables
+unfolding withTableAt tableAt
+table-back tables p =
+    ap (λ (t : List ℕ). take (544 * p) tables ++ t) (take-append-drop 544 (drop (544 * p) tables)) ∙ take-append-drop (544 * p) tables
 
-  pub settled-so : doneIn r (putMid (544 * p) (544 * p + 544 - 544 * p) tables u) slots′ ≡ settled (benchOf s tables slots) p x
-  settled-so = ap (λ (t : List ℕ). doneIn r t slots′) (put-back tables u p) ∙ kept-so
+-- ---- the output of a call has its frames
+
+module _ (t : List ℕ) (octets : Octets t) (call : Call) (fit : OperandsFit call) where
+  output-long : (e : Effect) → decision (lend t) 1560 call ≡ accepted e → length (frameOctets (e .frames)) ≤ length (zeros 1560)
+  output-long e is = omega (arith, call-room (lend t) octets 1560 call fit e is, length-replicate {A = ℕ} 1560 0)
+
+  decision-holds : (d : Decision Effect) → decision (lend t) 1560 call ≡ d
+      → Holds (atExit (lend t) (zeros 1560) d .frames) (atExit (lend t) (zeros 1560) d .output)
+  unfolding atExit Holds
+  decision-holds (refused n) is = tt
+  decision-holds (accepted e) is = output-holds (zeros 1560) (e .frames) (output-long e is)
+
+  pub call-holds : (o : Outcome) (u output : List ℕ) → exitOf o (lend u) output ≡ atExit (lend t) (zeros 1560) (decision (lend t) 1560 call)
+      → HoldsFrames o output
+  unfolding HoldsFrames
+  call-holds o u output xe = by o (subst (λ (x : Exit). Holds (x .frames) (x .output)) (sym xe) (decision-holds (decision (lend t) 1560 call) refl))
+    where
+      by : (o : Outcome) → Holds (exitOf o (lend u) output .frames) (exitOf o (lend u) output .output) → HoldsFrames o output
+      by (Refused n) h = tt
+      by (Accepted e) h = h
+
+-- ---- frame k
+
+pub kept-soundly : (s : State) (tables slots : List ℕ) → Memory s tables slots → (k : ℕ) → k < s .frames → KeptSoundly (s .points) (keptAt slots k)
+kept-soundly s tables slots m k l =
+    found-sound (s .points) (keptIn slots (s .frames)) (m .sound .frames) k (keptAt slots k) (frame-found slots (s .frames) k l)
+
+-- ---- a call of point p, from its exit
+
+module _ (s : State) (tables slots : List ℕ) (m : Memory s tables slots) (p : ℕ) where
+  abbrev b : Bench
+  b = benchOf s tables slots
+
+  abbrev t : List ℕ
+  t = tableAt tables 544 p
+
+  -- what stands after a call that ended so
+  abbrev settledAt : Exit → Came
+  settledAt x =
+      cond (ltb 128 (s .frames + x .frames)) fault
+      (line (x .answer) (x .frames)
+      (benchOf (record { points = s .points; frames = s .frames + x .frames; clock = s .clock }) (withTableAt tables p (x .lent .table))
+      (putFrames slots p (s .frames) (framesAt x))))
+
+  outcome-settled : (o : Outcome) (u output : List ℕ) (r : Done) → r ≡ settledAs s o → (slots′ : List ℕ) → slots′ ≡ settledSlots s o p output slots
+      → doneIn r (withTableAt tables p u) slots′ ≡ settledAt (exitOf o (lend u) output)
+  unfolding putFrames framesIn
+  outcome-settled (Refused n) u output r re slots′ se = rw (re, se, add-zero (s .frames), le-ltb 128 (s .frames) (m .frames-few))
+  outcome-settled (Accepted e) u output r re slots′ se = by (ltb 128 (s .frames + e .frames)) refl
+    where
+      by : (x : Bool) → ltb 128 (s .frames + e .frames) ≡ x → doneIn r (withTableAt tables p u) slots′ ≡ settledAt (exitOf (Accepted e) (lend u) output)
+      by true xe = rw (re, xe)
+      by false xe = rw (re, se, xe)
+
+  -- the frames before it do not reach beyond their slots
+  short-before : ShortBelow slots (s .frames)
+  short-before i l = kept-soundly s tables slots m i l .short
+
+  module _ (call : Call) (fit : OperandsFit call) where
+    octets : Octets t
+    octets = table-octets tables p (m .sound .tables)
+
+    decision-settled : (d : Decision Effect) → decision (lend t) 1560 call ≡ d → settledAt (atExit (lend t) (zeros 1560) d) ≡ settled b p d
+    unfolding atExit settled putFrames framesIn
+    decision-settled (refused n) is = rw (add-zero (s .frames), le-ltb 128 (s .frames) (m .frames-few), table-back tables p)
+    decision-settled (accepted e) is = by (ltb 128 (s .frames + length (e .frames))) refl
+      where
+        new : List KeptFrame
+        new = keptFrom p (e .frames)
+
+        many : length (b .frames ++ new) ≡ s .frames + length (e .frames)
+        many = length-append (b .frames) new ∙ ap₂ _+_ (each-length (keptAt slots) 0 (s .frames)) (length-map (e .frames) _)
+
+        by : (x : Bool) → ltb 128 (s .frames + length (e .frames)) ≡ x → settledAt (atExit (lend t) (zeros 1560) (accepted e)) ≡ settled b p (accepted e)
+        by true xe = rw (many, xe)
+        by false xe =
+            let fits = call-kept (lend t) octets 1560 call fit e is .frames in
+            let few = ltb-false 128 (s .frames + length (e .frames)) xe in
+            rw (many, xe, cut-output (zeros 1560) (e .frames) (output-long t octets call fit e is), frames-kept p (e .frames) fits slots (m .slots-long) (s .frames) few short-before)
+
+    module _ (o : Outcome) (u output : List ℕ) (xe : exitOf o (lend u) output ≡ atExit (lend t) (zeros 1560) (decision (lend t) 1560 call)) where
+      pub call-settled : (r : Done) → r ≡ settledAs s o → (slots′ : List ℕ) → slots′ ≡ settledSlots s o p output slots
+          → doneIn r (putMid (544 * p) (544 * p + 544 - 544 * p) tables u) slots′ ≡ settled b p (decision (lend t) 1560 call)
+      call-settled r re slots′ se =
+          ap (λ (x : List ℕ). doneIn r x slots′) (put-back tables u p) ∙ outcome-settled o u output r re slots′ se
+          ∙ ap settledAt xe ∙ decision-settled (decision (lend t) 1560 call) refl

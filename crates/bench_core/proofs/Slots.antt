@@ -1,34 +1,18 @@
 -- Frames in an output and in the slots.
-use Prim.Native.Nat.{ℕ, suc, _+_, _-_, _*_, _<_, _≤_, min}
-use mathlib.Core.Path.{_≡_, sym, ap, _∙_}
+use Prim.Native.Nat.{ℕ, suc, _+_, _-_, _*_, _<_, _≤_}
+use mathlib.Core.Path.{_≡_, sym, ap, subst, _∙_}
 use mathlib.Core.List.{List, _∷_}
-use lib.ListN.{length, getD, set, take, drop, length-set, length-take}
+use lib.ListN.{length, getD, set, take, drop, length-set, length-take, length-drop}
+use lib.Seq.{getD-drop, drop-drop}
 use native.Mathlib.Omega.{arith}
-use native.Mathlib.Nat.{min-eq-left, min-eq-right, sub-zero, add-zero}
+use native.Mathlib.Nat.{min-eq-left, sub-zero, add-zero}
 use Rattle.octets.specs.LittleEndian.{overwrite}
-use Rattle.bench_rules.specs.Frames.{frameEnd, senderOf, elementOf, keep}
+use Rattle.rules.specs.Exit.{framesIn}
+use Rattle.bench_core.specs.InCode.{senderOf, elementOf, putFrames, Holds}
 
 -- the first n of a list
 pub front-long : (s : List ℕ) (n : ℕ) → n ≤ length s → n ≡ length (take n s)
 front-long s n l = sym (length-take n s ∙ min-eq-left l)
-
--- ---- where a frame ends
-
-module _ (s : List ℕ) (at : ℕ) (within : at ≤ length s) where
-  pub end-short : length s - at < 8 → length s ≡ frameEnd s at
-  unfolding frameEnd
-  end-short l = sym (min-eq-right (omega arith))
-
-  module _ (n : ℕ) (ne : n ≡ 8 + getD s (at + 7) 0) where
-    end-is : min (at + n) (length s) ≡ frameEnd s at
-    unfolding frameEnd
-    end-is = let m : at + n ≡ at + 8 + getD s (at + 7) 0 = omega arith in ap (λ (y : ℕ). min y (length s)) m
-
-    pub end-beyond : length s < at + n → length s ≡ frameEnd s at
-    end-beyond l = sym (min-eq-right (omega arith)) ∙ end-is
-
-    pub end-within : at + n ≤ length s → at + n ≡ frameEnd s at
-    end-within l = sym (min-eq-left l) ∙ end-is
 
 -- ---- slots
 
@@ -55,25 +39,53 @@ module _ (s : List ℕ) (k : ℕ) where
     pub length-behind : (t : List ℕ) → length t ≡ length (set s at x) → length t ≡ length s
     length-behind t e = e ∙ length-set s at x
 
--- ---- all frames of a call: g is what the slots are at the end
+-- ---- all frames of a call, kept one after another: g is what the slots are at the end
 
 module _ (output : List ℕ) (sender first n : ℕ) where
-  pub keep-start : (slots : List ℕ) → keep slots output sender (first + 0) (n - 0) 0 ≡ keep slots output sender first n 0
+  -- the frames from this place on
+  abbrev left : ℕ → ℕ → List (List ℕ)
+  left i at = framesIn (n - i) (drop at output)
+
+  pub keep-start : (slots : List ℕ) → putFrames slots sender (first + 0) (left 0 0) ≡ putFrames slots sender first (framesIn n output)
   keep-start slots = rw (add-zero first, sub-zero n)
 
-  module _ (slots g : List ℕ) (i at : ℕ) (so-far : keep slots output sender (first + i) (n - i) at ≡ g) where
-    pub keep-more : i < n → (end : ℕ) → end ≡ frameEnd output at → (slots′ : List ℕ)
-        → slots′ ≡ overwrite slots (264 * (first + i)) (sender ∷ take (end - at) (drop at output))
-        → keep slots′ output sender (first + (i + 1)) (n - (i + 1)) end ≡ g
-    unfolding keep
-    keep-more l end ee slots′ se =
-        let more : n - i ≡ suc (n - (i + 1)) = omega arith in
-        let next : first + (i + 1) ≡ first + i + 1 = omega arith in
-        let here = ap (λ (m : ℕ). keep slots output sender (first + i) m at) (sym more) ∙ so-far in
-        rw (← here, next, se, ee)
+  pub holds-start : Holds n output → Holds (n - 0) (drop 0 output)
+  holds-start h = rw (sub-zero n) h
 
-    pub keep-ended : n ≤ i → slots ≡ g
-    unfolding keep
-    keep-ended l =
-        let none : n - i ≡ 0 = omega arith in
-        ap (λ (m : ℕ). keep slots output sender (first + i) m at) (sym none) ∙ so-far
+  module _ (i at : ℕ) (h : Holds (n - i) (drop at output)) where
+    module _ (l : i < n) where
+      next-held : (8 + getD output (at + 7) 0 ≤ length output - at) × Holds (n - (i + 1)) (drop (at + (8 + getD output (at + 7) 0)) output)
+      unfolding Holds
+      next-held =
+          let more : n - i ≡ suc (n - (i + 1)) = omega arith in
+          let k : Holds (suc (n - (i + 1))) (drop at output) = subst (λ (m : ℕ). Holds m (drop at output)) more h in
+          rw (getD-drop at output 7 0, length-drop at output, drop-drop _ at output) at k
+
+      pub next-begins : at ≤ length output → at + 8 ≤ length output
+      next-begins inside = omega (arith, next-held .0)
+
+      module _ (long : ℕ) (le : long ≡ 8 + getD output (at + 7) 0) where
+        pub next-ends : at ≤ length output → at + long ≤ length output
+        next-ends inside = omega (arith, next-held .0)
+
+        pub next-holds : Holds (n - (i + 1)) (drop (at + long) output)
+        next-holds = rw le (next-held .1)
+
+        pub keep-more : (slots g : List ℕ) → putFrames slots sender (first + i) (left i at) ≡ g → (slots′ : List ℕ)
+            → slots′ ≡ overwrite slots (264 * (first + i)) (sender ∷ take (at + long - at) (drop at output))
+            → putFrames slots′ sender (first + (i + 1)) (left (i + 1) (at + long)) ≡ g
+        unfolding putFrames framesIn
+        keep-more slots g so-far slots′ se =
+            let more : n - i ≡ suc (n - (i + 1)) = omega arith in
+            let next : first + (i + 1) ≡ first + i + 1 = omega arith in
+            let taken : at + long - at ≡ long = omega arith in
+            let told : 8 + getD (drop at output) 7 0 ≡ long = ap (λ (x : ℕ). 8 + x) (getD-drop at output 7 0) ∙ sym le in
+            let here = ap (λ (m : ℕ). putFrames slots sender (first + i) (framesIn m (drop at output))) (sym more) ∙ so-far in
+            let cut = rw told at here in
+            rw (next, se, taken, ← drop-drop long at output) cut
+
+  pub keep-ended : (slots g : List ℕ) (i at : ℕ) → putFrames slots sender (first + i) (left i at) ≡ g → n ≤ i → slots ≡ g
+  unfolding putFrames framesIn
+  keep-ended slots g i at so-far l =
+      let none : n - i ≡ 0 = omega arith in
+      ap (λ (m : ℕ). putFrames slots sender (first + i) (framesIn m (drop at output))) (sym none) ∙ so-far

@@ -1,30 +1,74 @@
 -- What the code holds of the bench, as the definitions have it.
-use Prim.Native.Nat.{ℕ, _+_}
+use Prim.Native.Nat.{ℕ, zero, suc, _+_, _*_, _≤_}
 use mathlib.Core.Path.{_≡_}
 use mathlib.Core.Bool.{cond}
-use mathlib.Core.List.{List}
-use lib.ListN.{length}
+use mathlib.Core.List.{List, [], _∷_}
+use lib.ListN.{length, getD, take, drop}
+use Rattle.octets.specs.LittleEndian.{overwrite}
 use Rattle.counters.specs.declared.SequenceNumber.{SequenceNumber}
 use Rattle.layout.specs.declared.address.Address.{Address}
+use Rattle.element.specs.Entries.{each}
 use Rattle.rules.specs.Decision.{_above_}
+use Rattle.rules.specs.Exit.{framesIn}
 use Rattle.calls.specs.declared.Outcome.{Outcome}
 use Rattle.calls.specs.declared.Outcome.the-variants.{Accepted, Refused}
 use Rattle.bench_core.specs.declared.State.{State}
 use Rattle.bench_core.specs.declared.Done.{Done}
 use Rattle.bench_core.specs.declared.Done.the-variants.{Line, Fault}
-use Rattle.bench_rules.specs.Frames.{keep}
-use Rattle.bench_rules.specs.Bench.{Bench, Sound, fault, line, Done as Came}
+use Rattle.bench_rules.specs.Bench.{KeptFrame, Bench, Sound, fault, line, Done as Came}
 use Rattle.bench_rules.specs.Commands.{addPoint, advance, link, walkTo}
 
-abbrev pub benchOf : State → List ℕ → List ℕ → Bench
-benchOf s tables slots = record { tables = tables; points = s .points; slots = slots; frames = s .frames; clock = s .clock }
+-- ---- frames, each in a slot of 264 octets: its sender's number (1), the receiver address (6) and the element (up to 257)
+
+unfoldable pub senderOf : (slots : List ℕ) → (k : ℕ) → ℕ
+senderOf slots k = getD slots (264 * k) 0
+
+-- ID, Length and as many octets as Length says
+unfoldable pub elementOf : (slots : List ℕ) → (k : ℕ) → List ℕ
+elementOf slots k = take (2 + getD slots (264 * k + 8) 0) (drop (264 * k + 7) slots)
+
+abbrev pub keptAt : (slots : List ℕ) → (k : ℕ) → KeptFrame
+keptAt slots k = record { sender = senderOf slots k; element = elementOf slots k }
+
+-- the frames in the first n slots
+abbrev pub keptIn : (slots : List ℕ) → (n : ℕ) → List KeptFrame
+keptIn slots n = each (keptAt slots) 0 n
+
+-- these frames of a sender put into slots k, k + 1 and so on
+unfoldable pub putFrames : (slots : List ℕ) → (sender k : ℕ) → List (List ℕ) → List ℕ
+putFrames slots sender k [] = slots
+putFrames slots sender k (f ∷ frames) = putFrames (overwrite slots (264 * k) (sender ∷ f)) sender (k + 1) frames
+
+-- n whole frames stand at the start of s, by their Length octets
+unfoldable pub Holds : (n : ℕ) → (s : List ℕ) → Type 0
+Holds zero s = Unit {0}
+Holds (suc n) s = (8 + getD s 7 0 ≤ length s) × Holds n (drop (8 + getD s 7 0) s)
+
+-- ---- the bench
+
+abbrev pub benchOf : State → (tables slots : List ℕ) → Bench
+benchOf s tables slots = record { tables = tables; points = s .points; frames = keptIn slots (s .frames); clock = s .clock }
 
 -- with what stands in the memory after the command; after a fault that plays no part
-abbrev pub doneIn : Done → List ℕ → List ℕ → Came
+abbrev pub doneIn : Done → (tables slots : List ℕ) → Came
 doneIn Fault tables slots = fault
 doneIn (Line x) tables slots =
     line (x .answer) (x .third)
-    (record { tables = tables; points = x .points; slots = slots; frames = x .frames; clock = x .clock })
+    (record { tables = tables; points = x .points; frames = keptIn slots (x .frames); clock = x .clock })
+
+-- what the code's functions know of the memory and of the numbers beside it
+pub record Memory (s : State) (tables slots : List ℕ) : Type 0 where
+  pub tables-long : length tables ≡ 8704
+  pub slots-long : length slots ≡ 33792
+  pub frames-few : s .frames ≤ 128
+  pub sound : Sound (benchOf s tables slots)
+
+-- after a line the functions know it again; after a fault the memory plays no part
+abbrev pub Remains : Done → (tables slots : List ℕ) → Type 0
+Remains Fault tables slots = Unit {0}
+Remains (Line x) tables slots = Memory (record { points = x .points; frames = x .frames; clock = x .clock }) tables slots
+
+-- ---- a call that may emit frames
 
 -- a line after which the bench holds what it did
 abbrev pub printed : State → ℕ → ℕ → Done
@@ -38,9 +82,10 @@ keptAs s n =
     (printed (record { points = s .points; frames = s .frames + n; clock = s .clock }) 0 n)
 
 abbrev pub keptSlots : State → ℕ → (sender : ℕ) → (output slots : List ℕ) → List ℕ
-keptSlots s n sender output slots = cond ((s .frames + n) above 128) slots (keep slots output sender (s .frames) n 0)
+keptSlots s n sender output slots =
+    cond ((s .frames + n) above 128) slots (putFrames slots sender (s .frames) (framesIn n output))
 
--- and after a call that may emit frames
+-- and after the call
 abbrev pub settledAs : State → Outcome → Done
 settledAs s (Refused n) = printed s n 0
 settledAs s (Accepted e) = keptAs s (e .frames)
@@ -49,16 +94,10 @@ abbrev pub settledSlots : State → Outcome → (sender : ℕ) → (output slots
 settledSlots s (Refused n) sender output slots = slots
 settledSlots s (Accepted e) sender output slots = keptSlots s (e .frames) sender output slots
 
--- what the code's functions know of the memory and of the numbers beside it
-pub record Memory (s : State) (tables slots : List ℕ) : Type 0 where
-  pub tables-long : length tables ≡ 8704
-  pub slots-long : length slots ≡ 33792
-  pub sound : Sound (benchOf s tables slots)
-
--- after a line the functions know it again; after a fault the memory plays no part
-abbrev pub Remains : Done → (tables slots : List ℕ) → Type 0
-Remains Fault tables slots = Unit {0}
-Remains (Line x) tables slots = Memory (record { points = x .points; frames = x .frames; clock = x .clock }) tables slots
+-- the frames of an acceptance are whole in the output
+unfoldable pub HoldsFrames : Outcome → (output : List ℕ) → Type 0
+HoldsFrames (Refused n) output = Unit {0}
+HoldsFrames (Accepted e) output = Holds (e .frames) output
 
 -- ---- commands that leave a part of the memory alone, whatever stands there
 

@@ -4,19 +4,13 @@ ghost use mathlib.Core.List.{_∷_};
 ghost use Prim.Native.Nat.{_+_, _*_, _<_, _≤_};
 ghost use lib.ListN.{getD, length};
 ghost use Rattle.octets.specs.LittleEndian.{overwrite};
-ghost use Rattle.bench_rules.specs.Frames.{elementOf, frameEnd, keep, senderOf};
+ghost use Rattle.rules.specs.Exit.{framesIn};
+ghost use Rattle.bench_core.specs.InCode.{Holds, elementOf, putFrames, senderOf};
 
 pub const MOST_FRAMES: usize = 128;
 
 // The sender (1), the receiver address (6), ID (1), Length (1) and at most 255 octets after that.
 pub const SLOT: usize = 264;
-
-fn octet_at(s: &[u8], at: usize) -> u8
-    requires { ⌜ at < length (now s) ⌝ }
-    ensures { λ r. ⌜ r ≡ getD (now (s .entry)) at 0 ⌝ }
-{
-    s[at]
-}
 
 // Octets of the frame that begins at a place, by its Length.
 fn frame_length(output: &[u8], at: usize) -> usize
@@ -24,24 +18,8 @@ fn frame_length(output: &[u8], at: usize) -> usize
     ensures { λ r. ⌜ r ≡ 8 + getD (now (output .entry)) (at + 7) 0 ⌝ }
     ensures { λ r. ⌜ r ≤ 263 ⌝ }
 {
-    let length = octet_at(output, at + 7);
+    let length = octets::octet(output, at + 7);
     8 + length as usize
-}
-
-// Where the frame that begins at a place of the output ends.
-fn frame_end(output: &[u8], at: usize) -> usize
-    requires { ⌜ at ≤ length (now output) ⌝ }
-    ensures { λ r. ⌜ r ≡ frameEnd (now (output .entry)) at ⌝ }
-    ensures { λ r. ⌜ (at ≤ r) × (r ≤ at + 263) × (r ≤ length (now (output .entry))) ⌝ }
-{
-    if output.len() - at < 8 {
-        return output.len();
-    }
-    let end = at + frame_length(output, at);
-    if output.len() < end {
-        return output.len();
-    }
-    end
 }
 
 // Puts one frame into slot k.
@@ -60,12 +38,13 @@ fn keep_frame(slots: &mut [u8], k: usize, sender: u8, frame: &[u8])
 pub fn keep_frames(slots: &mut [u8], output: &[u8], sender: u8, first: usize, n: usize)
     requires { ⌜ length (now slots) ≡ 33792 ⌝ }
     requires { ⌜ first + n ≤ 128 ⌝ }
-    ensures { λ _. ⌜ now (slots .exit) ≡ keep (now (slots .entry)) (now (output .entry)) sender first n 0 ⌝ }
+    requires { ⌜ Holds n (now output) ⌝ }
+    ensures { λ _. ⌜ now (slots .exit) ≡ putFrames (now (slots .entry)) sender first (framesIn n (now (output .entry))) ⌝ }
 {
     let mut at = 0;
     let mut i = 0;
     while i < n {
-        let end = frame_end(output, at);
+        let end = at + frame_length(output, at);
         keep_frame(slots, first + i, sender, &output[at..end]);
         at = end;
         i += 1;
@@ -77,7 +56,7 @@ pub fn sender_of(slots: &[u8], k: usize) -> u8
     requires { ⌜ k < 128 ⌝ }
     ensures { λ r. ⌜ r ≡ senderOf (now (slots .entry)) k ⌝ }
 {
-    octet_at(slots, SLOT * k)
+    octets::octet(slots, SLOT * k)
 }
 
 // The element of frame k, without its receiver address.
@@ -87,7 +66,7 @@ pub fn element_of(slots: &[u8], k: usize) -> &[u8]
     ensures { λ r. ⌜ now r ≡ elementOf (now (slots .entry)) k ⌝ }
 {
     let at = SLOT * k + 7;
-    let length = octet_at(slots, at + 1);
+    let length = octets::octet(slots, at + 1);
     let end = at + 2 + length as usize;
     &slots[at..end]
 }

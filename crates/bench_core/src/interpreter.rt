@@ -84,7 +84,7 @@ pub fn obey_first(
         ≡ command (benchOf s (now (tables .entry)) (now (slots .entry))) (now (links .entry)) (now (input .entry)) ⌝ }
     ensures { λ r. ⌜ Remains r (now (tables .exit)) (now (slots .exit)) ⌝ }
 {
-    let command = octets::read_u8(input, 0);
+    let command = octets::octet(input, 0);
     let length = length_of(command);
     if length == 0 {
         return Done::Fault;

@@ -8,7 +8,7 @@ use counters::SequenceNumber;
 use layout::address::Address;
 ghost use mathlib.Core.Path.{_≡_};
 ghost use Prim.Native.Nat.{_≤_};
-ghost use lib.ListN.{drop, length, take};
+ghost use lib.ListN.{length};
 ghost use Rattle.layout.specs.Row.{maxClock};
 ghost use Rattle.octets.specs.LittleEndian.{numberAt};
 ghost use Rattle.bench_rules.specs.Commands.{announceSelf, askFor, breakOff, deliver};
@@ -49,11 +49,14 @@ pub fn ask(input: &[u8], s: State, tables: &mut [u8], slots: &mut [u8]) -> Done
     requires { ⌜ Memory s (now tables) (now slots) ⌝ }
     ensures { λ r. ⌜ doneIn r (now (tables .exit)) (now (slots .exit))
         ≡ askFor (benchOf s (now (tables .entry)) (now (slots .entry))) (numberAt 1 (now (input .entry)) 1)
-        (take 7 (drop 2 (now (input .entry)))) (numberAt 4 (now (input .entry)) 9) ⌝ }
+        (numberAt 1 (now (input .entry)) 2) (record { 0 = numberAt 6 (now (input .entry)) 3 })
+        (numberAt 4 (now (input .entry)) 9) ⌝ }
 {
     let p = octets::read_u8(input, 1);
+    let flags = octets::read_u8(input, 2);
+    let destination = Address(octets::read_u48(input, 3));
     let lifetime = octets::read_u32(input, 9);
-    traffic::ask_for(s, p, &input[2..9], lifetime, tables, slots)
+    traffic::ask_for(s, p, flags, destination, lifetime, tables, slots)
 }
 
 pub fn announce(input: &[u8], s: State, tables: &mut [u8], slots: &mut [u8]) -> Done

@@ -8,34 +8,50 @@ use crate::settle;
 use breaking::break_neighbour;
 use calls::LEAST_OUTPUT;
 use counters::Metric;
+use layout::address::Address;
 use originate::announce;
 use originate::ask;
 use rules::Arrival;
 ghost use mathlib.Core.Path.{_≡_};
-ghost use Prim.Native.Nat.{_<_};
+ghost use mathlib.Core.List.{_∷_};
+ghost use Prim.Native.Nat.{_<_, _^_};
 ghost use lib.ListN.{length};
-ghost use Rattle.bench_rules.specs.Commands.{announceSelf, arrivalFrom, askFor, breakOff, deliver, handedOver};
-ghost use Rattle.bench_core.specs.InCode.{Memory, benchOf, doneIn};
+ghost use Rattle.octets.specs.LittleEndian.{numberOctets};
+ghost use Rattle.rules.specs.Calls.{receives};
+ghost use Rattle.bench_rules.specs.Bench.{called};
+ghost use Rattle.bench_rules.specs.Commands.{announceSelf, arrivalFrom, askFor, breakOff, deliver};
+ghost use Rattle.bench_core.specs.InCode.{Memory, benchOf, doneIn, elementOf};
 
-// The item of the one destination is its flags and its address.
+// An item of an ask is flags and address.
+fn item_of(flags: u8, destination: Address) -> [u8; 7]
+    ensures { λ r. ⌜ r ≡ flags ∷ numberOctets 6 (destination .0) ⌝ }
+{
+    let mut item = [0u8; 7];
+    item[0] = flags;
+    octets::write_u48(&mut item, 1, destination.0);
+    item
+}
+
 pub fn ask_for(
     s: State,
     p: u8,
-    item: &[u8],
+    flags: u8,
+    destination: Address,
     lifetime: u32,
     tables: &mut [u8],
     slots: &mut [u8],
 ) -> Done
     requires { ⌜ Memory s (now tables) (now slots) ⌝ }
     ensures { λ r. ⌜ doneIn r (now (tables .exit)) (now (slots .exit))
-        ≡ askFor (benchOf s (now (tables .entry)) (now (slots .entry))) p (now (item .entry)) lifetime ⌝ }
+        ≡ askFor (benchOf s (now (tables .entry)) (now (slots .entry))) p flags destination lifetime ⌝ }
 {
     if s.points <= p as usize {
         return Done::Fault;
     }
     let at = TABLE * p as usize;
+    let item = item_of(flags, destination);
     let mut output = [0u8; LEAST_OUTPUT];
-    let outcome = ask::ask(&mut tables[at..at + TABLE], &mut output, lifetime, item);
+    let outcome = ask::ask(&mut tables[at..at + TABLE], &mut output, lifetime, &item);
     settle::settle(s, p, outcome, &output, slots)
 }
 
@@ -76,9 +92,10 @@ fn hand_over(
     slots: &mut [u8],
 ) -> Done
     requires { ⌜ Memory s (now tables) (now slots) ⌝ }
-    requires { ⌜ (k < s .frames) × (p < s .points) ⌝ }
+    requires { ⌜ (k < s .frames) × (p < s .points) × (arrival .transmitter .0 < 256 ^ 6) ⌝ }
     ensures { λ r. ⌜ doneIn r (now (tables .exit)) (now (slots .exit))
-        ≡ handedOver (benchOf s (now (tables .entry)) (now (slots .entry))) k p arrival ⌝ }
+        ≡ called (benchOf s (now (tables .entry)) (now (slots .entry))) p
+        (receives arrival (elementOf (now (slots .entry)) k)) ⌝ }
 {
     let at = TABLE * p as usize;
     let mut output = [0u8; LEAST_OUTPUT];
@@ -107,9 +124,6 @@ pub fn deliver_frame(
         return Done::Fault;
     }
     let sender = frames::sender_of(slots, k as usize);
-    if s.points <= sender as usize {
-        return Done::Fault;
-    }
     let arrival = arrival_from(tables, links, s.clock, sender, p);
     hand_over(s, k as usize, p, arrival, tables, slots)
 }

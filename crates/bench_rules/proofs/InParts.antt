@@ -5,7 +5,7 @@ use mathlib.Core.Bool.{Bool, true, false, _||_, cond}
 use mathlib.Core.List.{List, [], _∷_, _++_, append-nil, append-assoc}
 use lib.Dec.{eqb, ltb}
 use lib.ListN.{length, take, drop, length-append, length-drop, List·getD-append}
-use lib.Seq.{take-append-le, drop-append-le, drop-drop, drop-length}
+use lib.Seq.{drop-append-le, drop-drop, drop-length}
 use native.Mathlib.Omega.{arith}
 use borrow.Author.Tests.{eqb-true, ne-eqb, eq-eqb, le-ltb}
 use Rattle.octets.specs.LittleEndian.{numberAt}
@@ -51,9 +51,7 @@ module _ (b : Bench) (links : List (List ℕ)) (s y : List ℕ) where
       cond-alike (eqb c 3) (λ e. let k = operands 3 c e l in
       rw (number-before 1 s y 1 (omega (arith, k)), number-before 1 s y 2 (omega (arith, k)), number-before 4 s y 3 (omega (arith, k)))) (λ _.
       cond-alike (eqb c 4) (λ e. let k = operands 4 c e l in
-      let two : 2 ≤ length s = omega (arith, k) in
-      let seven : 7 ≤ length (drop 2 s) = omega (arith, k, length-drop 2 s) in
-      rw (number-before 1 s y 1 (omega (arith, k)), number-before 4 s y 9 (omega (arith, k)), drop-append-le 2 s y two, take-append-le 7 (drop 2 s) y seven)) (λ _.
+      rw (number-before 1 s y 1 (omega (arith, k)), number-before 1 s y 2 (omega (arith, k)), number-before 6 s y 3 (omega (arith, k)), number-before 4 s y 9 (omega (arith, k)))) (λ _.
       cond-alike (eqb c 5) (λ e. let k = operands 5 c e l in rw (number-before 1 s y 1 (omega (arith, k)), number-before 4 s y 2 (omega (arith, k)))) (λ _.
       cond-alike (eqb c 6) (λ e. let k = operands 6 c e l in rw (number-before 2 s y 1 (omega (arith, k)), number-before 1 s y 3 (omega (arith, k)))) (λ _.
       cond-alike (eqb c 7) (λ e. let k = operands 7 c e l in rw (number-before 1 s y 1 (omega (arith, k)), number-before 1 s y 2 (omega (arith, k)))) (λ _.

@@ -1,31 +1,31 @@
 -- What the bench holds, and what a command comes to.
-use Prim.Native.Nat.{ℕ, _+_, _*_, _≤_}
+use Prim.Native.Nat.{ℕ, _*_, _<_, _≤_}
 use mathlib.Core.Bool.{Bool, cond}
-use mathlib.Core.List.{List, _++_}
+use mathlib.Core.List.{List, _++_, map}
 use lib.Dec.{ltb}
-use lib.ListN.{take, drop}
-use Rattle.octets.specs.LittleEndian.{zeros}
+use lib.ListN.{length, take, drop}
+use Rattle.octets.specs.LittleEndian.{Octets}
 use Rattle.layout.specs.declared.address.Address.{Address}
 use Rattle.layout.specs.Address.{addressOf}
 use Rattle.layout.specs.Row.{maxClock}
-use Rattle.rules.specs.Decision.{Decision, _above_}
-use Rattle.rules.specs.Exit.{lend, Effect, Exit, atExit, leastOutput}
+use Rattle.element.specs.Entries.{All}
+use Rattle.element.specs.Octets.{writeElement}
+use Rattle.rules.specs.Decision.{Decision, refused, accepted, _above_}
+use Rattle.rules.specs.Exit.{Frame, lend, Effect, leastOutput}
+use Rattle.rules.specs.Calls.{Call, decision}
 use Rattle.rules.specs.Walk.{tableAt}
-use Rattle.bench_rules.specs.Frames.{keep}
 
--- tables of 16 rows side by side, and how many are points; the frames kept, and how many there are; the clock
+-- what is kept of a frame: the number of its sender, and the octets of its element
+pub record KeptFrame : Type 0 where
+  pub sender : ℕ
+  pub element : List ℕ
+
+-- tables of 16 rows side by side, and how many are points; the frames kept; the clock
 pub record Bench : Type 0 where
   pub tables : List ℕ
   pub points : ℕ
-  pub slots : List ℕ
-  pub frames : ℕ
+  pub frames : List KeptFrame
   pub clock : ℕ
-
--- what holds of a bench at any time
-pub record Sound (b : Bench) : Type 0 where
-  pub points : b .points ≤ 16
-  pub frames : b .frames ≤ 128
-  pub clock : b .clock ≤ maxClock
 
 -- a command prints a line, its answer and what stands third, and goes on; or it is at fault, and the bench ends
 pub data Done : Type 0 where
@@ -55,19 +55,39 @@ withTableAt tables p u = take (544 * p) tables ++ (u ++ drop 544 (drop (544 * p)
 
 -- ---- a call of point p that may emit frames
 
--- The output that the bench lends has the least length, and is zero.
-abbrev pub calledBy : Bench → ℕ → Decision Effect → Exit
-calledBy b p d = atExit (lend (tableOfPoint b p)) (zeros leastOutput) d
+-- the frames that p emits, as they are kept
+abbrev pub keptFrom : ℕ → List Frame → List KeptFrame
+keptFrom p frames = map (λ (f : Frame). record { sender = p; element = writeElement (f .element) }) frames
 
--- its table is kept, and its frames with their sender, unless there were more than 128
-unfoldable pub settled : Bench → ℕ → Exit → Done
-settled b p x =
-    cond ((b .frames + x .frames) above 128) fault
-    (line (x .answer) (x .frames)
+-- A refusal changes nothing. Of an acceptance the table is kept, and the frames after those before; a 129th frame is a fault.
+unfoldable pub settled : Bench → ℕ → Decision Effect → Done
+settled b p (refused n) = line n 0 b
+settled b p (accepted e) =
+    let frames : List KeptFrame = b .frames ++ keptFrom p (e .frames) in
+    cond ((length frames) above 128) fault
+    (line 0 (length (e .frames))
     (record {
-      tables = withTableAt (b .tables) p (x .lent .table);
+      tables = withTableAt (b .tables) p (e .lent .table);
       points = b .points;
-      slots = keep (b .slots) (x .output) p (b .frames) (x .frames) 0;
-      frames = b .frames + x .frames;
+      frames = frames;
       clock = b .clock;
     }))
+
+-- it is lent its table and an output of the least length
+unfoldable pub called : Bench → ℕ → Call → Done
+called b p call = cond (isPoint b p) (settled b p (decision (lend (tableOfPoint b p)) leastOutput call)) fault
+
+-- ---- what holds of a bench at any time
+
+-- a frame of one of so many points; the octets of an element are at most 257, as Length is an octet
+pub record KeptSoundly (points : ℕ) (f : KeptFrame) : Type 0 where
+  pub sender : f .sender < points
+  pub octets : Octets (f .element)
+  pub short : length (f .element) ≤ 257
+
+pub record Sound (b : Bench) : Type 0 where
+  pub points : b .points ≤ 16
+  pub clock : b .clock ≤ maxClock
+  pub tables : Octets (b .tables)
+  pub few : length (b .frames) ≤ 128
+  pub frames : All (KeptSoundly (b .points)) (b .frames)

@@ -1,25 +1,23 @@
 -- The eight commands, in the order of document 01, by their operands. An index of no point or frame, a 17th point, a 129th frame
 -- and a clock above 2^48 - 1 are faults.
-use Prim.Native.Nat.{ℕ, _+_, _-_, _*_, _^_}
+use Prim.Native.Nat.{ℕ, _+_, _*_}
 use mathlib.Core.Bool.{_&&_, cond}
-use mathlib.Core.List.{List}
-use lib.Dec.{ltb}
-use lib.ListN.{take}
-use Rattle.layout.specs.Row.{maxClock}
+use mathlib.Core.List.{List, _∷_}
+use mathlib.Core.Option.{Option, none, some}
+use lib.ListN.{take, getElem?}
+use Rattle.octets.specs.LittleEndian.{numberOctets}
 use Rattle.counters.specs.declared.SequenceNumber.{SequenceNumber}
 use Rattle.layout.specs.declared.address.Address.{Address}
 use Rattle.layout.specs.Address.{addressOf}
-use Rattle.rules.specs.Exit.{lend, leastOutput}
+use Rattle.layout.specs.Row.{maxClock}
 use Rattle.rules.specs.Decision.{Decision, refused, accepted, _above_, _below_}
 use Rattle.rules.specs.declared.Arrival.{Arrival}
+use Rattle.rules.specs.Calls.{receives, makes, asks, announces, breaks}
 use Rattle.rules.specs.Fresh.{makeFresh}
-use Rattle.rules.specs.Originate.{ask, announce}
-use Rattle.rules.specs.Receive.{receive}
-use Rattle.rules.specs.Break.{breakNeighbour}
 use Rattle.rules.specs.Walk.{Walked, tableAt, walkedAtExit, walk}
 use Rattle.bench_links.specs.Links.{metricOf, linked}
-use Rattle.bench_rules.specs.Frames.{senderOf, elementOf}
 use Rattle.bench_rules.specs.Bench.{
+  KeptFrame,
   Bench,
   Done,
   fault,
@@ -29,8 +27,7 @@ use Rattle.bench_rules.specs.Bench.{
   addressOfPoint,
   isPoint,
   withTableAt,
-  calledBy,
-  settled,
+  called,
 }
 
 -- 1 point. If refused, it is not added.
@@ -41,7 +38,6 @@ added b (accepted u) =
     (record {
       tables = withTableAt (b .tables) (b .points) u;
       points = b .points + 1;
-      slots = b .slots;
       frames = b .frames;
       clock = b .clock;
     })
@@ -57,7 +53,6 @@ advance b by =
     (record {
       tables = b .tables;
       points = b .points;
-      slots = b .slots;
       frames = b .frames;
       clock = b .clock + by;
     }))
@@ -69,36 +64,28 @@ link b links p q metric =
     (record { done = fault; links = links })
 
 -- 4 ask for one destination: its item is flags and address
-unfoldable pub askFor : Bench → ℕ → (item : List ℕ) → (lifetime : ℕ) → Done
-askFor b p item lifetime =
-    cond (isPoint b p) (settled b p (calledBy b p (ask (lend (tableOfPoint b p)) leastOutput lifetime item))) fault
+unfoldable pub askFor : Bench → ℕ → (flags : ℕ) → Address → (lifetime : ℕ) → Done
+askFor b p flags destination lifetime = called b p (makes (asks lifetime (flags ∷ numberOctets 6 (destination .0))))
 
 -- 5 announce, flags 0
 unfoldable pub announceSelf : Bench → ℕ → (lifetime : ℕ) → Done
-announceSelf b p lifetime =
-    cond (isPoint b p) (settled b p (calledBy b p (announce (lend (tableOfPoint b p)) leastOutput 0 lifetime))) fault
+announceSelf b p lifetime = called b p (makes (announces 0 lifetime))
 
--- 6 deliver frame k: from its sender, over the link between the two, whoever its receiver is
-unfoldable pub handedOver : Bench → (k p : ℕ) → Arrival → Done
-handedOver b k p arrival =
-    settled b p (calledBy b p (receive (lend (tableOfPoint b p)) leastOutput arrival (elementOf (b .slots) k)))
-
+-- 6 deliver a frame: from its sender, over the link between the two, whoever its receiver is
 abbrev pub arrivalFrom : (tables : List ℕ) → List (List ℕ) → (clock sender p : ℕ) → Arrival
 arrivalFrom tables links clock sender p =
     record { clock = clock; transmitter = addressOf (tableAt tables 544 sender); link = record { 0 = metricOf links sender p } }
 
--- (That the sender is a point holds of every frame kept; the test bounds the index.)
+abbrev pub handedOver : Bench → List (List ℕ) → ℕ → Option KeptFrame → Done
+handedOver b links p none = fault
+handedOver b links p (some f) = called b p (receives (arrivalFrom (b .tables) links (b .clock) (f .sender) p) (f .element))
+
 unfoldable pub deliver : Bench → List (List ℕ) → (k p : ℕ) → Done
-deliver b links k p =
-    let sender = senderOf (b .slots) k in
-    cond (ltb k (b .frames) && isPoint b p && isPoint b sender)
-    (handedOver b k p (arrivalFrom (b .tables) links (b .clock) sender p)) fault
+deliver b links k p = handedOver b links p (getElem? (b .frames) k)
 
 -- 7 break: the neighbour is a point
 unfoldable pub breakOff : Bench → (p q : ℕ) → Done
-breakOff b p q =
-    cond (isPoint b p && isPoint b q)
-    (settled b p (calledBy b p (breakNeighbour (lend (tableOfPoint b p)) leastOutput (b .clock) (addressOfPoint b q)))) fault
+breakOff b p q = cond (isPoint b q) (called b p (makes (breaks (b .clock) (addressOfPoint b q)))) fault
 
 -- 8 walk over the points, from one to another
 abbrev pub walkedLine : Bench → Walked → Done

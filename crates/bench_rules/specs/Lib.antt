@@ -1,4 +1,3 @@
-pub mod Frames
 pub mod Bench
 pub mod Commands
 pub mod Interpreter

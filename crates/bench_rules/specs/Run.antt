@@ -20,7 +20,7 @@ pub record Standing : Type 0 where
 abbrev pub atStart : Standing
 atStart =
     record {
-      bench = record { tables = zeros 8704; points = 0; slots = zeros 33792; frames = 0; clock = 0 };
+      bench = record { tables = zeros 8704; points = 0; frames = []; clock = 0 };
       links = noLinks;
       offset = 0;
     }

@@ -111,7 +111,7 @@ pub fn write_fields(s: &mut [u8], at: usize, widths: &[u8], values: &[u64])
 }
 
 // The octet at a place. Through the cast it is known that each of them is below 256.
-fn octet(s: &[u8], at: usize) -> u8
+pub fn octet(s: &[u8], at: usize) -> u8
     requires { ⌜ at < length (now s) ⌝ }
     ensures { λ r. ⌜ r ≡ getD (now (s .entry)) at 0 ⌝ }
     ensures { λ _. ⌜ Octets (now (s .entry)) ⌝ }

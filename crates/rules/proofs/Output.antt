@@ -23,7 +23,7 @@ abbrev pub written : Frame → List ℕ
 written f = writeFrame (f .receiver) (f .element)
 
 -- its Length octet tells how many there are
-length-told : (f : Frame) (rest : List ℕ) → 8 + getD (written f ++ rest) 7 0 ≡ length (written f)
+pub length-told : (f : Frame) (rest : List ℕ) → 8 + getD (written f ++ rest) 7 0 ≡ length (written f)
 unfolding writeFrame writeElement fixedOctets numberOctets
 length-told f rest = sym (frame-length (f .receiver) (f .element))
 
@@ -66,7 +66,7 @@ module _ (output : List ℕ) (frames : List Frame) (room : length (frameOctets f
   abbrev after : List ℕ
   after = overwrite output 0 (frameOctets frames)
 
-  after-is : after ≡ frameOctets frames ++ drop (length (frameOctets frames)) output
+  pub after-is : after ≡ frameOctets frames ++ drop (length (frameOctets frames)) output
   unfolding overwrite
   after-is =
       sets-eq (frameOctets frames) output 0 (omega arith)

@@ -1,17 +1,18 @@
 -- `bench_core::frames::keep_frames` meets its contract: what is left to keep makes the whole.
 use Prim.Native.Nat.{_+_, _-_, _≤_}
 use mathlib.Core.Path.{_≡_}
-use lib.ListN.{length}
+use lib.ListN.{length, drop}
 use borrow.Author.Needs.{needs}
-use Rattle.bench_rules.specs.Frames.{keep}
-use Rattle.bench_core.proofs.Slots.{keep-start, keep-more, keep-ended}
+use Rattle.rules.specs.Exit.{framesIn}
+use Rattle.bench_core.specs.InCode.{putFrames, Holds}
+use Rattle.bench_core.proofs.Slots.{keep-start, holds-start, next-begins, next-ends, next-holds, keep-more, keep-ended}
 use Rattle.bench_core.proofs.frames.keep_frames.Statement.{statement}
 use Rattle.bench_core.proofs.frames.keep_frames.Tie as tie
 
 abbrev Inv-loop : tie.InvT-loop
 Inv-loop slots₀ output sender first n at₀ i₀ slots at i =
-    (keep slots output sender (first + i) (n - i) at ≡ keep slots₀ output sender first n 0)
-    × (at ≤ length output) × (length slots ≡ length slots₀)
+    (putFrames slots sender (first + i) (framesIn (n - i) (drop at output)) ≡ putFrames slots₀ sender first (framesIn n output))
+    × Holds (n - i) (drop at output) × (at ≤ length output) × (length slots ≡ length slots₀)
 
 abbrev μ-loop : tie.MeasureT-loop
 μ-loop slots₀ output sender first n at₀ i₀ slots at i = n - i
@@ -22,15 +23,16 @@ keep-frames-spec =
     (tie.spec
     Inv-loop
     μ-loop
-    (λ c. (search (needs, keep-start), search needs, search needs))
+    (λ c. (search (needs, keep-start), search holds-start, search needs, search needs))
+    (λ c κs. search next-begins)
+    (λ c. search needs)
+    (λ c. search needs)
+    (λ c. search needs)
+    (λ c. search needs)
+    (λ c. search next-ends)
     (λ c κs. search needs)
     (λ c. search needs)
     (λ c. search needs)
-    (λ c. search needs)
-    (λ c. search needs)
-    (λ c κs. search needs)
-    (λ c. search needs)
-    (λ c. search needs)
-    (λ c. (search (needs, keep-more), search needs, search needs))
+    (λ c. (search keep-more, search next-holds, search next-ends, search needs))
     (λ c. search needs)
     (λ c. search keep-ended))

@@ -1,6 +1,6 @@
 -- `bench_core::interpreter::obey_first` meets its contract: unknown, cut, or obeyed.
 use borrow.Author.Needs.{needs}
-use Rattle.bench_core.proofs.Obeying.{memory-remains, command-unknown, command-cut, command-obeyed}
+use Rattle.bench_core.proofs.Obeying.{first-read, memory-remains, command-unknown, command-cut, command-obeyed}
 use Rattle.bench_core.proofs.interpreter.obey_first.Statement.{statement}
 use Rattle.bench_core.proofs.interpreter.obey_first.Tie as tie
 
@@ -10,9 +10,9 @@ obey-first-spec =
     (tie.spec
     (λ c κs. search needs)
     (λ c κs. search needs)
-    (λ c. (search command-unknown, tt))
-    (λ c. (search command-cut, tt))
+    (λ c. (search (command-unknown, first-read), tt))
+    (λ c. (search (command-cut, first-read), tt))
     (λ c κs. search needs)
     (λ c. search needs)
     (λ c. search needs)
-    (λ c. (search command-obeyed, search memory-remains)))
+    (λ c. (search (command-obeyed, first-read), search memory-remains)))

@@ -1,6 +1,6 @@
 -- `bench_core::settle::settle` meets its contract: by what the outcome is.
 use borrow.Author.Needs.{needs}
-use Rattle.bench_core.proofs.Settling.{accepted-prints, accepted-keeps, refused-prints, refused-keeps}
+use Rattle.bench_core.proofs.Settling.{accepted-holds, accepted-prints, accepted-keeps, refused-prints, refused-keeps}
 use Rattle.bench_core.proofs.settle.settle.Statement.{statement}
 use Rattle.bench_core.proofs.settle.settle.Tie as tie
 
@@ -9,7 +9,7 @@ settle-spec =
     tie.close
     (tie.spec
     (λ c. search needs)
-    (λ c κs. search needs)
+    (λ c κs. search (needs, accepted-holds))
     (λ c. search needs)
     (λ c κs. search needs)
     (λ c. search needs)

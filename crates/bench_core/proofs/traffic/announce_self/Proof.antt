@@ -1,6 +1,6 @@
 -- `bench_core::traffic::announce_self` meets its contract: no point, or as its call leaves it.
 use borrow.Author.Needs.{needs}
-use Rattle.bench_core.proofs.Calling.{lent-table, announce-fault, announce-done}
+use Rattle.bench_core.proofs.Calling.{lent-table, announce-fault, announce-holds, announce-done}
 use Rattle.bench_core.proofs.traffic.announce_self.Statement.{statement}
 use Rattle.bench_core.proofs.traffic.announce_self.Tie as tie
 
@@ -17,7 +17,7 @@ announce-self-spec =
     (λ c. search needs)
     (λ c κs. search needs)
     (λ c. search needs)
-    (λ c κs. search needs)
+    (λ c κs. (search needs, (search needs, search (announce-holds, lent-table))))
     (λ c. search needs)
     (λ c. search needs)
     (λ c. search (announce-done, lent-table)))

@@ -1,6 +1,6 @@
 -- `bench_core::traffic::ask_for` meets its contract: no point, or as its call leaves it.
 use borrow.Author.Needs.{needs}
-use Rattle.bench_core.proofs.Calling.{lent-table, ask-fault, ask-done}
+use Rattle.bench_core.proofs.Calling.{lent-table, ask-fault, ask-holds, ask-done}
 use Rattle.bench_core.proofs.traffic.ask_for.Statement.{statement}
 use Rattle.bench_core.proofs.traffic.ask_for.Tie as tie
 
@@ -10,6 +10,8 @@ ask-for-spec =
     (tie.spec
     (λ c. search ask-fault)
     (λ c. search needs)
+    (λ c κs. search needs)
+    (λ c. search needs)
     (λ c. search needs)
     (λ c. search needs)
     (λ c. search needs)
@@ -17,7 +19,7 @@ ask-for-spec =
     (λ c. search needs)
     (λ c κs. search needs)
     (λ c. search needs)
-    (λ c κs. search needs)
+    (λ c κs. (search needs, (search needs, search (ask-holds, lent-table))))
     (λ c. search needs)
     (λ c. search needs)
     (λ c. search (ask-done, lent-table)))

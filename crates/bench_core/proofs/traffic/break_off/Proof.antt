@@ -1,6 +1,6 @@
 -- `bench_core::traffic::break_off` meets its contract: no point, no neighbour, or as its call leaves it.
 use borrow.Author.Needs.{needs}
-use Rattle.bench_core.proofs.Calling.{lent-table, break-fault, neighbour-fault, break-done}
+use Rattle.bench_core.proofs.Calling.{lent-table, break-fault, neighbour-fault, break-holds, break-done}
 use Rattle.bench_core.proofs.traffic.break_off.Statement.{statement}
 use Rattle.bench_core.proofs.traffic.break_off.Tie as tie
 
@@ -19,7 +19,7 @@ break-off-spec =
     (λ c. search needs)
     (λ c κs. search needs)
     (λ c. search needs)
-    (λ c κs. search needs)
+    (λ c κs. (search needs, (search needs, search (break-holds, lent-table))))
     (λ c. search needs)
     (λ c. search needs)
     (λ c. search (break-done, lent-table)))

@@ -1,6 +1,6 @@
 -- `bench_core::traffic::deliver_frame` meets its contract: an index of no frame or point, or received.
 use borrow.Author.Needs.{needs}
-use Rattle.bench_core.proofs.Calling.{frame-fault, receiver-fault, sender-fault, delivered}
+use Rattle.bench_core.proofs.Calling.{frame-fault, receiver-fault, sender-point, transmitter-fits, delivered}
 use Rattle.bench_core.proofs.traffic.deliver_frame.Statement.{statement}
 use Rattle.bench_core.proofs.traffic.deliver_frame.Tie as tie
 
@@ -11,11 +11,8 @@ deliver-frame-spec =
     (λ c. search frame-fault)
     (λ c. search receiver-fault)
     (λ c κs. search needs)
-    (λ c. search needs)
-    (λ c. search needs)
-    (λ c. search sender-fault)
-    (λ c κs. search needs)
-    (λ c κs. search needs)
+    (λ c κs. (search needs, (search sender-point, search needs)))
+    (λ c κs. (search needs, (search needs, search needs, search transmitter-fits)))
     (λ c. search needs)
     (λ c. search needs)
     (λ c. search delivered))

@@ -1,6 +1,6 @@
 -- `bench_core::traffic::hand_over` meets its contract: as the receive leaves it.
 use borrow.Author.Needs.{needs}
-use Rattle.bench_core.proofs.Calling.{lent-table, handed-over}
+use Rattle.bench_core.proofs.Calling.{lent-table, receive-holds, handed-over}
 use Rattle.bench_core.proofs.traffic.hand_over.Statement.{statement}
 use Rattle.bench_core.proofs.traffic.hand_over.Tie as tie
 
@@ -17,7 +17,7 @@ hand-over-spec =
     (λ c κs. search needs)
     (λ c κs. search needs)
     (λ c. search needs)
-    (λ c κs. search needs)
+    (λ c κs. (search needs, (search needs, search (receive-holds, lent-table))))
     (λ c. search needs)
     (λ c. search needs)
     (λ c. search (handed-over, lent-table)))
