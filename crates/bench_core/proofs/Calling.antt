@@ -29,8 +29,9 @@ use Rattle.bench_core.specs.declared.Done.the-variants.{Fault}
 use Rattle.bench_rules.specs.Bench.{fault, called, Done as Came}
 use Rattle.bench_rules.specs.Commands.{askFor, announceSelf, arrivalFrom, deliver, breakOff}
 use Rattle.bench_rules.proofs.Sound.{table-octets}
-use Rattle.bench_core.specs.InCode.{senderOf, elementOf, keptAt, benchOf, doneIn, Memory, settledAs, settledSlots, HoldsFrames}
-use Rattle.bench_core.proofs.Keeping.{each-beyond, frame-found}
+use Rattle.bench_slots.specs.Slots.{senderOf, elementOf, keptAt}
+use Rattle.bench_core.specs.InCode.{benchOf, doneIn, Memory, settledAs, settledSlots, HoldsFrames}
+use Rattle.bench_slots.proofs.Keeping.{each-beyond, frame-found}
 use Rattle.bench_core.proofs.Settling.{kept-soundly, call-holds, call-settled}
 
 -- the table of point p, as it is lent

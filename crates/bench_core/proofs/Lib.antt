@@ -1,5 +1,4 @@
-pub mod Slots
-mod Keeping
+pub mod Starting
 mod Settling
 mod Calling
 mod Silent

@@ -13,7 +13,8 @@ use Rattle.bench_core.specs.declared.State.{State}
 use Rattle.bench_core.specs.declared.Done.{Done}
 use Rattle.bench_core.specs.declared.Done.the-variants.{Fault, Line}
 use Rattle.bench_rules.specs.Bench.{Bench, Sound, WithLinks, Done as Came}
-use Rattle.bench_core.specs.InCode.{keptAt, benchOf, doneIn, Memory, Remains, Adds, Advances, Links, Walks}
+use Rattle.bench_slots.specs.Slots.{keptAt}
+use Rattle.bench_core.specs.InCode.{benchOf, doneIn, Memory, Remains, Adds, Advances, Links, Walks}
 use Rattle.bench_rules.specs.Interpreter.{lengthOf, leavingLinks, obeyed, command, isCut}
 use Rattle.bench_rules.proofs.Sound.{Stays, obeyed-sound}
 

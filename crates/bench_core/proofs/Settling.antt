@@ -1,13 +1,13 @@
 -- What becomes of a call that may emit frames: its table and its frames are kept.
 use Prim.Native.Nat.{ℕ, _+_, _-_, _*_, _<_, _≤_}
 use mathlib.Core.Path.{_≡_, refl, sym, ap, ap₂, subst, _∙_}
-use mathlib.Core.Bool.{Bool, true, false, cond}
+use mathlib.Core.Bool.{Bool, true, false, not, cond}
 use mathlib.Core.List.{List, _++_}
 use lib.Dec.{ltb}
 use lib.ListN.{length, take, drop, length-append, length-map, length-replicate, take-append-drop}
 use native.Mathlib.Omega.{arith}
 use native.Mathlib.Nat.{add-zero}
-use borrow.Author.Tests.{lt-ltb, le-ltb, ltb-false}
+use borrow.Author.Tests.{le-ltb, ltb-false, not-true, not-false}
 use borrow.Rule.Slice.PartMut.{putMid}
 use Rattle.octets.specs.LittleEndian.{zeros, Octets}
 use Rattle.element.proofs.Scans.{each-length}
@@ -27,26 +27,22 @@ use Rattle.bench_core.specs.declared.Done.{Done}
 use Rattle.bench_core.specs.declared.Done.the-variants.{Fault}
 use Rattle.bench_rules.specs.Bench.{KeptFrame, KeptSoundly, Bench, fault, line, Done as Came, withTableAt, keptFrom, settled}
 use Rattle.bench_rules.proofs.Sound.{table-octets, found-sound}
-use Rattle.bench_core.specs.InCode.{keptAt, keptIn, putFrames, Holds, benchOf, doneIn, Memory, printed, keptAs, keptSlots, settledAs, settledSlots, HoldsFrames}
-use Rattle.bench_core.proofs.Keeping.{ShortBelow, frame-found, frames-kept, output-holds}
+use Rattle.bench_core.specs.InCode.{benchOf, doneIn, Memory, printed, keptAs, settledAs, settledSlots, HoldsFrames}
+use Rattle.bench_slots.specs.Slots.{keptAt, keptIn, putFrames, Holds, keptSlots}
+use Rattle.bench_slots.proofs.Keeping.{ShortBelow, frame-found, frames-kept, output-holds}
 
 -- ---- the frames of a call
 
-module _ (s : State) (n : ℕ) where
-  pub too-many-prints : 128 < s .frames + n → Fault ≡ keptAs s n
-  too-many-prints l = rw (lt-ltb 128 (s .frames + n) l)
+module _ (s : State) (n : ℕ) (kept : Bool) (ke : kept ≡ not (ltb 128 (s .frames + n))) where
+  pub not-kept-prints : not kept ≡ true → Fault ≡ keptAs s n
+  not-kept-prints e = rw (not-false (ltb 128 (s .frames + n)) (sym ke ∙ not-true kept e))
 
-  pub few-prints : s .frames + n ≤ 128 → (r : Done) → r ≡ printed (record { points = s .points; frames = s .frames + n; clock = s .clock }) 0 n
-      → r ≡ keptAs s n
-  few-prints l r re = rw (le-ltb 128 (s .frames + n) l) re
+  module _ (e : not kept ≡ false) where
+    kept-few : s .frames + n ≤ 128
+    kept-few = ltb-false 128 (s .frames + n) (not-true (ltb 128 (s .frames + n)) (sym ke ∙ not-false kept e))
 
-  module _ (sender : ℕ) (output slots : List ℕ) where
-    pub too-many-keeps : 128 < s .frames + n → slots ≡ keptSlots s n sender output slots
-    too-many-keeps l = rw (lt-ltb 128 (s .frames + n) l)
-
-    pub few-keeps : s .frames + n ≤ 128 → (slots′ : List ℕ) → slots′ ≡ putFrames slots sender (s .frames) (framesIn n output)
-        → slots′ ≡ keptSlots s n sender output slots
-    few-keeps l slots′ se = rw (le-ltb 128 (s .frames + n) l) se
+    pub kept-prints : (r : Done) → r ≡ printed (record { points = s .points; frames = s .frames + n; clock = s .clock }) 0 n → r ≡ keptAs s n
+    kept-prints r re = rw (le-ltb 128 (s .frames + n) kept-few) re
 
 module _ (s : State) (o : Outcome) (r : Done) where
   pub refused-prints : (n : ℕ) → o ≡ Refused n → r ≡ printed s n 0 → r ≡ settledAs s o
@@ -63,7 +59,7 @@ module _ (s : State) (o : Outcome) (sender : ℕ) (output slots : List ℕ) wher
   unfolding HoldsFrames
   accepted-holds e oe h = rw oe at h
 
-  pub accepted-keeps : (e : Emitted) → o ≡ Accepted e → (slots′ : List ℕ) → slots′ ≡ keptSlots s (e .frames) sender output slots
+  pub accepted-keeps : (e : Emitted) → o ≡ Accepted e → (slots′ : List ℕ) → slots′ ≡ keptSlots slots sender (s .frames) (e .frames) output
       → slots′ ≡ settledSlots s o sender output slots
   accepted-keeps e oe slots′ se = rw oe se
 

@@ -27,9 +27,9 @@ use Rattle.bench_core.specs.declared.Done.the-variants.{Fault}
 use Rattle.bench_links.specs.Links.{linked}
 use Rattle.bench_rules.specs.Commands.{addPoint, advance, link, walkedLine, walkTo}
 use Rattle.bench_core.specs.InCode.{benchOf, printed, Adds, Advances, Links, Walks}
+use Rattle.bench_slots.proofs.Slots.{front-long}
 use Rattle.bench_core.proofs.Settling.{put-back}
 use Rattle.bench_core.proofs.Calling.{lent-table}
-use Rattle.bench_core.proofs.Slots.{front-long}
 
 -- ---- 1 point
 
@@ -69,19 +69,20 @@ module _ (s : State) (own : Address) (number : SequenceNumber) (tables : List �
     table-is : t ≡ tableAt tables 544 (s .points)
     table-is = te ∙ lent-table tables (s .points)
 
-    pub not-added : (n ≡ 0 → ⊥) → (r : Done) → r ≡ printed s n 0 → Adds r s own number tables (putMid place (place + 544 - place) tables u)
+    pub not-added : (k : ℕ) → k < n → (r : Done) → r ≡ printed s n 0 → Adds r s own number tables (putMid place (place + 544 - place) tables u)
     unfolding Adds addPoint
-    not-added nz r re slots =
-        let no = not-made t u own number a ae (λ z. nz (ne ∙ z)) in
+    not-added k more r re slots =
+        let no = not-made t u own number a ae (λ z. omega (arith, more, ne, z)) in
         let same : putMid place (place + 544 - place) tables u ≡ tables =
         ap (putMid place (place + 544 - place) tables) (no .1 ∙ te) ∙ put-same place (place + 544 - place) tables in
         rw (re, same, lt-ltb (s .points) 16 l, ← table-is, no .0, ne)
 
-    pub point-added : n ≡ 0 → (r : Done) → r ≡ printed (record { points = s .points + 1; frames = s .frames; clock = s .clock }) 0 0
+    pub point-added : n ≤ 0 → (r : Done) → r ≡ printed (record { points = s .points + 1; frames = s .frames; clock = s .clock }) 0 0
         → Adds r s own number tables (putMid place (place + 544 - place) tables u)
     unfolding Adds addPoint
-    point-added z r re slots =
-        rw (re, put-back tables u (s .points), lt-ltb (s .points) 16 l, ← table-is, made t u own number a ae (sym ne ∙ z))
+    point-added none r re slots =
+        let z : answerOf a ≡ 0 = omega (arith, none, ne) in
+        rw (re, put-back tables u (s .points), lt-ltb (s .points) 16 l, ← table-is, made t u own number a ae z)
 
 -- ---- 2 advance clock
 

@@ -1,48 +1,20 @@
 -- What the code holds of the bench, as the definitions have it.
-use Prim.Native.Nat.{ℕ, zero, suc, _+_, _*_, _≤_}
+use Prim.Native.Nat.{ℕ, _+_, _≤_}
 use mathlib.Core.Path.{_≡_}
 use mathlib.Core.Bool.{cond}
-use mathlib.Core.List.{List, [], _∷_}
-use lib.ListN.{length, getD, take, drop}
-use Rattle.octets.specs.LittleEndian.{overwrite}
+use mathlib.Core.List.{List}
+use lib.ListN.{length}
 use Rattle.counters.specs.declared.SequenceNumber.{SequenceNumber}
 use Rattle.layout.specs.declared.address.Address.{Address}
-use Rattle.element.specs.Entries.{each}
 use Rattle.rules.specs.Decision.{_above_}
-use Rattle.rules.specs.Exit.{framesIn}
 use Rattle.calls.specs.declared.Outcome.{Outcome}
 use Rattle.calls.specs.declared.Outcome.the-variants.{Accepted, Refused}
 use Rattle.bench_core.specs.declared.State.{State}
 use Rattle.bench_core.specs.declared.Done.{Done}
 use Rattle.bench_core.specs.declared.Done.the-variants.{Line, Fault}
-use Rattle.bench_rules.specs.Bench.{KeptFrame, Bench, Sound, fault, line, Done as Came}
+use Rattle.bench_slots.specs.Slots.{keptIn, keptSlots, Holds}
+use Rattle.bench_rules.specs.Bench.{Bench, Sound, fault, line, Done as Came}
 use Rattle.bench_rules.specs.Commands.{addPoint, advance, link, walkTo}
-
--- ---- frames, each in a slot of 264 octets: its sender's number (1), the receiver address (6) and the element (up to 257)
-
-unfoldable pub senderOf : (slots : List ℕ) → (k : ℕ) → ℕ
-senderOf slots k = getD slots (264 * k) 0
-
--- ID, Length and as many octets as Length says
-unfoldable pub elementOf : (slots : List ℕ) → (k : ℕ) → List ℕ
-elementOf slots k = take (2 + getD slots (264 * k + 8) 0) (drop (264 * k + 7) slots)
-
-abbrev pub keptAt : (slots : List ℕ) → (k : ℕ) → KeptFrame
-keptAt slots k = record { sender = senderOf slots k; element = elementOf slots k }
-
--- the frames in the first n slots
-abbrev pub keptIn : (slots : List ℕ) → (n : ℕ) → List KeptFrame
-keptIn slots n = each (keptAt slots) 0 n
-
--- these frames of a sender put into slots k, k + 1 and so on
-unfoldable pub putFrames : (slots : List ℕ) → (sender k : ℕ) → List (List ℕ) → List ℕ
-putFrames slots sender k [] = slots
-putFrames slots sender k (f ∷ frames) = putFrames (overwrite slots (264 * k) (sender ∷ f)) sender (k + 1) frames
-
--- n whole frames stand at the start of s, by their Length octets
-unfoldable pub Holds : (n : ℕ) → (s : List ℕ) → Type 0
-Holds zero s = Unit {0}
-Holds (suc n) s = (8 + getD s 7 0 ≤ length s) × Holds n (drop (8 + getD s 7 0) s)
 
 -- ---- the bench
 
@@ -75,24 +47,20 @@ abbrev pub printed : State → ℕ → ℕ → Done
 printed s answer third =
     Line (record { answer = answer; third = third; points = s .points; frames = s .frames; clock = s .clock })
 
--- what is printed after n frames were emitted, and what stands in the slots
+-- what is printed after n frames were emitted
 abbrev pub keptAs : State → ℕ → Done
 keptAs s n =
     cond ((s .frames + n) above 128) Fault
     (printed (record { points = s .points; frames = s .frames + n; clock = s .clock }) 0 n)
 
-abbrev pub keptSlots : State → ℕ → (sender : ℕ) → (output slots : List ℕ) → List ℕ
-keptSlots s n sender output slots =
-    cond ((s .frames + n) above 128) slots (putFrames slots sender (s .frames) (framesIn n output))
-
--- and after the call
+-- and after the call, with what stands in the slots
 abbrev pub settledAs : State → Outcome → Done
 settledAs s (Refused n) = printed s n 0
 settledAs s (Accepted e) = keptAs s (e .frames)
 
 abbrev pub settledSlots : State → Outcome → (sender : ℕ) → (output slots : List ℕ) → List ℕ
 settledSlots s (Refused n) sender output slots = slots
-settledSlots s (Accepted e) sender output slots = keptSlots s (e .frames) sender output slots
+settledSlots s (Accepted e) sender output slots = keptSlots slots sender (s .frames) (e .frames) output
 
 -- the frames of an acceptance are whole in the output
 unfoldable pub HoldsFrames : Outcome → (output : List ℕ) → Type 0

@@ -1,5 +1,4 @@
 // The bench: up to 16 points, the links between them and the frames that they have sent, driven by commands.
-mod frames;
 pub mod interpreter;
 mod links;
 mod operands;
@@ -13,7 +12,7 @@ ghost use Rattle.bench_core.specs.InCode.{printed};
 // Octets of the memory that the commands are lent: the tables of all points, and the slots of all frames.
 pub const TABLES: usize = points::MOST_POINTS * points::TABLE;
 
-pub const SLOTS: usize = frames::MOST_FRAMES * frames::SLOT;
+pub const SLOTS: usize = bench_slots::MOST_FRAMES * bench_slots::SLOT;
 
 // What the bench holds beside its memory: how many points and frames there are, and the clock.
 pub struct State {

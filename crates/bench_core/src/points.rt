@@ -39,7 +39,7 @@ pub fn add_point(s: State, own: Address, number: SequenceNumber, tables: &mut [u
     let at = TABLE * p;
     let part = &mut tables[at..at + TABLE];
     let answer = calls::number_of(fresh::make_fresh(part, own, number));
-    if answer != 0 {
+    if 0 < answer {
         return s.prints(answer, 0);
     }
     let after = State {

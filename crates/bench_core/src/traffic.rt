@@ -1,7 +1,6 @@
 // The commands that make a point call: ask, announce, deliver and break.
 use crate::Done;
 use crate::State;
-use crate::frames;
 use crate::points;
 use crate::points::TABLE;
 use crate::settle;
@@ -20,7 +19,8 @@ ghost use Rattle.octets.specs.LittleEndian.{numberOctets};
 ghost use Rattle.rules.specs.Calls.{receives};
 ghost use Rattle.bench_rules.specs.Bench.{called};
 ghost use Rattle.bench_rules.specs.Commands.{announceSelf, arrivalFrom, askFor, breakOff, deliver};
-ghost use Rattle.bench_core.specs.InCode.{Memory, benchOf, doneIn, elementOf};
+ghost use Rattle.bench_slots.specs.Slots.{elementOf};
+ghost use Rattle.bench_core.specs.InCode.{Memory, benchOf, doneIn};
 
 // An item of an ask is flags and address.
 fn item_of(flags: u8, destination: Address) -> [u8; 7]
@@ -100,7 +100,12 @@ fn hand_over(
     let at = TABLE * p as usize;
     let mut output = [0u8; LEAST_OUTPUT];
     let part = &mut tables[at..at + TABLE];
-    let outcome = receive::receive(part, &mut output, arrival, frames::element_of(slots, k));
+    let outcome = receive::receive(
+        part,
+        &mut output,
+        arrival,
+        bench_slots::element_of(slots, k),
+    );
     settle::settle(s, p, outcome, &output, slots)
 }
 
@@ -123,7 +128,7 @@ pub fn deliver_frame(
     if s.points <= p as usize {
         return Done::Fault;
     }
-    let sender = frames::sender_of(slots, k as usize);
+    let sender = bench_slots::sender_of(slots, k as usize);
     let arrival = arrival_from(tables, links, s.clock, sender, p);
     hand_over(s, k as usize, p, arrival, tables, slots)
 }

@@ -4,7 +4,7 @@ use mathlib.Core.Path.{_≡_, refl, sym, ap, ap₂, subst, _∙_}
 use mathlib.Core.Bool.{Bool, true, false, _||_, cond}
 use mathlib.Core.List.{List, [], _∷_, _++_, append-nil, append-assoc}
 use lib.Dec.{eqb, ltb}
-use lib.ListN.{length, take, drop, length-append, length-drop, List·getD-append}
+use lib.ListN.{length, drop, length-append, length-drop, List·getD-append}
 use lib.Seq.{drop-append-le, drop-drop, drop-length}
 use native.Mathlib.Omega.{arith}
 use borrow.Author.Tests.{eqb-true, ne-eqb, eq-eqb, le-ltb}

@@ -59,7 +59,7 @@ withTableAt tables p u = take (544 * p) tables ++ (u ++ drop 544 (drop (544 * p)
 abbrev pub keptFrom : ℕ → List Frame → List KeptFrame
 keptFrom p frames = map (λ (f : Frame). record { sender = p; element = writeElement (f .element) }) frames
 
--- A refusal changes nothing. Of an acceptance the table is kept, and the frames after those before; a 129th frame is a fault.
+-- A refusal changes nothing. An acceptance leaves its table, and its frames after those kept before; a 129th frame is a fault.
 unfoldable pub settled : Bench → ℕ → Decision Effect → Done
 settled b p (refused n) = line n 0 b
 settled b p (accepted e) =
@@ -73,7 +73,7 @@ settled b p (accepted e) =
       clock = b .clock;
     }))
 
--- it is lent its table and an output of the least length
+-- Point p calls, and lends its table and an output of the least length; where p is no point, that is a fault.
 unfoldable pub called : Bench → ℕ → Call → Done
 called b p call = cond (isPoint b p) (settled b p (decision (lend (tableOfPoint b p)) leastOutput call)) fault
 

@@ -3,15 +3,17 @@ use Prim.Native.Nat.{ℕ, _+_, _-_, _*_, _≤_}
 use mathlib.Core.Path.{_≡_, refl, sym, ap, ap₂, subst, _∙_}
 use mathlib.Core.Bool.{Bool, true, false, _||_}
 use mathlib.Core.List.{List, [], _++_, append-nil, append-assoc}
-use lib.ListN.{length, take, drop, length-take, length-replicate}
+use lib.ListN.{length, take, drop, length-take}
 use lib.Seq.{take-add, drop-drop, drop-at, length-take-le}
 use native.Mathlib.Omega.{arith}
 use Rattle.octets.specs.LittleEndian.{zeros}
 use Rattle.octets.proofs.Tests.{clash}
+use Rattle.element.specs.Entries.{each}
 use Rattle.bench_links.specs.Links.{noLinks}
 use Rattle.bench_rules.specs.Run.{Standing, Course, going, ended, obeyUntil, obeyAll, atStart}
 use Rattle.bench_rules.proofs.InParts.{Leads, ComesTo, comes-to}
 use Rattle.bench_core.specs.declared.State.{State}
+use Rattle.bench_core.proofs.Starting.{memory-at-start}
 use Rattle.bench_input.specs.declared.Cursor.{Cursor}
 use Rattle.bench_run.specs.declared.block.Progress.{Progress}
 use Rattle.bench_run.specs.declared.turn.Turn.{Turn}
@@ -30,14 +32,11 @@ drop-take k n s l m =
 module _ (c : Cursor) (ce : c ≡ record { from = 0; filled = 0; last = false; offset = 0 }) where
   pub first-ready : (buffer : List ℕ) (links : List (List ℕ)) → links ≡ noLinks
       → Ready c (record { points = 0; frames = 0; clock = 0 }) buffer (zeros 8704) (zeros 33792) links
+  unfolding each
   first-ready buffer links le =
       rw (ce, le)
       (record {
-        memory = record {
-          tables-long = length-replicate {A = ℕ} 8704 0;
-          slots-long = length-replicate {A = ℕ} 33792 0;
-          sound = record { points = omega arith; frames = omega arith; clock = omega arith };
-        };
+        memory = memory-at-start;
         unread = record { forward = omega arith; inside = omega arith };
         reached = record { input = []; printed = []; goes-on = λ more. refl };
       })

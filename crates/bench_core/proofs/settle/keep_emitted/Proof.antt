@@ -1,6 +1,6 @@
 -- `bench_core::settle::keep_emitted` meets its contract: kept, or too many.
 use borrow.Author.Needs.{needs}
-use Rattle.bench_core.proofs.Settling.{too-many-prints, too-many-keeps, few-prints, few-keeps}
+use Rattle.bench_core.proofs.Settling.{not-kept-prints, kept-prints}
 use Rattle.bench_core.proofs.settle.keep_emitted.Statement.{statement}
 use Rattle.bench_core.proofs.settle.keep_emitted.Tie as tie
 
@@ -8,10 +8,10 @@ pub keep-emitted-spec : {M : Type 1} → statement M
 keep-emitted-spec =
     tie.close
     (tie.spec
-    (λ c. search needs)
-    (λ c. (search too-many-prints, search too-many-keeps))
     (λ c κs. search needs)
     (λ c. search needs)
+    (λ c. (search not-kept-prints, search needs))
+    (λ c. search needs)
     (λ c κs. search needs)
     (λ c. search needs)
-    (λ c. (search few-prints, search few-keeps)))
+    (λ c. (search kept-prints, search needs)))

@@ -1,6 +1,6 @@
 -- `bench_run::block::print` meets its contract.
 use borrow.Author.Needs.{needs}
-use Rattle.bench_core.proofs.Slots.{front-long}
+use Rattle.bench_slots.proofs.Slots.{front-long}
 use Rattle.bench_run.proofs.block.print.Statement.{statement}
 use Rattle.bench_run.proofs.block.print.Tie as tie
 

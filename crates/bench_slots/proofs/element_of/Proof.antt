@@ -1,8 +1,8 @@
--- `bench_core::frames::element_of` meets its contract: the octets that Length counts, and the two before them.
+-- `bench_slots::element_of` meets its contract: the octets that Length counts, and the two before them.
 use borrow.Author.Needs.{needs}
-use Rattle.bench_core.proofs.Slots.{element-read}
-use Rattle.bench_core.proofs.frames.element_of.Statement.{statement}
-use Rattle.bench_core.proofs.frames.element_of.Tie as tie
+use Rattle.bench_slots.proofs.Slots.{element-read}
+use Rattle.bench_slots.proofs.element_of.Statement.{statement}
+use Rattle.bench_slots.proofs.element_of.Tie as tie
 
 pub element-of-spec : {M : Type 1} → statement M
 element-of-spec =

@@ -1,13 +1,13 @@
--- `bench_core::frames::keep_frames` meets its contract: what is left to keep makes the whole.
+-- `bench_slots::keep_frames` meets its contract: what is left to keep makes the whole.
 use Prim.Native.Nat.{_+_, _-_, _≤_}
 use mathlib.Core.Path.{_≡_}
 use lib.ListN.{length, drop}
 use borrow.Author.Needs.{needs}
 use Rattle.rules.specs.Exit.{framesIn}
-use Rattle.bench_core.specs.InCode.{putFrames, Holds}
-use Rattle.bench_core.proofs.Slots.{keep-start, holds-start, next-begins, next-ends, next-holds, keep-more, keep-ended}
-use Rattle.bench_core.proofs.frames.keep_frames.Statement.{statement}
-use Rattle.bench_core.proofs.frames.keep_frames.Tie as tie
+use Rattle.bench_slots.specs.Slots.{putFrames, Holds}
+use Rattle.bench_slots.proofs.Slots.{keep-start, holds-start, next-begins, next-ends, next-holds, keep-more, keep-ended}
+use Rattle.bench_slots.proofs.keep_frames.Statement.{statement}
+use Rattle.bench_slots.proofs.keep_frames.Tie as tie
 
 abbrev Inv-loop : tie.InvT-loop
 Inv-loop slots₀ output sender first n at₀ i₀ slots at i =

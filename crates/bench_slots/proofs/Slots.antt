@@ -1,18 +1,21 @@
 -- Frames in an output and in the slots.
 use Prim.Native.Nat.{ℕ, suc, _+_, _-_, _*_, _<_, _≤_}
 use mathlib.Core.Path.{_≡_, sym, ap, subst, _∙_}
+use mathlib.Core.Bool.{true, false, not}
 use mathlib.Core.List.{List, _∷_}
-use lib.ListN.{length, getD, set, take, drop, length-set, length-take, length-drop}
-use lib.Seq.{getD-drop, drop-drop}
+use lib.Dec.{ltb}
+use lib.ListN.{length, getD, set, take, drop, length-set, length-drop}
+use lib.Seq.{length-take-le, getD-drop, drop-drop}
 use native.Mathlib.Omega.{arith}
-use native.Mathlib.Nat.{min-eq-left, sub-zero, add-zero}
+use native.Mathlib.Nat.{sub-zero, add-zero}
+use borrow.Author.Tests.{lt-ltb, le-ltb}
 use Rattle.octets.specs.LittleEndian.{overwrite}
 use Rattle.rules.specs.Exit.{framesIn}
-use Rattle.bench_core.specs.InCode.{senderOf, elementOf, putFrames, Holds}
+use Rattle.bench_slots.specs.Slots.{senderOf, elementOf, putFrames, Holds, keptSlots}
 
 -- the first n of a list
 pub front-long : (s : List ℕ) (n : ℕ) → n ≤ length s → n ≡ length (take n s)
-front-long s n l = sym (length-take n s ∙ min-eq-left l)
+front-long s n l = sym (length-take-le n s l)
 
 -- ---- slots
 
@@ -89,3 +92,24 @@ module _ (output : List ℕ) (sender first n : ℕ) where
   keep-ended slots g i at so-far l =
       let none : n - i ≡ 0 = omega arith in
       ap (λ (m : ℕ). putFrames slots sender (first + i) (framesIn m (drop at output))) (sym none) ∙ so-far
+
+-- ---- unless there would be a 129th
+
+module _ (slots : List ℕ) (sender before n : ℕ) (output : List ℕ) where
+  -- more than some number that is 128 at least
+  module _ (most : ℕ) (l : most < before + n) (h : 128 ≤ most) where
+    more : ltb 128 (before + n) ≡ true
+    more = lt-ltb 128 (before + n) (omega arith)
+
+    pub too-many-told : false ≡ not (ltb 128 (before + n))
+    too-many-told = rw more
+
+    pub too-many-kept : slots ≡ keptSlots slots sender before n output
+    too-many-kept = rw more
+
+  module _ (l : before + n ≤ 128) where
+    pub few-told : true ≡ not (ltb 128 (before + n))
+    few-told = rw (le-ltb 128 (before + n) l)
+
+    pub few-kept : (slots′ : List ℕ) → slots′ ≡ putFrames slots sender before (framesIn n output) → slots′ ≡ keptSlots slots sender before n output
+    few-kept slots′ se = rw (le-ltb 128 (before + n) l) se

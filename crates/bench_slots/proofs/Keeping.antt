@@ -18,7 +18,7 @@ use Rattle.rules.proofs.Alls.{all-map}
 use Rattle.rules.proofs.Sending.{FrameFits, FramesFit}
 use Rattle.rules.proofs.Output.{written, length-told, element-in, after-is}
 use Rattle.bench_rules.specs.Bench.{KeptFrame, keptFrom}
-use Rattle.bench_core.specs.InCode.{senderOf, elementOf, keptAt, keptIn, putFrames, Holds}
+use Rattle.bench_slots.specs.Slots.{senderOf, elementOf, keptAt, keptIn, putFrames, Holds}
 
 -- ---- entries one after another
 
@@ -71,9 +71,9 @@ module _ (s s′ : List ℕ) (n : ℕ) (long : n ≤ length s) (long′ : n ≤ 
 -- ---- one frame
 
 -- octets that are a frame by their Length, in a slot
-pub record InSlot (w : List ℕ) : Type 0 where
-  pub long : length w ≡ 8 + getD w 7 0
-  pub short : length w ≤ 263
+record InSlot (w : List ℕ) : Type 0 where
+  long : length w ≡ 8 + getD w 7 0
+  short : length w ≤ 263
 
 -- an element that does not reach beyond its slot
 abbrev Short : KeptFrame → Type 0
@@ -89,7 +89,7 @@ module _ (s : List ℕ) (long : length s ≡ 33792) (sender k : ℕ) (l : k < 12
   abbrev rest : List ℕ
   rest = drop (264 * k + length (sender ∷ w)) s
 
-  pub after-long : length after ≡ length s
+  after-long : length after ≡ length s
   unfolding overwrite
   after-long = length-sets s (264 * k) (sender ∷ w)
 

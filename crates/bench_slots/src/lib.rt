@@ -1,11 +1,13 @@
 // The frames that points have sent, each in a slot with the number of its sender.
 ghost use mathlib.Core.Path.{_≡_};
+ghost use mathlib.Core.Bool.{not};
 ghost use mathlib.Core.List.{_∷_};
 ghost use Prim.Native.Nat.{_+_, _*_, _<_, _≤_};
 ghost use lib.ListN.{getD, length};
 ghost use Rattle.octets.specs.LittleEndian.{overwrite};
+ghost use Rattle.rules.specs.Decision.{_above_};
 ghost use Rattle.rules.specs.Exit.{framesIn};
-ghost use Rattle.bench_core.specs.InCode.{Holds, elementOf, putFrames, senderOf};
+ghost use Rattle.bench_slots.specs.Slots.{Holds, elementOf, keptSlots, putFrames, senderOf};
 
 pub const MOST_FRAMES: usize = 128;
 
@@ -35,7 +37,7 @@ fn keep_frame(slots: &mut [u8], k: usize, sender: u8, frame: &[u8])
 }
 
 // Keeps the n frames at the start of a call's output as frames `first`, `first + 1` and so on.
-pub fn keep_frames(slots: &mut [u8], output: &[u8], sender: u8, first: usize, n: usize)
+fn keep_frames(slots: &mut [u8], output: &[u8], sender: u8, first: usize, n: usize)
     requires { ⌜ length (now slots) ≡ 33792 ⌝ }
     requires { ⌜ first + n ≤ 128 ⌝ }
     requires { ⌜ Holds n (now output) ⌝ }
@@ -49,6 +51,21 @@ pub fn keep_frames(slots: &mut [u8], output: &[u8], sender: u8, first: usize, n:
         at = end;
         i += 1;
     }
+}
+
+// Keeps them behind those that are there before, unless there would be a 129th: answers whether they are kept.
+pub fn keep_emitted(slots: &mut [u8], output: &[u8], sender: u8, before: usize, n: u32) -> bool
+    requires { ⌜ length (now slots) ≡ 33792 ⌝ }
+    requires { ⌜ before ≤ 128 ⌝ }
+    requires { ⌜ Holds n (now output) ⌝ }
+    ensures { λ r. ⌜ r ≡ not ((before + n) above 128) ⌝ }
+    ensures { λ _. ⌜ now (slots .exit) ≡ keptSlots (now (slots .entry)) sender before n (now (output .entry)) ⌝ }
+{
+    if MOST_FRAMES < before + n as usize {
+        return false;
+    }
+    keep_frames(slots, output, sender, before, n as usize);
+    true
 }
 
 pub fn sender_of(slots: &[u8], k: usize) -> u8
