@@ -10,7 +10,7 @@ pub struct OwnCounters {
     pub request: RequestId,
 }
 
-// A new RANN takes the next own number, a new RREQ also the next request ID.
+// A new element takes the next own number, a RREQ also the next request ID.
 fn advanced(counters: OwnCounters, rreq: bool) -> OwnCounters
     ensures { λ r. ⌜ r ≡ advancedFor rreq counters ⌝ }
 {

@@ -11,6 +11,9 @@ use borrow.Author.Tests.{eq-eqb, ne-eqb, not-true, not-false}
 use Rattle.octets.specs.LittleEndian.{overwrite}
 use Rattle.octets.proofs.OctetLists.{overwrite-append}
 use Rattle.counters.specs.declared.SequenceNumber.{SequenceNumber}
+use Rattle.counters.specs.declared.RequestId.{RequestId}
+use Rattle.counters.specs.declared.own.OwnCounters.{OwnCounters}
+use Rattle.counters.specs.Numbering.{advancedFor}
 use Rattle.counters.specs.Numbers.{nextNumber, newer}
 use Rattle.layout.specs.declared.address.Address.{Address}
 use Rattle.layout.specs.declared.row.Head.{Head}
@@ -32,7 +35,7 @@ use Rattle.writing.proofs.Written.{frame-parts}
 use Rattle.rules.specs.declared.Arrival.{Arrival}
 use Rattle.element.specs.Flags.{replyWanted}
 use Rattle.rules.specs.Exit.{Frame, frameOctets}
-use Rattle.rules.specs.Destinations.{Answered, reply, replyFields, ownReply, answeredNumber, forOneself, forAllOnes, forAnother, answered, allAnswered}
+use Rattle.rules.specs.Destinations.{Answered, reply, replyFields, ownReply, newerOf, answeredNumber, forOneself, forAllOnes, forAnother, answered, allAnswered}
 use Rattle.rules.proofs.Emitting.{Emits, one-answered, replies-emitted}
 use Rattle.rules.proofs.FrameOctets.{one-frame, frames-append}
 use Rattle.answering.specs.declared.Answering.{Answering}
@@ -59,27 +62,30 @@ pub reply-written : (s v : List ℕ) (at : ℕ) (to : Address) (f : RrepFields) 
 reply-written s v at to f e = e ∙ ap (overwrite s at) (sym (reply-octets to f))
 
 module _ (self requested : SequenceNumber) (b : Bool) (be : b ≡ newer requested self) where
-  pub number-raised : b ≡ true → (n : SequenceNumber) → n ≡ nextNumber requested → n ≡ answeredNumber self requested
-  unfolding answeredNumber
-  number-raised e n ne = rw (← be, e) ne
+  pub becomes-requested : b ≡ true → requested ≡ newerOf self requested
+  becomes-requested e = rw (← be, e)
 
-  pub number-stepped : b ≡ false → (n : SequenceNumber) → n ≡ nextNumber self → n ≡ answeredNumber self requested
-  unfolding answeredNumber
-  number-stepped e n ne = rw (← be, e) ne
+  pub stays-own : b ≡ false → self ≡ newerOf self requested
+  stays-own e = rw (← be, e)
+
+pub reply-numbered : (n : SequenceNumber) (request : RequestId) (c : OwnCounters) → c ≡ advancedFor false (record { number = n; request = request })
+    → c .number ≡ nextNumber n
+unfolding advancedFor
+reply-numbered n request c e = ap (λ (k : OwnCounters). k .number) e
 
 -- for oneself
-module _ (t s v : List ℕ) (a : Arrival) (p : PathInfo) (n : SequenceNumber) (at : ℕ) (h : Head) (he : h ≡ headAt t)
-    (f : RrepFields) (fe : f ≡ replyFields p (h .own) n (record { 0 = 0 }) (record { 0 = 0 })) where
+module _ (t s v : List ℕ) (a : Arrival) (p : PathInfo) (n m : SequenceNumber) (me : m ≡ n) (at : ℕ) (h : Head) (he : h ≡ headAt t)
+    (f : RrepFields) (fe : f ≡ replyFields p (h .own) m (record { 0 = 0 }) (record { 0 = 0 })) where
   pub oneself-written : v ≡ overwrite s at (frameOctets (record { receiver = a .transmitter; element = rrep f [] } ∷ []))
       → v ≡ overwrite s at (frameOctets (ownReply a p (own t) n ∷ []))
   unfolding reply
   oneself-written ve =
       ve ∙ ap (λ (g : RrepFields). overwrite s at (frameOctets (replyFrame (a .transmitter) g ∷ [])))
-      (fe ∙ ap (λ (k : Head). replyFields p (k .own) n (record { 0 = 0 }) (record { 0 = 0 })) he)
+      (fe ∙ ap₂ (λ (k : Head) (x : SequenceNumber). replyFields p (k .own) x (record { 0 = 0 }) (record { 0 = 0 })) he me)
 
-pub oneself-place : (n : SequenceNumber) (frames at place : ℕ) → place ≡ at + 40
-    → _≡_ {A = Replied} (record { number = n; frames = frames; place = place }) (record { number = n; frames = frames; place = at + 40 })
-oneself-place n frames at place e = rw e
+pub oneself-place : (n m : SequenceNumber) → m ≡ n → (frames at place : ℕ) → place ≡ at + 40
+    → _≡_ {A = Replied} (record { number = m; frames = frames; place = place }) (record { number = n; frames = frames; place = at + 40 })
+oneself-place n m me frames at place e = rw (me, e)
 
 -- ---- an answer x, where the replies before it end at `before`
 
@@ -162,24 +168,28 @@ module _ (t : List ℕ) (a : Arrival) (p : PathInfo) (q : Target) (before : Repl
     own-said-output : (s v : List ℕ) → v ≡ overwrite s (before .place) (frameOctets (ownReply a p (own t) m ∷ [])) → v ≡ overwrite s (before .place) (frameOctets (toThis .replies))
     own-said-output s v ve = ve ∙ ap (λ (l : List Frame). overwrite s (before .place) (frameOctets l)) (sym replies-are)
 
-  module _ (is-self : q .address .0 ≡ h .own .0) (m : SequenceNumber) (me : m ≡ answeredNumber (before .number) (q .number)) where
+  module _ (is-self : q .address .0 ≡ h .own .0) (m : SequenceNumber) (me : m ≡ newerOf (before .number) (q .number)) where
     self-answer : toThis ≡ forOneself t a p (before .number) q
     unfolding answered
     self-answer = rw (is-own t h he (q .address) is-self)
 
-    self-number : toThis .number ≡ m
+    self-next : answeredNumber (before .number) (q .number) ≡ nextNumber m
+    unfolding answeredNumber
+    self-next = ap nextNumber (sym me)
+
+    self-number : toThis .number ≡ nextNumber m
     unfolding forOneself
-    self-number = ap (λ (y : Answered). y .number) self-answer ∙ sym me
+    self-number = ap (λ (y : Answered). y .number) self-answer ∙ self-next
 
-    self-replies : toThis .replies ≡ ownReply a p (own t) m ∷ []
+    self-replies : toThis .replies ≡ ownReply a p (own t) (nextNumber m) ∷ []
     unfolding forOneself
-    self-replies = ap (λ (y : Answered). y .replies) self-answer ∙ ap (λ (k : SequenceNumber). ownReply a p (own t) k ∷ []) (sym me)
+    self-replies = ap (λ (y : Answered). y .replies) self-answer ∙ ap (λ (k : SequenceNumber). ownReply a p (own t) k ∷ []) self-next
 
-    pub self-place : (r : Replied) → r ≡ record { number = m; frames = before .frames + 1; place = before .place + 40 } → r ≡ repliedAfter before toThis
-    self-place = own-said-place m self-number self-replies
+    pub self-place : (r : Replied) → r ≡ record { number = nextNumber m; frames = before .frames + 1; place = before .place + 40 } → r ≡ repliedAfter before toThis
+    self-place = own-said-place (nextNumber m) self-number self-replies
 
-    pub self-output : (s v : List ℕ) → v ≡ overwrite s (before .place) (frameOctets (ownReply a p (own t) m ∷ [])) → v ≡ overwrite s (before .place) (frameOctets (toThis .replies))
-    self-output = own-said-output m self-number self-replies
+    pub self-output : (s v : List ℕ) → v ≡ overwrite s (before .place) (frameOctets (ownReply a p (own t) (nextNumber m) ∷ [])) → v ≡ overwrite s (before .place) (frameOctets (toThis .replies))
+    self-output = own-said-output (nextNumber m) self-number self-replies
 
   module _ (not-self : q .address .0 ≡ h .own .0 → ⊥) where
     module _ (not-ones : q .address .0 ≡ 281474976710655 → ⊥) where
@@ -213,16 +223,19 @@ module _ (t : List ℕ) (a : Arrival) (p : PathInfo) (q : Target) (before : Repl
         unwanted-output =
             silent-output before toThis (ap (λ (y : Answered). y .replies) (ones-answer ∙ unwanted)) (ap (λ (y : Answered). y .number) (ones-answer ∙ unwanted))
 
-      module _ (wants-reply : not b ≡ false) (m : SequenceNumber) (me : m ≡ nextNumber (before .number)) where
-        wanted : forAllOnes t a p (before .number) q ≡ record { number = m; replies = ownReply a p (own t) m ∷ []; kept = q ∷ [] }
+      module _ (wants-reply : not b ≡ false) where
+        abbrev next : SequenceNumber
+        next = nextNumber (before .number)
+
+        wanted : forAllOnes t a p (before .number) q ≡ record { number = next; replies = ownReply a p (own t) next ∷ []; kept = q ∷ [] }
         unfolding forAllOnes
-        wanted = rw (← be, not-false b wants-reply, me)
+        wanted = rw (← be, not-false b wants-reply)
 
-        pub wanted-place : (r : Replied) → r ≡ record { number = m; frames = before .frames + 1; place = before .place + 40 } → r ≡ repliedAfter before toThis
-        wanted-place = own-said-place m (ap (λ (y : Answered). y .number) (ones-answer ∙ wanted)) (ap (λ (y : Answered). y .replies) (ones-answer ∙ wanted))
+        pub wanted-place : (r : Replied) → r ≡ record { number = next; frames = before .frames + 1; place = before .place + 40 } → r ≡ repliedAfter before toThis
+        wanted-place = own-said-place next (ap (λ (y : Answered). y .number) (ones-answer ∙ wanted)) (ap (λ (y : Answered). y .replies) (ones-answer ∙ wanted))
 
-        pub wanted-output : (s v : List ℕ) → v ≡ overwrite s (before .place) (frameOctets (ownReply a p (own t) m ∷ [])) → v ≡ overwrite s (before .place) (frameOctets (toThis .replies))
-        wanted-output = own-said-output m (ap (λ (y : Answered). y .number) (ones-answer ∙ wanted)) (ap (λ (y : Answered). y .replies) (ones-answer ∙ wanted))
+        pub wanted-output : (s v : List ℕ) → v ≡ overwrite s (before .place) (frameOctets (ownReply a p (own t) next ∷ [])) → v ≡ overwrite s (before .place) (frameOctets (toThis .replies))
+        wanted-output = own-said-output next (ap (λ (y : Answered). y .number) (ones-answer ∙ wanted)) (ap (λ (y : Answered). y .replies) (ones-answer ∙ wanted))
 
 -- ---- all of them: each takes 40 octets
 

@@ -3,6 +3,8 @@ use answering::Answering;
 use counters::HopCount;
 use counters::Metric;
 use counters::SequenceNumber;
+use counters::own;
+use counters::own::OwnCounters;
 use element::NumberedAddress;
 use element::PathInfo;
 use element::RrepFields;
@@ -11,6 +13,7 @@ use element::flags;
 use element::list;
 use layout::address::Address;
 use layout::row;
+use layout::row::Head;
 use layout::row::Row;
 use rules::Arrival;
 ghost use mathlib.Core.Path.{_≡_};
@@ -18,13 +21,14 @@ ghost use mathlib.Core.List.{[], _∷_};
 ghost use Prim.Native.Nat.{_+_, _<_, _≤_};
 ghost use lib.ListN.{length};
 ghost use Rattle.octets.specs.LittleEndian.{overwrite};
+ghost use Rattle.counters.specs.Numbers.{nextNumber};
 ghost use Rattle.table.specs.Table.{own, rowFor};
 ghost use Rattle.layout.specs.Layout.{Sized};
 ghost use Rattle.element.specs.Layout.{PartOf};
 ghost use Rattle.element.specs.declared.Kind.{Kind};
 ghost use Rattle.element.specs.Element.{rrep};
 ghost use Rattle.element.specs.Entries.{targetsIn};
-ghost use Rattle.rules.specs.Destinations.{allAnswered, answered, answeredNumber, forAnother, ownReply, replyFields};
+ghost use Rattle.rules.specs.Destinations.{allAnswered, answered, forAnother, newerOf, ownReply, replyFields};
 ghost use Rattle.rules.specs.Exit.{frameOctets};
 ghost use Rattle.destinations.specs.Replies.{repliedAfter, repliedFrom};
 
@@ -87,17 +91,26 @@ fn write_reply(output: &mut [u8], at: usize, a: Arrival, f: RrepFields) -> usize
     writing::start_rrep(output, at, a.transmitter, f, 0)
 }
 
-// The own number becomes the requested one if that is newer, then steps up by one.
-fn answered_number(own: SequenceNumber, requested: SequenceNumber) -> SequenceNumber
-    ensures { λ r. ⌜ r ≡ answeredNumber own requested ⌝ }
+// The own number for a reply, before it steps: the requested one if that is newer.
+fn newer_of(own: SequenceNumber, requested: SequenceNumber) -> SequenceNumber
+    ensures { λ r. ⌜ r ≡ newerOf own requested ⌝ }
 {
     if requested.is_newer(own) {
-        return requested.next();
+        return requested;
     }
-    own.next()
+    own
 }
 
-// A reply for oneself under this own number, which has been stepped.
+// Numbers a reply for oneself, where this is the own number before it: the counters of the point advance as for a RANN, which
+// takes no request ID.
+fn reply_number(head: Head, number: SequenceNumber) -> SequenceNumber
+    ensures { λ r. ⌜ r ≡ nextNumber number ⌝ }
+{
+    let request = head.request;
+    own::numbered(OwnCounters { number, request }, false).number
+}
+
+// A reply for oneself, where this is the own number before it.
 fn reply_as_oneself(
     output: &mut [u8],
     table: &[u8],
@@ -109,15 +122,18 @@ fn reply_as_oneself(
     requires { ⌜ before .place + 40 ≤ length (now output) ⌝ }
     requires { ⌜ before .frames < 20 ⌝ }
     requires { ⌜ Sized (now table) ⌝ }
-    ensures { λ r. ⌜ r ≡ record { number = number; frames = before .frames + 1; place = before .place + 40 } ⌝ }
+    ensures { λ r. ⌜ r ≡ record { number = nextNumber number; frames = before .frames + 1; place = before .place + 40 } ⌝ }
     ensures { λ _. ⌜ now (output .exit)
-        ≡ overwrite (now (output .entry)) (before .place) (frameOctets (ownReply a p (own (now (table .entry))) number ∷ [])) ⌝ }
+        ≡ overwrite (now (output .entry)) (before .place)
+        (frameOctets (ownReply a p (own (now (table .entry))) (nextNumber number) ∷ [])) ⌝ }
 {
-    let f = own_fields(p, row::read_head(table).own, number);
+    let head = row::read_head(table);
+    let next = reply_number(head, number);
+    let f = own_fields(p, head.own, next);
     let place = write_reply(output, before.place, a, f);
     let frames = before.frames + 1;
     Replied {
-        number,
+        number: next,
         frames,
         place,
     }
@@ -174,14 +190,7 @@ fn reply_to(
 {
     let number = before.number;
     if q.address.0 == row::read_head(table).own.0 {
-        return reply_as_oneself(
-            output,
-            table,
-            a,
-            p,
-            answered_number(number, q.number),
-            before,
-        );
+        return reply_as_oneself(output, table, a, p, newer_of(number, q.number), before);
     }
     if q.address.0 != list::ALL_ONES {
         return reply_for_another(output, table, a, p, q, before);
@@ -189,7 +198,7 @@ fn reply_to(
     if !flags::is_reply_wanted(p) {
         return before;
     }
-    reply_as_oneself(output, table, a, p, number.next(), before)
+    reply_as_oneself(output, table, a, p, number, before)
 }
 
 // Writes the replies to the destinations in part from place at on, where the point has this own number.

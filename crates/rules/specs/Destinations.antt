@@ -56,9 +56,13 @@ ownReply a p self number = reply a p self number (record { 0 = 0 }) (record { 0 
 abbrev pub rowReply : Arrival → PathInfo → Row → Frame
 rowReply a p r = reply a p (r .destination) (r .number) (r .hops) (r .metric)
 
--- the own number becomes the requested one if that is newer, then steps up by one
+-- the requested number if that is newer, else the own one
+abbrev pub newerOf : SequenceNumber → SequenceNumber → SequenceNumber
+newerOf self requested = cond (newer requested self) requested self
+
+-- first the own number becomes the requested one if that is newer, then it steps up by one
 unfoldable pub answeredNumber : SequenceNumber → SequenceNumber → SequenceNumber
-answeredNumber self requested = nextNumber (cond (newer requested self) requested self)
+answeredNumber self requested = nextNumber (newerOf self requested)
 
 -- DO = 0 and an active row of known number not older than requested
 unfoldable pub answersFor : ℕ → Target → Row → Bool

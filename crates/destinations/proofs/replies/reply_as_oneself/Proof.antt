@@ -11,6 +11,7 @@ reply-as-oneself-spec =
     (λ c κs. search needs)
     (λ c κs. search needs)
     (λ c κs. search needs)
+    (λ c κs. search needs)
     (λ c. search needs)
     (λ c. search needs)
     (λ c. (search oneself-place, search oneself-written)))

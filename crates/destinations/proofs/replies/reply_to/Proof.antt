@@ -19,6 +19,5 @@ reply-to-spec =
     (λ c κs. search needs)
     (λ c. (search unwanted-place, search unwanted-output))
     (λ c κs. search needs)
-    (λ c κs. search needs)
     (λ c. search needs)
     (λ c. (search wanted-place, search wanted-output)))
