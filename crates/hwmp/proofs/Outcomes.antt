@@ -5,6 +5,9 @@ use mathlib.Core.List.{List}
 use Rattle.counters.specs.declared.Metric.{Metric}
 use Rattle.layout.specs.declared.address.Address.{Address}
 use Rattle.layout.specs.Address.{addressOf}
+use Rattle.octets.specs.LittleEndian.{zeros}
+use Rattle.table_calls.specs.declared.next_hop.Hop.{Hop}
+use Rattle.table_calls.specs.Answers.{hopDecision}
 use native.Mathlib.Omega.{arith}
 use Rattle.rules.specs.Decision.{Decision, refused, accepted}
 use Rattle.rules.specs.Exit.{Lent, Effect, Exit, atExit}
@@ -19,11 +22,15 @@ use Rattle.walk.specs.declared.Ending.{Ending}
 use Rattle.walk.specs.declared.Walked.{Walked as InNumbers}
 use Rattle.walk.specs.Answers.{walkDecision, numbersOf}
 use Rattle.hwmp.specs.declared.HwmpOutcome.{HwmpOutcome}
-use Rattle.hwmp.specs.ForC.{outcomeForC, exitForC}
+use Rattle.hwmp.specs.ForC.{hopForC, outcomeForC, exitForC}
 
 pub exit-for-c : (o : Outcome) (r : HwmpOutcome) → r ≡ outcomeForC o → (l : Lent) (output : List ℕ) (x : Exit) → exitOf o l output ≡ x → exitForC r l output ≡ x
 exit-for-c (Accepted e) r re l output x h = ap (λ (q : HwmpOutcome). exitForC q l output) re ∙ h
 exit-for-c (Refused n) r re l output x h = ap (λ (q : HwmpOutcome). exitForC q l output) re ∙ h
+
+-- a next hop that was refused
+pub no-hop-for-c : (h : Hop) (n : ℕ) → h ≡ Hop.Refused n → (a : List ℕ) → a ≡ zeros 6 → record { answer = n; address = a } ≡ hopForC (hopDecision h)
+no-hop-for-c h n he a ae = rw (he, ae)
 
 -- of a call with a neighbour or a transmitter, by the octets of its address
 module _ (o : Outcome) (r : HwmpOutcome) (re : r ≡ outcomeForC o) (l l₀ : Lent) (output output₀ s : List ℕ) (a : Address) (ae : a ≡ addressOf s) where

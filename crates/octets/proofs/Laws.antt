@@ -32,6 +32,23 @@ unfolding numberAt
 split zero n s at = rw (zero-add, add-zero) (omega arith)
 split (suc m) n s at = rw (suc-add, add-suc, ← suc-add, pow-suc) (omega (arith, split m n s (suc at)))
 
+-- and so two numbers that were read one after the other make one
+module _ (s : List ℕ) (at a b : ℕ) where
+  joined : (m n : ℕ) → a ≡ numberAt m s at → b ≡ numberAt n s (at + m) → a + 256 ^ m * b ≡ numberAt (m + n) s at
+  joined m n ae be = rw (ae, be, split m n s at)
+
+  pub read-2 : a ≡ numberAt 1 s at → b ≡ numberAt 1 s (at + 1) → a + 256 * b ≡ numberAt 2 s at
+  read-2 = joined 1 1
+
+  pub read-4 : a ≡ numberAt 2 s at → b ≡ numberAt 2 s (at + 2) → a + 65536 * b ≡ numberAt 4 s at
+  read-4 = joined 2 2
+
+  pub read-6 : a ≡ numberAt 4 s at → b ≡ numberAt 2 s (at + 4) → a + 4294967296 * b ≡ numberAt 6 s at
+  read-6 = joined 4 2
+
+  pub read-8 : a ≡ numberAt 4 s at → b ≡ numberAt 4 s (at + 4) → a + 4294967296 * b ≡ numberAt 8 s at
+  read-8 = joined 4 4
+
 -- the clauses of `withNumber` as equations: `rw` sees a call only where the definition is shut
 with-zero : (s : List ℕ) (at x : ℕ) → withNumber zero s at x ≡ s
 unfolding withNumber overwrite numberOctets

@@ -138,9 +138,9 @@ pub fn write_octets(s: &mut [u8], at: usize, p: &[u8])
 pub fn clear(s: &mut [u8])
     ensures { λ _. ⌜ now (s .exit) ≡ zeros (length (now (s .entry))) ⌝ }
 {
-    let mut i = 0;
-    while i < s.len() {
-        s[i] = 0;
-        i += 1;
+    let mut at = 0;
+    while at < s.len() {
+        s[at] = 0;
+        at += 1;
     }
 }

@@ -8,6 +8,8 @@ use lib.ListN.{length}
 use native.Mathlib.Omega.{arith}
 use borrow.Author.Tests.{lt-ltb, le-ltb}
 use Rattle.octets.specs.LittleEndian.{overwrite}
+use Rattle.counters.specs.declared.HopCount.{HopCount}
+use Rattle.counters.specs.declared.Metric.{Metric}
 use Rattle.layout.specs.declared.address.Address.{Address}
 use Rattle.layout.specs.declared.row.Head.{Head}
 use Rattle.table.specs.declared.search.NextHop.{NextHop}
@@ -27,12 +29,20 @@ use Rattle.element.specs.Octets.{writeFrame}
 use Rattle.element.proofs.Scans.{each-length}
 use Rattle.element.proofs.Sizes.{frame-length}
 use Rattle.rules.specs.declared.Arrival.{Arrival}
+use Rattle.rules.specs.Learn.{hopsHere, metricHere}
 use Rattle.rules.specs.Onward.{onward, sentTo, toAll, rannOnward, rrepOnward}
 use Rattle.rules.specs.Exit.{Frame, frameOctets}
 use Rattle.rules.proofs.FrameOctets.{no-frame, one-frame}
 use Rattle.calls.specs.declared.Emitted.{Emitted}
 use Rattle.calls.specs.Answers.{emitted}
 use Rattle.onward.specs.Sent.{replyReceiver, rrepForward}
+
+-- ---- the three changes
+
+pub farther : (a : Arrival) (p : PathInfo) (h : HopCount) → h ≡ hopsHere p → (m : Metric) → m ≡ metricHere a p → (t : ℕ) → t ≡ p .ttl - 1
+    → record { flags = p .flags; hops = h; ttl = t; subject = p .subject; number = p .number; lifetime = p .lifetime; metric = m } ≡ onward a p
+unfolding onward
+farther a p h he m me t te = rw (he, me, te)
 
 -- ---- no frame, or one
 

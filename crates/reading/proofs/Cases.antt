@@ -56,6 +56,10 @@ module _ (id : ℕ) where
   unfolding kindWith
   kind-else a b c = rw (ne-eqb id 126 a, ne-eqb id 130 b, ne-eqb id 131 c) refl
 
+-- a Length by the type that was found
+pub length-is : (k j : Kind) → k ≡ j → (n x : ℕ) → x ≡ lengthWith j n → x ≡ lengthWith k n
+length-is k j ke n x e = rw ke e
+
 module _ (s : List ℕ) where
   pub too-short : length s < 2 → true ≡ wrongLength s
   unfolding wrongLength

@@ -1,5 +1,6 @@
 -- `hwmp::hop_for_c` meets its contract: both cases of `hopForC`.
 use borrow.Author.Needs.{needs}
+use Rattle.hwmp.proofs.Outcomes.{no-hop-for-c}
 use Rattle.hwmp.proofs.hop_for_c.Statement.{statement}
 use Rattle.hwmp.proofs.hop_for_c.Tie as tie
 
@@ -11,4 +12,4 @@ hop-for-c-spec =
     (λ c κs. search needs)
     (λ c. search needs)
     (λ c. cc)
-    (λ c. cc))
+    (λ c. search no-hop-for-c))

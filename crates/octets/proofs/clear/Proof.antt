@@ -1,5 +1,5 @@
 -- `octets::clear` meets its contract: every octet passed is zero.
-use Prim.Native.Nat.{_-_, _≤_}
+use Prim.Native.Nat.{_-_}
 use mathlib.Core.Path.{_≡_}
 use lib.ListN.{length}
 use borrow.Author.Needs.{needs}
@@ -8,10 +8,10 @@ use Rattle.octets.proofs.clear.Statement.{statement}
 use Rattle.octets.proofs.clear.Tie as tie
 
 abbrev Inv-loop : tie.InvT-loop
-Inv-loop s₀ i₀ s i = (i ≤ length s₀) × (length s ≡ length s₀) × Cleared s i
+Inv-loop s₀ at₀ s at = (length s ≡ length s₀) × Cleared s at
 
 abbrev μ-loop : tie.MeasureT-loop
-μ-loop s₀ i₀ s i = length s₀ - i
+μ-loop s₀ at₀ s at = length s₀ - at
 
 pub clear-spec : {M : Type 1} → statement M
 clear-spec =

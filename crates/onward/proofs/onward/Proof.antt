@@ -1,15 +1,14 @@
 -- `onward::onward` meets its contract: by what it calls.
 use borrow.Author.Needs.{needs}
-use Rattle.rules.specs.Onward.{onward}
+use Rattle.onward.proofs.Going.{farther}
 use Rattle.onward.proofs.onward.Statement.{statement}
 use Rattle.onward.proofs.onward.Tie as tie
 
 pub onward-spec : {M : Type 1} → statement M
-unfolding onward
 onward-spec =
     tie.close
     (tie.spec
     (λ c κs. search needs)
     (λ c κs. search needs)
     (λ c. search needs)
-    (λ c. cc))
+    (λ c. search farther))

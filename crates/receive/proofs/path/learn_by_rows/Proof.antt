@@ -1,9 +1,12 @@
 -- `receive::path::learn_by_rows` meets its contract: one check of the list after another, and then what is learnt.
 use borrow.Author.Needs.{needs}
-use Rattle.table.proofs.ByHead.{by-head}
-use Rattle.calls.proofs.Checks.{checking}
+use Rattle.table.proofs.ByHead.{is-own, is-other}
+use Rattle.calls.proofs.Checks.{applies, passes, all-passed, as-tested}
 use Rattle.receive.proofs.path.learn_by_rows.Statement.{statement}
 use Rattle.receive.proofs.path.learn_by_rows.Tie as tie
+
+-- what these checks need of `checking` and `by-head`: with all of both, a search for a wrong answer meets its bound
+ruleset judging = (applies, passes, all-passed, as-tested, is-own, is-other)
 
 pub learn-by-rows-spec : {M : Type 1} → statement M
 learn-by-rows-spec =
@@ -11,14 +14,14 @@ learn-by-rows-spec =
     (tie.spec
     (λ c κs. search needs)
     (λ c. search needs)
-    (λ c. (search (checking, by-head) depth 40, search needs))
+    (λ c. (search judging depth 40, search needs))
     (λ c κs. search needs)
     (λ c κs. search needs)
     (λ c. search needs)
-    (λ c. (search (checking, by-head) depth 40, search needs))
+    (λ c. (search judging depth 40, search needs))
     (λ c κs. search needs)
     (λ c. search needs)
-    (λ c. (search (checking, by-head) depth 40, search needs))
+    (λ c. (search judging depth 40, search needs))
     (λ c κs. search needs)
     (λ c. search needs)
-    (λ c. (search (checking, by-head) depth 40, search needs)))
+    (λ c. (search judging depth 40, search needs)))
