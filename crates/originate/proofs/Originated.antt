@@ -82,14 +82,14 @@ module _ (t output u v : List ℕ) (flags lifetime : ℕ) (h₀ h : Head) (e₀ 
 
   -- with one destination
   pub root-exit : (w : List ℕ) → w ≡ overwrite output 0 (frameStart allOnes Rreq 1 (rreqNumbers (ownRequest h flags lifetime)))
-      → (at : ℕ) → at ≡ 34 → v ≡ overwrite w at (targetOctets allWithDOAndRF) → (octets : ℕ) → octets ≡ at + 11
+      → (at : ℕ) → at ≡ 34 → (q : Target) → q ≡ allWithDOAndRF → v ≡ overwrite w at (targetOctets q) → (octets : ℕ) → octets ≡ at + 11
       → (em : Emitted) → em ≡ record { frames = 1; octets = octets }
       → exitOf (Outcome.Accepted em) (lend u) v ≡ atExit (lend t) output (accepted (requested (lend t) flags lifetime (allWithDOAndRF ∷ [])))
   unfolding flatMap
-  root-exit w we at ate ve octets size =
+  root-exit w we at ate q qe ve octets size =
       requested-exit (allWithDOAndRF ∷ []) 1 refl
       (request-finished w output v h flags lifetime (allWithDOAndRF ∷ []) 1 refl we at ate
-      (ve ∙ ap (overwrite w at) (sym (append-nil (targetOctets allWithDOAndRF)))))
+      (ve ∙ ap (λ (k : Target). overwrite w at (targetOctets k)) qe ∙ ap (overwrite w at) (sym (append-nil (targetOctets allWithDOAndRF)))))
       octets (omega (arith, size, ate))
 
 -- ---- decided by the check

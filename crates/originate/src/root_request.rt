@@ -26,6 +26,17 @@ fn is_root_flags(flags: u8) -> bool
     (flags == 0) | (flags == 1) | (flags == 4) | (flags == 5)
 }
 
+// The one destination of a root request: all ones, with DO and RF set and number 0.
+fn all_with_do_and_rf() -> Target
+    ensures { λ r. ⌜ r ≡ allWithDOAndRF ⌝ }
+{
+    Target {
+        flags: 3,
+        address: Address(list::ALL_ONES),
+        number: SequenceNumber(0),
+    }
+}
+
 // The table and the frame of a root request that is not refused.
 fn send(table: &mut [u8], output: &mut [u8], flags: u8, lifetime: u32) -> Outcome
     requires { ⌜ Sized (now table) ⌝ }
@@ -37,12 +48,7 @@ fn send(table: &mut [u8], output: &mut [u8], flags: u8, lifetime: u32) -> Outcom
     let head = common::number_head(row::read_head(table), true);
     row::write_head(table, head);
     let place = common::start_request(output, head, flags, lifetime, 1);
-    let target = Target {
-        flags: 3,
-        address: Address(list::ALL_ONES),
-        number: SequenceNumber(0),
-    };
-    let octets = writing::write_target(output, place, target);
+    let octets = writing::write_target(output, place, all_with_do_and_rf());
     Outcome::Accepted(Emitted::one_frame(octets))
 }
 

@@ -1,5 +1,4 @@
--- `originate::root_request::send` meets its contract: the head after the step, and one frame with one destination. Assumes
--- nothing.
+-- `originate::root_request::send` meets its contract: the head after the step, and one frame with one destination.
 use borrow.Author.Needs.{needs}
 use Rattle.originate.proofs.Originated.{root-exit}
 use Rattle.originate.proofs.root_request.send.Statement.{statement}
@@ -9,6 +8,7 @@ pub send-spec : {M : Type 1} → statement M
 send-spec =
     tie.close
     (tie.spec
+    (λ c κs. search needs)
     (λ c κs. search needs)
     (λ c κs. search needs)
     (λ c κs. search needs)
