@@ -10,4 +10,5 @@ pub mod Calls
 pub mod LoopFree
 pub mod NeverTooLong
 pub mod Computed
+pub mod Printed
 pub mod Theorems

@@ -20,11 +20,13 @@ use Rattle.rules.proofs.Room.{call-room, output-room}
 use Rattle.rules.proofs.Output.{written, element-in, all-read, together, cut-output, first-octets}
 use Rattle.rules.proofs.Hops.{walk-hops}
 use Rattle.rules.proofs.StaysTable.{fresh-stays, forget-stays}
-use Rattle.theorems.specs.Statements.{EdgesHold, ErrorsShutOut, StaysTable, FreshIsTable, ForgetStaysTable, HasRoom, FramesInOutput, ReadsAsElement, ReadsBack, HopsAtMost, LoopFree, NeverTooLong, NotVacuous, Sharp, ElseTheRules, NeedsExclusions, NeedsPremise}
+use Rattle.bench_rules.proofs.InParts.{obeyed-in-parts}
+use Rattle.theorems.specs.Statements.{EdgesHold, ErrorsShutOut, StaysTable, FreshIsTable, ForgetStaysTable, HasRoom, FramesInOutput, ReadsAsElement, ReadsBack, HopsAtMost, LoopFree, NeverTooLong, NotVacuous, Sharp, ElseTheRules, NeedsExclusions, NeedsPremise, ObeysInParts, PrintsWorkedCase}
 use Rattle.theorems.specs.WrongRules.{ruledBy}
 use Rattle.theorems.specs.Runs.{endOf, way, outside, outsideLoops}
 use Rattle.theorems.proofs.AllEdges.{all-edges, all-shut-out}
 use Rattle.theorems.proofs.Computed.{runs-as-worked, wrong-rules-loop, left-out-loop, outside-points-fit, outside-events-fit, outside-loops}
+use Rattle.theorems.proofs.Printed.{printed-as-worked}
 use Rattle.theorems.proofs.LoopFree
 use Rattle.theorems.proofs.NeverTooLong
 
@@ -115,3 +117,9 @@ needs-its-premise = (
       let no-loop = LoopFree.loop-free (outside .destination) base small (outside .points) (outside .events) outside-events-fit within in
       true-not-false outside-loops (no-loop _ _)),
 )
+
+pub obeys-in-parts : ObeysInParts
+obeys-in-parts = obeyed-in-parts
+
+pub prints-the-worked-case : PrintsWorkedCase
+prints-the-worked-case = printed-as-worked

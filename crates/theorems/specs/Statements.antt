@@ -1,11 +1,11 @@
--- What is proved of the rules of document 01: each statement is a type here, and `proofs/Theorems.antt` has its proof under
+-- What is proved of the rules of document 01, and of its bench: each statement is a type here, and `proofs/Theorems.antt` has its proof under
 -- the name that is given beside it.
 --
 -- How to read: `(x : T) → P` is 'for every x: P', `P → Q` 'if P then Q', `×` 'and', `⊎` 'or', `≡` 'equals'; `x ∷ l` is a list
 -- that begins with x, `l ++ k` one list after another; `cond b x y` is x if b holds, else y; `r .f` is the field f of r, and
 -- `a .0` the number that an address, a sequence number or a metric is. A `List ℕ` is a list of octets; a `Lent` is what a point
 -- lends to a call, and its field `table` the point's table.
-use Prim.Native.Nat.{ℕ, _^_, _<_, _≤_}
+use Prim.Native.Nat.{ℕ, _+_, _^_, _<_, _≤_}
 use mathlib.Core.Path.{_≡_}
 use mathlib.Core.Bool.{true, false}
 use mathlib.Core.List.{List, _++_, map, flatMap}
@@ -27,10 +27,12 @@ use Rattle.rules.specs.Errors.{broken}
 use Rattle.rules.specs.Receive.{isStaleFor}
 use Rattle.rules.specs.Calls.{Call, decision, OperandsFit}
 use Rattle.rules.specs.Walk.{Walked, walk}
+use Rattle.bench_rules.specs.Run.{Standing, going, obeyAll, textFor}
 use Rattle.theorems.specs.Edges.{edges, shutOut}
 use Rattle.theorems.specs.Mesh.{Point, start, Event, walkOver, pointsFit, eventFits, happen, run, throughout, met}
 use Rattle.theorems.specs.Premise.{allWithin}
 use Rattle.theorems.specs.WrongRules.{ruledBy, receivingBy, breakingBy}
+use Rattle.theorems.specs.WorkedBench.{workedInput, workedText}
 use Rattle.theorems.specs.Runs.{
   goesRound,
   worked,
@@ -182,3 +184,16 @@ NeedsPremise =
     (pointsFit (outside .points) ≡ true) × (all eventFits (outside .events) ≡ true) × (outsideLoops ≡ true)
     × ((base : ℕ) → base < 2 ^ 32
     → throughout (happen decision) (allWithin (outside .destination) base) (start (outside .points)) (outside .events) ≡ false)
+
+-- ---- the bench (`obeys-in-parts`, `prints-the-worked-case`)
+
+-- Obeying the octets x and then y is obeying x ++ y, where x ends between commands: all of x is obeyed, and the bench goes on.
+abbrev pub ObeysInParts : Type 0
+ObeysInParts =
+    (text : List ℕ) (b : Standing) (x y text′ : List ℕ) (b′ : Standing)
+    → obeyAll (going text b) x ≡ going text′ b′ → b′ .offset ≡ b .offset + length x
+    → obeyAll (going text b) (x ++ y) ≡ obeyAll (going text′ b′) y
+
+-- For the octets of the worked case of document 01 the bench, from its start, prints the text that document 01 gives.
+abbrev pub PrintsWorkedCase : Type 0
+PrintsWorkedCase = textFor workedInput ≡ workedText
