@@ -3,18 +3,18 @@ use Prim.Native.Nat.{ℕ, zero, suc, _+_, _-_, _*_, _<_, _≤_}
 use mathlib.Core.Path.{_≡_, refl, sym, ap, ap₂, subst, _∙_}
 use mathlib.Core.Bool.{Bool, true, false, _||_, cond}
 use mathlib.Core.List.{List, [], _∷_, _++_, append-nil, append-assoc}
-use lib.Dec.{eqb, ltb}
+use lib.Dec.{eqb}
 use lib.ListN.{length, drop, length-append, length-drop, List·getD-append}
 use lib.Seq.{drop-append-le, drop-drop, drop-length}
 use native.Mathlib.Omega.{arith}
-use borrow.Author.Tests.{eqb-true, ne-eqb, eq-eqb, le-ltb}
+use borrow.Author.Tests.{eqb-true, ne-eqb, le-ltb}
 use Rattle.octets.specs.LittleEndian.{numberAt}
 use Rattle.octets.proofs.Tests.{clash}
 use Rattle.rules.proofs.Branches.{cond-cases}
 use Rattle.bench_rules.specs.Bench.{Bench, Done, fault, line, WithLinks}
 use Rattle.bench_rules.specs.Interpreter.{lengthOf, obeyed, command}
 use Rattle.bench_rules.specs.Text.{lineText, faultText}
-use Rattle.bench_rules.specs.Run.{Standing, Course, going, ended, afterCommand, obeyFirst, behind, unlessEnded, obeyUntil, never, obeyAll}
+use Rattle.bench_rules.specs.Run.{Standing, Course, going, ended, afterCommand, obeyFirst, behind, obeyUntil, never, obeyAll}
 use Rattle.bench_rules.proofs.Sound.{whole-command}
 
 -- ---- a command has only its own octets

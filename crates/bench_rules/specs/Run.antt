@@ -50,8 +50,8 @@ abbrev pub unlessEnded : Course → ((text : List ℕ) → Standing → Course) 
 unlessEnded (ended text) further = ended text
 unlessEnded (going text x) further = further text x
 
--- Commands one after another, at most n, until the octets end, a fault ends the bench, or this test of the text and the octets left
--- says that it pauses.
+-- Commands one after another, at most n, until the octets end, a fault ends the bench, or this test of the text and of the octets
+-- that are left says that the bench pauses.
 unfoldable pub obeyUntil : (pauses : (text s : List ℕ) → Bool) → (n : ℕ) → Course → List ℕ → Course
 obeyUntil pauses zero c s = c
 obeyUntil pauses (suc n) c s =

@@ -1,17 +1,16 @@
 -- The commands of a block, one after another: what is left to obey makes the whole.
 use Prim.Native.Nat.{ℕ, _+_, _-_, _<_, _≤_}
-use mathlib.Core.Path.{_≡_, refl, sym, ap, ap₂, _∙_}
-use mathlib.Core.Bool.{Bool, true, false, not, _&&_, _||_, cond}
-use mathlib.Core.List.{List, [], _++_}
-use lib.Dec.{eqb, ltb}
+use mathlib.Core.Path.{_≡_, refl, sym, ap, _∙_}
+use mathlib.Core.Bool.{Bool, true, false, not, _&&_}
+use mathlib.Core.List.{List, []}
 use lib.ListN.{length, take, drop, length-drop}
 use lib.Seq.{length-take-le}
 use native.Mathlib.Omega.{arith}
 use native.Mathlib.Nat.{add-zero}
-use borrow.Author.Tests.{lt-ltb, le-ltb, ne-eqb}
+use borrow.Author.Tests.{lt-ltb, le-ltb}
 use Rattle.octets.proofs.Tests.{clash}
 use Rattle.bench_rules.specs.Interpreter.{isCut}
-use Rattle.bench_rules.specs.Run.{Standing, Course, going, ended, obeyFirst, behind, obeyUntil}
+use Rattle.bench_rules.specs.Run.{Course, going, ended, obeyFirst, behind, obeyUntil}
 use Rattle.bench_rules.proofs.InParts.{obeyed-more, ended-stays, over-stays, paused-stays}
 use Rattle.bench_core.specs.declared.State.{State}
 use Rattle.bench_core.specs.InCode.{Memory}

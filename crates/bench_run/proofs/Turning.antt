@@ -10,7 +10,7 @@ use Rattle.octets.specs.LittleEndian.{zeros}
 use Rattle.octets.proofs.Tests.{clash}
 use Rattle.element.specs.Entries.{each}
 use Rattle.bench_links.specs.Links.{noLinks}
-use Rattle.bench_rules.specs.Run.{Standing, Course, going, ended, obeyUntil, obeyAll, atStart}
+use Rattle.bench_rules.specs.Run.{Standing, going, ended, obeyUntil, obeyAll, atStart}
 use Rattle.bench_rules.proofs.InParts.{Leads, ComesTo, comes-to}
 use Rattle.bench_core.specs.declared.State.{State}
 use Rattle.bench_core.proofs.Starting.{memory-at-start}

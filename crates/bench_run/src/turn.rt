@@ -2,7 +2,6 @@
 use crate::block;
 use bench_core::State;
 use bench_input::Cursor;
-ghost use mathlib.Core.Path.{_≡_};
 ghost use Prim.Native.Nat.{_+_, _<_, _≤_};
 ghost use lib.ListN.{length};
 ghost use Rattle.bench_run.specs.Turns.{GoesOn, Ready};

@@ -3,7 +3,6 @@ use Prim.Native.Nat.{ℕ}
 use mathlib.Core.Path.{_≡_, refl, sym, ap, _∙_}
 use mathlib.Core.List.{List, map, flatMap}
 use lib.ListN.{length}
-use Rattle.octets.specs.LittleEndian.{Octets}
 use Rattle.table.proofs.WellFormed.{true-not-false, false-of, legal-is}
 use Rattle.element.specs.Entries.{All}
 use Rattle.element.proofs.ReadBack.{passes-6, passes-7, passes-8}

@@ -1,5 +1,5 @@
--- What is proved of the rules of document 01, and of its bench: each statement is a type here, and `proofs/Theorems.antt` has its proof under
--- the name that is given beside it.
+-- What is proved of the rules of document 01, and of its bench: each statement is a type here, and `proofs/Theorems.antt` has its
+-- proof under the name that is given beside it.
 --
 -- How to read: `(x : T) → P` is 'for every x: P', `P → Q` 'if P then Q', `×` 'and', `⊎` 'or', `≡` 'equals'; `x ∷ l` is a list
 -- that begins with x, `l ++ k` one list after another; `cond b x y` is x if b holds, else y; `r .f` is the field f of r, and
