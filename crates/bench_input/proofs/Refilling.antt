@@ -1,13 +1,16 @@
 -- The buffer: what is moved to its start, and what is read behind that.
 use Prim.Native.Nat.{ℕ, suc, _+_, _-_, _<_, _≤_}
 use mathlib.Core.Path.{_≡_, refl, sym, ap, ap₂, _∙_}
-use mathlib.Core.Bool.{Bool}
+use mathlib.Core.Bool.{Bool, true, false, not, _&&_, _||_}
 use mathlib.Core.List.{List, [], _∷_, _++_, append-nil}
+use lib.Dec.{eqb}
 use lib.ListN.{length, getD, set, take, drop, length-set, length-drop}
 use lib.Seq.{take-suc, take-suc-set, drop-set-lt, drop-drop, getD-drop, take-add}
 use native.Mathlib.Nat.{add-zero, sub-zero}
+use borrow.Author.Tests.{not-true, not-false}
 use borrow.Rule.Slice.PartMut.{putMid, take-put}
 use native.Mathlib.Omega.{arith}
+use Rattle.bench_rules.specs.Interpreter.{isCut}
 use Rattle.bench_input.specs.declared.Cursor.{Cursor}
 use Rattle.bench_input.specs.Reading.{left, Keeps, Extends}
 
@@ -70,3 +73,23 @@ module _ (c : Cursor) (buffer moved filled : List ℕ) (n got : ℕ) (ne : n ≡
         is = ap (λ (k : ℕ). take k filled) (sub-zero (n + got)) ∙ take-add n got filled
             ∙ ap (λ (s : List ℕ). s ++ take got (drop n filled)) (ke .first ∙ me ∙ ap (λ (k : ℕ). take k (drop (c .from) buffer)) ne);
       }
+
+-- ---- whether the input has ended
+
+-- n octets were left, and so many are there now
+pub none-came : (n filled : ℕ) (c : Cursor) → n ≡ c .filled - c .from → eqb filled n ≡ eqb (filled - 0) (c .filled - c .from)
+none-came n filled c ne = rw (sub-zero filled, ne)
+
+module _ (c : Cursor) (buffer : List ℕ) (k m : ℕ) where
+  abbrev ends : Bool
+  ends = c .last || (isCut (left c buffer) && eqb k m)
+
+  pub last-stays : c .last ≡ true → c .last ≡ ends
+  last-stays e = rw e
+
+  module _ (open-yet : c .last ≡ false) (cut : Bool) (ce : cut ≡ isCut (left c buffer)) where
+    pub whole-yet : not cut ≡ true → c .last ≡ ends
+    whole-yet e = rw (open-yet, ← ce, not-true cut e)
+
+    pub last-read : not cut ≡ false → (last : Bool) → last ≡ eqb k m → last ≡ ends
+    last-read e last le = rw (open-yet, ← ce, not-false cut e, le)

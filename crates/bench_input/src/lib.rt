@@ -2,9 +2,11 @@
 use bench_core::interpreter;
 use libc::STDIN_FILENO;
 ghost use mathlib.Core.Path.{_≡_};
-ghost use mathlib.Core.Bool.{false};
+ghost use mathlib.Core.Bool.{_&&_, _||_, false};
+ghost use lib.Dec.{eqb};
 ghost use Prim.Native.Nat.{_+_, _-_, _<_, _≤_};
 ghost use lib.ListN.{drop, length, take};
+ghost use Rattle.bench_rules.specs.Interpreter.{isCut};
 ghost use Rattle.bench_input.specs.Reading.{Extends, Keeps, Unread, left};
 
 // Which octets of the buffer are still to be obeyed, whether standard input has ended, and the offset of the first of them.
@@ -52,29 +54,33 @@ fn read_from(buffer: &mut [u8], at: usize) -> usize
     io::count(got, part)
 }
 
-// Reads more octets behind those that are left, which come to the start of the buffer.
+// Reads more octets behind those that are left, which come to the start of the buffer; the input has ended if there are none.
 fn read_more(buffer: &mut [u8], c: Cursor) -> Cursor
     requires { ⌜ Unread c (now buffer) ⌝ }
     ensures { λ r. ⌜ Unread r (now (buffer .exit)) ⌝ }
     ensures { λ r. ⌜ r .offset ≡ c .offset ⌝ }
     ensures { λ r. ⌜ Extends (left c (now (buffer .entry))) (left r (now (buffer .exit))) ⌝ }
+    ensures { λ r. ⌜ r .last ≡ eqb (r .filled - r .from) (c .filled - c .from) ⌝ }
 {
     let left = move_to_start(buffer, c.from, c.filled);
-    let got = read_from(buffer, left);
+    let filled = left + read_from(buffer, left);
     Cursor {
         from: 0,
-        filled: left + got,
-        last: got == 0,
+        filled,
+        last: filled == left,
         offset: c.offset,
     }
 }
 
-// Reads on where the next command is not all there, so that a whole one is obeyed before more is waited for.
+// Reads on where the next command is not all there, so that a whole one is obeyed before more is waited for. The input has ended
+// where nothing comes.
 pub fn refill(buffer: &mut [u8], c: Cursor) -> Cursor
     requires { ⌜ Unread c (now buffer) ⌝ }
     ensures { λ r. ⌜ Unread r (now (buffer .exit)) ⌝ }
     ensures { λ r. ⌜ r .offset ≡ c .offset ⌝ }
     ensures { λ r. ⌜ Extends (left c (now (buffer .entry))) (left r (now (buffer .exit))) ⌝ }
+    ensures { λ r. ⌜ r .last
+        ≡ (c .last || (isCut (left c (now (buffer .entry))) && eqb (r .filled - r .from) (c .filled - c .from))) ⌝ }
 {
     let from = c.from;
     let filled = c.filled;

@@ -1,11 +1,13 @@
 -- Turns: what a block leaves is where its input has led the bench.
 use Prim.Native.Nat.{ℕ, _+_, _-_, _*_, _≤_}
 use mathlib.Core.Path.{_≡_, refl, sym, ap, ap₂, subst, _∙_}
-use mathlib.Core.Bool.{Bool, true, false, _||_}
+use mathlib.Core.Bool.{Bool, true, false, _&&_, _||_, cond}
 use mathlib.Core.List.{List, [], _++_, append-nil, append-assoc}
-use lib.ListN.{length, take, drop, length-take}
+use lib.Dec.{eqb}
+use lib.ListN.{length, take, drop, length-take, length-drop}
 use lib.Seq.{take-add, drop-drop, drop-at, length-take-le}
 use native.Mathlib.Omega.{arith}
+use borrow.Author.Tests.{eqb-true, eqb-false, eq-eqb, ne-eqb}
 use Rattle.octets.specs.LittleEndian.{zeros}
 use Rattle.octets.proofs.Tests.{clash}
 use Rattle.element.specs.Entries.{each}
@@ -19,7 +21,7 @@ use Rattle.bench_run.specs.declared.block.Progress.{Progress}
 use Rattle.bench_run.specs.declared.turn.Turn.{Turn}
 use Rattle.bench_input.specs.Reading.{left, Unread, Extends}
 use Rattle.bench_run.specs.Blocks.{stateOf, standing, courseOf, pausesIn, Stands}
-use Rattle.bench_run.specs.Turns.{Reached, Ready, GoesOn}
+use Rattle.bench_run.specs.Turns.{Reached, Ready, GoesOn, isOver, blockCourse, EndsWith}
 
 drop-take : (k n : ℕ) (s : List ℕ) → k ≤ n → k ≤ length s → drop k (take n s) ≡ take (n - k) (drop k s)
 drop-take k n s l m =
@@ -126,6 +128,53 @@ module _ (c : Cursor) (s : State) (buffer tables slots : List ℕ) (links : List
 
   pub offset-near : past .offset ≤ c .offset + length buffer
   offset-near = omega (arith, few, ready .unread .inside, ap (λ (k : Cursor). k .offset) ce)
+
+-- ---- the end
+
+same-past : (o a b : ℕ) → eqb (o + a) (o + b) ≡ eqb a b
+same-past o a b = by (eqb a b) refl
+  where
+    by : (k : Bool) → eqb a b ≡ k → eqb (o + a) (o + b) ≡ k
+    by true e = eq-eqb (o + a) (o + b) (ap (λ (n : ℕ). o + n) (eqb-true a b e))
+    by false e = ne-eqb (o + a) (o + b) (λ q. eqb-false a b e (omega (arith, q)))
+
+-- a block is obeyed: its length is n
+pub block-ends : (c : Cursor) (buffer : List ℕ) → Unread c buffer → (s : State) (tables slots : List ℕ) (links : List (List ℕ)) (room : ℕ)
+    (p : Progress) (tables′ slots′ : List ℕ) (links′ : List (List ℕ)) (text′ : List ℕ)
+    → courseOf p (c .offset) tables′ slots′ links′ text′ ≡ blockCourse (c .last) room (standing s (c .offset) tables slots links) (left c buffer)
+    → (past : Cursor)
+    → EndsWith (record { ended = p .ended || (c .last && eqb (p .used) (c .filled - c .from)); cursor = past; state = stateOf p }) room
+    (standing s (c .offset) tables slots links) (left c buffer)
+block-ends c buffer unread s tables slots links room p tables′ slots′ links′ text′ pe past =
+    record {
+      last = c .last;
+      block = left c buffer;
+      extends = record { more = []; is = sym (append-nil (left c buffer)) };
+      is = by (p .ended) refl ∙ ap (isOver (c .last) (c .offset + length (left c buffer))) pe;
+    }
+  where
+    long : length (left c buffer) ≡ c .filled - c .from
+    long = let k = unread .inside in omega (arith, length-take (c .filled - c .from) (drop (c .from) buffer), length-drop (c .from) buffer, k)
+
+    by : (b : Bool) → p .ended ≡ b
+        → (b || (c .last && eqb (p .used) (c .filled - c .from)))
+        ≡ isOver (c .last) (c .offset + length (left c buffer))
+        (cond b (ended (take (p .written) text′)) (going (take (p .written) text′) (standing (stateOf p) (c .offset + p .used) tables′ slots′ links′)))
+    by true e = refl
+    by false e = ap (λ (k : Bool). c .last && k) (sym (ap (λ (n : ℕ). eqb (c .offset + p .used) (c .offset + n)) long ∙ same-past (c .offset) (p .used) (c .filled - c .from)))
+
+-- and what was left before more was read begins the block
+pub turn-ends : (t : Turn) (room : ℕ) (s : State) (offset : ℕ) (tables slots : List ℕ) (links : List (List ℕ)) (l l′ : List ℕ) (offset′ : ℕ)
+    → EndsWith t room (standing s offset′ tables slots links) l′ → offset′ ≡ offset → Extends l l′
+    → EndsWith t room (standing s offset tables slots links) l
+turn-ends t room s offset tables slots links l l′ offset′ e oe m =
+    rw (← oe)
+    (record {
+      last = e .last;
+      block = e .block;
+      extends = record { more = m .more ++ e .extends .more; is = e .extends .is ∙ ap (λ (s : List ℕ). s ++ e .extends .more) (m .is) ∙ append-assoc l (m .more) (e .extends .more) };
+      is = e .is;
+    })
 
 pub still-ready : (t : Turn) (buffer tables slots : List ℕ) (links : List (List ℕ)) → GoesOn t buffer tables slots links → t .ended ≡ false
     → Ready (t .cursor) (t .state) buffer tables slots links

@@ -1,15 +1,17 @@
 -- Turns of the bench: a block is read and obeyed, and then the next. For the code's own functions.
-use Prim.Native.Nat.{ℕ}
+use Prim.Native.Nat.{ℕ, _+_}
 use mathlib.Core.Path.{_≡_}
-use mathlib.Core.Bool.{false}
+use mathlib.Core.Bool.{Bool, true, false, _&&_}
 use mathlib.Core.List.{List, [], _++_}
-use Rattle.bench_rules.specs.Run.{Standing, atStart, going, obeyAll}
+use lib.Dec.{eqb}
+use lib.ListN.{length}
+use Rattle.bench_rules.specs.Run.{Standing, atStart, Course, going, ended, obeyUntil, obeyAll}
 use Rattle.bench_core.specs.declared.State.{State}
 use Rattle.bench_core.specs.InCode.{Memory}
 use Rattle.bench_input.specs.declared.Cursor.{Cursor}
 use Rattle.bench_run.specs.declared.turn.Turn.{Turn}
-use Rattle.bench_input.specs.Reading.{left, Unread}
-use Rattle.bench_run.specs.Blocks.{standing}
+use Rattle.bench_input.specs.Reading.{left, Unread, Extends}
+use Rattle.bench_run.specs.Blocks.{standing, pausesIn}
 
 -- The bench stands where some input has led it: whatever comes in yet, obeying all of the input from the start is going on from
 -- here with the octets that are left and with those that come.
@@ -17,6 +19,15 @@ pub record Reached (x : Standing) (left : List ℕ) : Type 0 where
   pub input : List ℕ
   pub printed : List ℕ
   pub goes-on : (more : List ℕ) → obeyAll (going [] atStart) (input ++ more) ≡ obeyAll (going printed x) (left ++ more)
+
+-- The bench has ended at a fault, or if the input has ended and its end is reached.
+abbrev pub isOver : (last : Bool) → (end : ℕ) → Course → Bool
+isOver last end (ended text) = true
+isOver last end (going text x) = last && eqb (x .offset) end
+
+-- what a turn comes to that obeys these octets from here, with so much room for its text
+abbrev pub blockCourse : (last : Bool) → (room : ℕ) → Standing → (block : List ℕ) → Course
+blockCourse last room x block = obeyUntil (pausesIn last room) (length block) (going [] x) block
 
 -- what a turn finds
 pub record Ready (c : Cursor) (s : State) (buffer tables slots : List ℕ) (links : List (List ℕ)) : Type 0 where
@@ -27,3 +38,10 @@ pub record Ready (c : Cursor) (s : State) (buffer tables slots : List ℕ) (link
 -- and what it leaves, unless the bench has ended
 pub record GoesOn (t : Turn) (buffer tables slots : List ℕ) (links : List (List ℕ)) : Type 0 where
   pub ready : t .ended ≡ false → Ready (t .cursor) (t .state) buffer tables slots links
+
+-- a turn has ended the bench exactly if the octets that were left, and those that came behind them, bring it to its end
+pub record EndsWith (t : Turn) (room : ℕ) (x : Standing) (left : List ℕ) : Type 0 where
+  pub last : Bool
+  pub block : List ℕ
+  pub extends : Extends left block
+  pub is : t .ended ≡ isOver last (x .offset + length block) (blockCourse last room x block)

@@ -4,7 +4,9 @@ use bench_core::State;
 use bench_input::Cursor;
 ghost use Prim.Native.Nat.{_+_, _<_, _≤_};
 ghost use lib.ListN.{length};
-ghost use Rattle.bench_run.specs.Turns.{GoesOn, Ready};
+ghost use Rattle.bench_input.specs.Reading.{left};
+ghost use Rattle.bench_run.specs.Blocks.{standing};
+ghost use Rattle.bench_run.specs.Turns.{EndsWith, GoesOn, Ready};
 
 // Whether the bench has ended, which octets are still to be obeyed, and what it holds beside its memory.
 pub struct Turn {
@@ -27,6 +29,9 @@ fn obey_unread(
     requires { ⌜ c .offset + length (now buffer) < 18446744073709551616 ⌝ }
     ensures { λ r. ⌜ GoesOn r (now (buffer .entry)) (now (tables .exit)) (now (slots .exit)) (now (links .exit)) ⌝ }
     ensures { λ r. ⌜ r .cursor .offset ≤ c .offset + length (now (buffer .entry)) ⌝ }
+    ensures { λ r. ⌜ EndsWith r (length (now (text .entry)))
+        (standing s (c .offset) (now (tables .entry)) (now (slots .entry)) (now (links .entry)))
+        (left c (now (buffer .entry))) ⌝ }
 {
     let from = c.from;
     let filled = c.filled;
@@ -60,6 +65,9 @@ pub fn take_turn(
     requires { ⌜ c .offset + length (now buffer) < 18446744073709551616 ⌝ }
     ensures { λ r. ⌜ GoesOn r (now (buffer .exit)) (now (tables .exit)) (now (slots .exit)) (now (links .exit)) ⌝ }
     ensures { λ r. ⌜ r .cursor .offset ≤ c .offset + length (now (buffer .entry)) ⌝ }
+    ensures { λ r. ⌜ EndsWith r (length (now (text .entry)))
+        (standing s (c .offset) (now (tables .entry)) (now (slots .entry)) (now (links .entry)))
+        (left c (now (buffer .entry))) ⌝ }
 {
     let unread = bench_input::refill(buffer, c);
     obey_unread(unread, s, buffer, tables, slots, links, text)

@@ -1,6 +1,6 @@
 -- What stands when each call has ended: its answer as document 01 numbers it, the values beside it, and every buffer that it was
--- lent. The contract of a call says that the call ends with its exit here, whatever it was given. (A next hop is lent nothing that
--- it may write: its contract is about the decision itself.)
+-- lent. The contract of a call says that the call ends with its exit here, whatever it was given. (A next hop is lent nothing
+-- that it may write: its contract is about the decision itself.)
 use Prim.Native.Nat.{ℕ}
 use mathlib.Core.List.{List}
 use lib.ListN.{length}

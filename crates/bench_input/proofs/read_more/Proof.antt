@@ -1,6 +1,6 @@
 -- `bench_input::read_more` meets its contract: what is left is moved, and some octets may come behind it.
 use borrow.Author.Needs.{needs}
-use Rattle.bench_input.proofs.Refilling.{more-read}
+use Rattle.bench_input.proofs.Refilling.{more-read, none-came}
 use Rattle.bench_input.proofs.read_more.Statement.{statement}
 use Rattle.bench_input.proofs.read_more.Tie as tie
 
@@ -12,4 +12,4 @@ read-more-spec =
     (λ c κs. search needs)
     (λ c. search needs)
     (λ c. search needs)
-    (λ c. (search needs, (search needs, search more-read))))
+    (λ c. (search needs, (search needs, (search more-read, search none-came)))))

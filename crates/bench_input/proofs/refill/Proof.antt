@@ -1,6 +1,6 @@
 -- `bench_input::refill` meets its contract: all stays as it is, or more is read.
 use borrow.Author.Needs.{needs}
-use Rattle.bench_input.proofs.Refilling.{nothing-more}
+use Rattle.bench_input.proofs.Refilling.{nothing-more, last-stays, whole-yet, last-read}
 use Rattle.bench_input.proofs.refill.Statement.{statement}
 use Rattle.bench_input.proofs.refill.Tie as tie
 
@@ -8,13 +8,13 @@ pub refill-spec : {M : Type 1} → statement M
 refill-spec =
     tie.close
     (tie.spec
-    (λ c. (search needs, (search needs, search nothing-more)))
+    (λ c. (search needs, (search needs, (search nothing-more, search last-stays))))
     (λ c. search needs)
     (λ c. search needs)
     (λ c. search needs)
     (λ c κs. search needs)
     (λ c. search needs)
-    (λ c. (search needs, (search needs, search nothing-more)))
+    (λ c. (search needs, (search needs, (search nothing-more, search whole-yet))))
     (λ c κs. search needs)
     (λ c. search needs)
-    (λ c. search needs))
+    (λ c. (search needs, (search needs, (search needs, search last-read)))))

@@ -1,6 +1,6 @@
 -- `bench_run::turn::obey_unread` meets its contract: what is left is obeyed from where the bench stands.
 use borrow.Author.Needs.{needs}
-use Rattle.bench_run.proofs.Turning.{turned, offset-near}
+use Rattle.bench_run.proofs.Turning.{turned, offset-near, block-ends}
 use Rattle.bench_run.proofs.turn.obey_unread.Statement.{statement}
 use Rattle.bench_run.proofs.turn.obey_unread.Tie as tie
 
@@ -17,4 +17,4 @@ obey-unread-spec =
     (λ c. search needs)
     (λ c. search needs)
     (λ c. search needs)
-    (λ c. (search turned, search offset-near)))
+    (λ c. (search turned, (search offset-near, search block-ends))))
