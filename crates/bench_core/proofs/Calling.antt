@@ -3,7 +3,7 @@ use Prim.Native.Nat.{ℕ, _+_, _-_, _*_, _^_, _<_, _≤_}
 use mathlib.Core.Path.{_≡_, refl, sym, subst, _∙_}
 use mathlib.Core.List.{List, _∷_}
 use lib.Dec.{ltb}
-use lib.ListN.{set, take, drop}
+use lib.ListN.{set}
 use native.Mathlib.Omega.{arith}
 use borrow.Author.Tests.{lt-ltb, le-ltb}
 use borrow.Rule.Slice.PartMut.{putMid}
@@ -22,21 +22,17 @@ use Rattle.rules.specs.Calls.{Call, receives, makes, asks, announces, breaks, d
 use Rattle.rules.proofs.Branches.{cond-cases}
 use Rattle.calls.specs.declared.Outcome.{Outcome}
 use Rattle.calls.specs.Answers.{exitOf}
-use Rattle.walk.proofs.Tables.{piece-is}
-use Rattle.bench_core.specs.declared.State.{State}
-use Rattle.bench_core.specs.declared.Done.{Done}
-use Rattle.bench_core.specs.declared.Done.the-variants.{Fault}
+use Rattle.bench_points.specs.declared.State.{State}
+use Rattle.bench_points.specs.declared.Done.{Done}
+use Rattle.bench_points.specs.declared.Done.the-variants.{Fault}
 use Rattle.bench_rules.specs.Bench.{fault, called, Done as Came}
 use Rattle.bench_rules.specs.Commands.{askFor, announceSelf, arrivalFrom, deliver, breakOff}
 use Rattle.bench_rules.proofs.Sound.{table-octets}
 use Rattle.bench_slots.specs.Slots.{senderOf, elementOf, keptAt}
-use Rattle.bench_core.specs.InCode.{benchOf, doneIn, Memory, settledAs, settledSlots, HoldsFrames}
+use Rattle.bench_points.specs.InCode.{benchOf, doneIn}
+use Rattle.bench_core.specs.InCode.{Memory, settledAs, settledSlots, HoldsFrames}
 use Rattle.bench_slots.proofs.Keeping.{each-beyond, frame-found}
 use Rattle.bench_core.proofs.Settling.{kept-soundly, call-holds, call-settled}
-
--- the table of point p, as it is lent
-pub lent-table : (tables : List ℕ) (p : ℕ) → take (544 * p + 544 - 544 * p) (drop (544 * p) tables) ≡ tableAt tables 544 p
-lent-table tables p = piece-is tables 544 p (544 * p) refl
 
 item-octets : (flags : ℕ) (destination : Address) → flags < 256 → Octets (flags ∷ numberOctets 6 (destination .0))
 item-octets flags destination small = octets-cons flags (numberOctets 6 (destination .0)) small (octets-of-number 6 (destination .0))

@@ -1,5 +1,4 @@
 pub mod Starting
 mod Settling
 mod Calling
-mod Silent
 mod Obeying

@@ -9,12 +9,13 @@ use native.Mathlib.Omega.{arith}
 use borrow.Author.Tests.{ne-eqb, lt-ltb, le-ltb}
 use Rattle.octets.specs.LittleEndian.{numberAt, Octets}
 use Rattle.element.proofs.Scans.{each-length}
-use Rattle.bench_core.specs.declared.State.{State}
-use Rattle.bench_core.specs.declared.Done.{Done}
-use Rattle.bench_core.specs.declared.Done.the-variants.{Fault, Line}
+use Rattle.bench_points.specs.declared.State.{State}
+use Rattle.bench_points.specs.declared.Done.{Done}
+use Rattle.bench_points.specs.declared.Done.the-variants.{Fault, Line}
 use Rattle.bench_rules.specs.Bench.{Bench, Sound, WithLinks, Done as Came}
 use Rattle.bench_slots.specs.Slots.{keptAt}
-use Rattle.bench_core.specs.InCode.{benchOf, doneIn, Memory, Remains, Adds, Advances, Links, Walks}
+use Rattle.bench_points.specs.InCode.{benchOf, doneIn, Adds, Advances, Links, Walks}
+use Rattle.bench_core.specs.InCode.{Memory, Remains}
 use Rattle.bench_rules.specs.Interpreter.{lengthOf, leavingLinks, obeyed, command, isCut}
 use Rattle.bench_rules.proofs.Sound.{Stays, obeyed-sound}
 

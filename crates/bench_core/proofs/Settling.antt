@@ -22,12 +22,14 @@ use Rattle.calls.specs.declared.Emitted.{Emitted}
 use Rattle.calls.specs.declared.Outcome.{Outcome}
 use Rattle.calls.specs.declared.Outcome.the-variants.{Accepted, Refused}
 use Rattle.calls.specs.Answers.{exitOf}
-use Rattle.bench_core.specs.declared.State.{State}
-use Rattle.bench_core.specs.declared.Done.{Done}
-use Rattle.bench_core.specs.declared.Done.the-variants.{Fault}
+use Rattle.bench_points.specs.declared.State.{State}
+use Rattle.bench_points.specs.declared.Done.{Done}
+use Rattle.bench_points.specs.declared.Done.the-variants.{Fault}
 use Rattle.bench_rules.specs.Bench.{KeptFrame, KeptSoundly, Bench, fault, line, Done as Came, withTableAt, keptFrom, settled}
 use Rattle.bench_rules.proofs.Sound.{table-octets, found-sound}
-use Rattle.bench_core.specs.InCode.{benchOf, doneIn, Memory, printed, keptAs, settledAs, settledSlots, HoldsFrames}
+use Rattle.bench_points.proofs.Lending.{put-back}
+use Rattle.bench_points.specs.InCode.{benchOf, doneIn, printed}
+use Rattle.bench_core.specs.InCode.{Memory, keptAs, settledAs, settledSlots, HoldsFrames}
 use Rattle.bench_slots.specs.Slots.{keptAt, keptIn, putFrames, Holds, keptSlots}
 use Rattle.bench_slots.proofs.Keeping.{ShortBelow, frame-found, frames-kept, output-holds}
 
@@ -64,11 +66,6 @@ module _ (s : State) (o : Outcome) (sender : ℕ) (output slots : List ℕ) wher
   accepted-keeps e oe slots′ se = rw oe se
 
 -- ---- the table of a point
-
--- lent to a call as that part of the tables, and back
-pub put-back : (tables u : List ℕ) (p : ℕ) → putMid (544 * p) (544 * p + 544 - 544 * p) tables u ≡ withTableAt tables p u
-unfolding withTableAt
-put-back tables u p = let n : 544 * p + 544 - 544 * p ≡ 544 = omega arith in rw n
 
 table-back : (tables : List ℕ) (p : ℕ) → withTableAt tables p (tableAt tables 544 p) ≡ tables
 unfolding withTableAt tableAt

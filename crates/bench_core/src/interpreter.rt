@@ -1,11 +1,12 @@
 // Which command it is, and whether all its operands are there.
-use crate::Done;
-use crate::State;
 use crate::operands;
+use bench_points::Done;
+use bench_points::State;
 ghost use mathlib.Core.Path.{_≡_};
 ghost use Prim.Native.Nat.{_<_, _≤_};
 ghost use lib.ListN.{length};
-ghost use Rattle.bench_core.specs.InCode.{Memory, Remains, benchOf, doneIn};
+ghost use Rattle.bench_points.specs.InCode.{benchOf, doneIn};
+ghost use Rattle.bench_core.specs.InCode.{Memory, Remains};
 ghost use Rattle.bench_rules.specs.Interpreter.{command, isCut, lengthOf, obeyed};
 
 // Octets of a command with its operands; 0 if there is no such command.

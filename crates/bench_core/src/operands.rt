@@ -1,9 +1,9 @@
 // The commands by their octets: each reads its operands, which are known to be there.
-use crate::Done;
-use crate::State;
-use crate::links;
-use crate::points;
 use crate::traffic;
+use bench_points::Done;
+use bench_points::State;
+use bench_points::links;
+use bench_points::points;
 use counters::SequenceNumber;
 use layout::address::Address;
 ghost use mathlib.Core.Path.{_≡_};
@@ -12,7 +12,8 @@ ghost use lib.ListN.{length};
 ghost use Rattle.layout.specs.Row.{maxClock};
 ghost use Rattle.octets.specs.LittleEndian.{numberAt};
 ghost use Rattle.bench_rules.specs.Commands.{announceSelf, askFor, breakOff, deliver};
-ghost use Rattle.bench_core.specs.InCode.{Adds, Advances, Links, Memory, Walks, benchOf, doneIn};
+ghost use Rattle.bench_points.specs.InCode.{Adds, Advances, Links, Walks, benchOf, doneIn};
+ghost use Rattle.bench_core.specs.InCode.{Memory};
 
 pub fn point(input: &[u8], s: State, tables: &mut [u8]) -> Done
     requires { ⌜ 11 ≤ length (now input) ⌝ }

@@ -1,6 +1,6 @@
 // What becomes of the frames that a call of a point has emitted.
-use crate::Done;
-use crate::State;
+use bench_points::Done;
+use bench_points::State;
 use calls::Outcome;
 ghost use mathlib.Core.Path.{_≡_};
 ghost use Prim.Native.Nat.{_≤_};

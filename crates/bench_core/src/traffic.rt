@@ -1,9 +1,9 @@
 // The commands that make a point call: ask, announce, deliver and break.
-use crate::Done;
-use crate::State;
-use crate::points;
-use crate::points::TABLE;
 use crate::settle;
+use bench_points::Done;
+use bench_points::State;
+use bench_points::points;
+use bench_points::points::TABLE;
 use breaking::break_neighbour;
 use calls::LEAST_OUTPUT;
 use counters::Metric;
@@ -20,7 +20,8 @@ ghost use Rattle.rules.specs.Calls.{receives};
 ghost use Rattle.bench_rules.specs.Bench.{called};
 ghost use Rattle.bench_rules.specs.Commands.{announceSelf, arrivalFrom, askFor, breakOff, deliver};
 ghost use Rattle.bench_slots.specs.Slots.{elementOf};
-ghost use Rattle.bench_core.specs.InCode.{Memory, benchOf, doneIn};
+ghost use Rattle.bench_points.specs.InCode.{benchOf, doneIn};
+ghost use Rattle.bench_core.specs.InCode.{Memory};
 
 // An item of an ask is flags and address.
 fn item_of(flags: u8, destination: Address) -> [u8; 7]

@@ -12,7 +12,7 @@ use Rattle.octets.proofs.Tests.{clash}
 use Rattle.bench_rules.specs.Interpreter.{isCut}
 use Rattle.bench_rules.specs.Run.{Course, going, ended, obeyFirst, behind, obeyUntil}
 use Rattle.bench_rules.proofs.InParts.{obeyed-more, ended-stays, over-stays, paused-stays}
-use Rattle.bench_core.specs.declared.State.{State}
+use Rattle.bench_points.specs.declared.State.{State}
 use Rattle.bench_core.specs.InCode.{Memory}
 use Rattle.bench_run.specs.declared.block.Progress.{Progress}
 use Rattle.bench_run.specs.Blocks.{stateOf, standing, courseOf, pausesIn, Stands, Uses}

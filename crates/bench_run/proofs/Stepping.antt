@@ -13,11 +13,12 @@ use Rattle.bench_rules.specs.Interpreter.{lengthOf, command}
 use Rattle.bench_rules.specs.Text.{lineText, faultText}
 use Rattle.bench_rules.specs.Run.{obeyFirst, behind}
 use Rattle.bench_rules.proofs.Sound.{whole-command}
-use Rattle.bench_core.specs.declared.State.{State}
-use Rattle.bench_core.specs.declared.Printed.{Printed}
-use Rattle.bench_core.specs.declared.Done.{Done}
-use Rattle.bench_core.specs.declared.Done.the-variants.{Line, Fault}
-use Rattle.bench_core.specs.InCode.{benchOf, doneIn, Memory, Remains}
+use Rattle.bench_points.specs.declared.State.{State}
+use Rattle.bench_points.specs.declared.Printed.{Printed}
+use Rattle.bench_points.specs.declared.Done.{Done}
+use Rattle.bench_points.specs.declared.Done.the-variants.{Line, Fault}
+use Rattle.bench_points.specs.InCode.{benchOf, doneIn}
+use Rattle.bench_core.specs.InCode.{Memory, Remains}
 use Rattle.bench_run.specs.declared.block.Progress.{Progress}
 use Rattle.bench_run.specs.Blocks.{stateOf, standing, courseOf, Stands, Uses}
 

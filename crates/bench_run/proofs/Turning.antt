@@ -14,7 +14,7 @@ use Rattle.element.specs.Entries.{each}
 use Rattle.bench_links.specs.Links.{noLinks}
 use Rattle.bench_rules.specs.Run.{Standing, going, ended, obeyUntil, obeyAll, atStart}
 use Rattle.bench_rules.proofs.InParts.{Leads, ComesTo, comes-to}
-use Rattle.bench_core.specs.declared.State.{State}
+use Rattle.bench_points.specs.declared.State.{State}
 use Rattle.bench_core.proofs.Starting.{memory-at-start}
 use Rattle.bench_input.specs.declared.Cursor.{Cursor}
 use Rattle.bench_run.specs.declared.block.Progress.{Progress}

@@ -7,8 +7,9 @@ use lib.ListN.{length, take, drop}
 use Rattle.rules.specs.Decision.{_below_}
 use Rattle.bench_rules.specs.Interpreter.{isCut}
 use Rattle.bench_rules.specs.Run.{Standing, Course, going, ended, behind}
-use Rattle.bench_core.specs.declared.State.{State}
-use Rattle.bench_core.specs.InCode.{benchOf, Memory}
+use Rattle.bench_points.specs.declared.State.{State}
+use Rattle.bench_points.specs.InCode.{benchOf}
+use Rattle.bench_core.specs.InCode.{Memory}
 use Rattle.bench_run.specs.declared.block.Progress.{Progress}
 
 abbrev pub stateOf : Progress → State

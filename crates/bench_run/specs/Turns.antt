@@ -6,7 +6,7 @@ use mathlib.Core.List.{List, [], _++_}
 use lib.Dec.{eqb}
 use lib.ListN.{length}
 use Rattle.bench_rules.specs.Run.{Standing, atStart, Course, going, ended, obeyUntil, obeyAll}
-use Rattle.bench_core.specs.declared.State.{State}
+use Rattle.bench_points.specs.declared.State.{State}
 use Rattle.bench_core.specs.InCode.{Memory}
 use Rattle.bench_input.specs.declared.Cursor.{Cursor}
 use Rattle.bench_run.specs.declared.turn.Turn.{Turn}

@@ -1,8 +1,8 @@
 // The commands of a block, one after another, and the lines that they print.
-use bench_core::Done;
-use bench_core::Printed;
-use bench_core::State;
 use bench_core::interpreter;
+use bench_points::Done;
+use bench_points::Printed;
+use bench_points::State;
 use libc::STDOUT_FILENO;
 ghost use mathlib.Core.Path.{_≡_};
 ghost use mathlib.Core.Bool.{false, true};

@@ -3,8 +3,8 @@ mod block;
 mod turn;
 
 use bench_core::SLOTS;
-use bench_core::State;
 use bench_core::TABLES;
+use bench_points::State;
 use turn::Turn;
 
 // A loop has to end, and nothing says that the input does: no run has so many turns. The offset, which grows by at most 65,536 in

@@ -1,7 +1,7 @@
 // A turn of the bench: more of the input is read where a command is not all there, and whole commands are obeyed.
 use crate::block;
-use bench_core::State;
 use bench_input::Cursor;
+use bench_points::State;
 ghost use Prim.Native.Nat.{_+_, _<_, _≤_};
 ghost use lib.ListN.{length};
 ghost use Rattle.bench_input.specs.Reading.{left};

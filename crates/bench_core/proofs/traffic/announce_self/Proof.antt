@@ -1,6 +1,7 @@
 -- `bench_core::traffic::announce_self` meets its contract: no point, or as its call leaves it.
 use borrow.Author.Needs.{needs}
-use Rattle.bench_core.proofs.Calling.{lent-table, announce-fault, announce-holds, announce-done}
+use Rattle.bench_points.proofs.Lending.{lent-table}
+use Rattle.bench_core.proofs.Calling.{announce-fault, announce-holds, announce-done}
 use Rattle.bench_core.proofs.traffic.announce_self.Statement.{statement}
 use Rattle.bench_core.proofs.traffic.announce_self.Tie as tie
 

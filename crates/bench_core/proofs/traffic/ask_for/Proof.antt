@@ -1,6 +1,7 @@
 -- `bench_core::traffic::ask_for` meets its contract: no point, or as its call leaves it.
 use borrow.Author.Needs.{needs}
-use Rattle.bench_core.proofs.Calling.{lent-table, ask-fault, ask-holds, ask-done}
+use Rattle.bench_points.proofs.Lending.{lent-table}
+use Rattle.bench_core.proofs.Calling.{ask-fault, ask-holds, ask-done}
 use Rattle.bench_core.proofs.traffic.ask_for.Statement.{statement}
 use Rattle.bench_core.proofs.traffic.ask_for.Tie as tie
 

@@ -1,6 +1,7 @@
 -- `bench_core::traffic::break_off` meets its contract: no point, no neighbour, or as its call leaves it.
 use borrow.Author.Needs.{needs}
-use Rattle.bench_core.proofs.Calling.{lent-table, break-fault, neighbour-fault, break-holds, break-done}
+use Rattle.bench_points.proofs.Lending.{lent-table}
+use Rattle.bench_core.proofs.Calling.{break-fault, neighbour-fault, break-holds, break-done}
 use Rattle.bench_core.proofs.traffic.break_off.Statement.{statement}
 use Rattle.bench_core.proofs.traffic.break_off.Tie as tie
 

@@ -1,6 +1,7 @@
 -- `bench_core::traffic::hand_over` meets its contract: as the receive leaves it.
 use borrow.Author.Needs.{needs}
-use Rattle.bench_core.proofs.Calling.{lent-table, receive-holds, handed-over}
+use Rattle.bench_points.proofs.Lending.{lent-table}
+use Rattle.bench_core.proofs.Calling.{receive-holds, handed-over}
 use Rattle.bench_core.proofs.traffic.hand_over.Statement.{statement}
 use Rattle.bench_core.proofs.traffic.hand_over.Tie as tie
 

@@ -1,8 +1,8 @@
--- `bench_core::points::walk_to` meets its contract: an index of no point, or the walk.
+-- `bench_points::points::walk_to` meets its contract: an index of no point, or the walk.
 use borrow.Author.Needs.{needs}
-use Rattle.bench_core.proofs.Silent.{start-unknown, end-unknown, points-long, walked}
-use Rattle.bench_core.proofs.points.walk_to.Statement.{statement}
-use Rattle.bench_core.proofs.points.walk_to.Tie as tie
+use Rattle.bench_points.proofs.Silent.{start-unknown, end-unknown, points-long, walked}
+use Rattle.bench_points.proofs.points.walk_to.Statement.{statement}
+use Rattle.bench_points.proofs.points.walk_to.Tie as tie
 
 pub walk-to-spec : {M : Type 1} → statement M
 walk-to-spec =

@@ -2,7 +2,7 @@
 use crate::Done;
 use crate::State;
 ghost use Prim.Native.Nat.{_≤_};
-ghost use Rattle.bench_core.specs.InCode.{Links};
+ghost use Rattle.bench_points.specs.InCode.{Links};
 
 pub fn link_points(s: State, p: u8, q: u8, metric: u32, links: &mut [[u32; 16]; 16]) -> Done
     requires { ⌜ s .points ≤ 16 ⌝ }

@@ -21,15 +21,14 @@ use Rattle.calls.specs.Answers.{answerOf, tableExitOf}
 use Rattle.walk.specs.declared.Ending.{Ending}
 use Rattle.walk.specs.declared.Walked.{Walked as InNumbers}
 use Rattle.walk.specs.Answers.{walkDecision, numbersOf}
-use Rattle.bench_core.specs.declared.State.{State}
-use Rattle.bench_core.specs.declared.Done.{Done}
-use Rattle.bench_core.specs.declared.Done.the-variants.{Fault}
+use Rattle.bench_points.specs.declared.State.{State}
+use Rattle.bench_points.specs.declared.Done.{Done}
+use Rattle.bench_points.specs.declared.Done.the-variants.{Fault}
 use Rattle.bench_links.specs.Links.{linked}
 use Rattle.bench_rules.specs.Commands.{addPoint, advance, link, walkedLine, walkTo}
-use Rattle.bench_core.specs.InCode.{benchOf, printed, Adds, Advances, Links, Walks}
+use Rattle.bench_points.specs.InCode.{benchOf, printed, Adds, Advances, Links, Walks}
 use Rattle.bench_slots.proofs.Slots.{front-long}
-use Rattle.bench_core.proofs.Settling.{put-back}
-use Rattle.bench_core.proofs.Calling.{lent-table}
+use Rattle.bench_points.proofs.Lending.{lent-table, put-back}
 
 -- ---- 1 point
 

@@ -12,7 +12,7 @@ ghost use lib.ListN.{length};
 ghost use Rattle.layout.specs.Row.{maxClock};
 ghost use Rattle.layout.specs.Address.{addressOf};
 ghost use Rattle.rules.specs.Walk.{tableAt};
-ghost use Rattle.bench_core.specs.InCode.{Adds, Advances, Walks};
+ghost use Rattle.bench_points.specs.InCode.{Adds, Advances, Walks};
 
 pub const MOST_POINTS: usize = 16;
 

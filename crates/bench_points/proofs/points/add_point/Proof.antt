@@ -1,8 +1,8 @@
--- `bench_core::points::add_point` meets its contract: a 17th point, refused, or added.
+-- `bench_points::points::add_point` meets its contract: a 17th point, refused, or added.
 use borrow.Author.Needs.{needs}
-use Rattle.bench_core.proofs.Silent.{seventeenth, not-added, point-added}
-use Rattle.bench_core.proofs.points.add_point.Statement.{statement}
-use Rattle.bench_core.proofs.points.add_point.Tie as tie
+use Rattle.bench_points.proofs.Silent.{seventeenth, not-added, point-added}
+use Rattle.bench_points.proofs.points.add_point.Statement.{statement}
+use Rattle.bench_points.proofs.points.add_point.Tie as tie
 
 pub add-point-spec : {M : Type 1} → statement M
 add-point-spec =

@@ -1,0 +1,2 @@
+pub mod Lending
+mod Silent

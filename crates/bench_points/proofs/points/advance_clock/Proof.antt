@@ -1,0 +1,14 @@
+-- `bench_points::points::advance_clock` meets its contract: too late, or advanced.
+use borrow.Author.Needs.{needs}
+use Rattle.bench_points.proofs.Silent.{too-late, advanced}
+use Rattle.bench_points.proofs.points.advance_clock.Statement.{statement}
+use Rattle.bench_points.proofs.points.advance_clock.Tie as tie
+
+pub advance-clock-spec : {M : Type 1} → statement M
+advance-clock-spec =
+    tie.close
+    (tie.spec
+    (λ c. search needs)
+    (λ c. search too-late)
+    (λ c κs. search needs)
+    (λ c. search advanced))
