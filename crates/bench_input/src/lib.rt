@@ -7,7 +7,7 @@ ghost use lib.Dec.{eqb};
 ghost use Prim.Native.Nat.{_+_, _-_, _<_, _≤_};
 ghost use lib.ListN.{drop, length, take};
 ghost use Rattle.bench_rules.specs.Interpreter.{isCut};
-ghost use Rattle.bench_input.specs.Reading.{Extends, Keeps, Unread, left};
+ghost use Rattle.bench_input.specs.Reading.{Extends, Keeps, Unread, left, past};
 
 // Which octets of the buffer are still to be obeyed, whether standard input has ended, and the offset of the first of them.
 pub struct Cursor {
@@ -97,7 +97,7 @@ pub fn refill(buffer: &mut [u8], c: Cursor) -> Cursor
 pub fn go_past(c: Cursor, used: usize) -> Cursor
     requires { ⌜ c .from + used < 18446744073709551616 ⌝ }
     requires { ⌜ c .offset + used < 18446744073709551616 ⌝ }
-    ensures { λ r. ⌜ r ≡ record { from = c .from + used; filled = c .filled; last = c .last; offset = c .offset + used } ⌝ }
+    ensures { λ r. ⌜ r ≡ past c used ⌝ }
 {
     let from = c.from;
     let offset = c.offset;

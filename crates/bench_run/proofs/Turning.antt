@@ -19,9 +19,9 @@ use Rattle.bench_core.proofs.Starting.{memory-at-start}
 use Rattle.bench_input.specs.declared.Cursor.{Cursor}
 use Rattle.bench_run.specs.declared.block.Progress.{Progress}
 use Rattle.bench_run.specs.declared.turn.Turn.{Turn}
-use Rattle.bench_input.specs.Reading.{left, Unread, Extends}
+use Rattle.bench_input.specs.Reading.{left, past, Unread, Extends}
 use Rattle.bench_run.specs.Blocks.{stateOf, standing, courseOf, pausesIn, Stands}
-use Rattle.bench_run.specs.Turns.{Reached, Ready, GoesOn, isOver, blockCourse, EndsWith}
+use Rattle.bench_run.specs.Turns.{Reached, Ready, GoesOn, isOver, blockCourse, Turned, ReadAndTurned}
 
 drop-take : (k n : ℕ) (s : List ℕ) → k ≤ n → k ≤ length s → drop k (take n s) ≡ take (n - k) (drop k s)
 drop-take k n s l m =
@@ -86,11 +86,11 @@ module _ (c : Cursor) (s : State) (buffer tables slots : List ℕ) (links : List
     (pe : courseOf p (c .offset) tables′ slots′ links′ text′
     ≡ obeyUntil (pausesIn last room) (length (left c buffer)) (going [] (standing s (c .offset) tables slots links)) (left c buffer))
     (st : Stands p (length (left c buffer)) tables′ slots′ text′)
-    (past : Cursor) (ce : past ≡ record { from = c .from + p .used; filled = c .filled; last = c .last; offset = c .offset + p .used }) where
+    (after : Cursor) (ce : after ≡ past c (p .used)) where
   few : p .used ≤ c .filled - c .from
   few = omega (arith, st .used, length-take (c .filled - c .from) (drop (c .from) buffer))
 
-  some-left : drop (p .used) (left c buffer) ≡ left past buffer
+  some-left : drop (p .used) (left c buffer) ≡ left after buffer
   some-left =
       let inside = length-take (c .filled - c .from) (drop (c .from) buffer) in
       let places : c .filled - c .from - p .used ≡ c .filled - (c .from + p .used) = omega arith in
@@ -98,7 +98,7 @@ module _ (c : Cursor) (s : State) (buffer tables slots : List ℕ) (links : List
       ∙ ap₂ (λ (n : ℕ) (r : List ℕ). take n r) places (drop-drop (p .used) (c .from) buffer)
       ∙ ap (λ (k : Cursor). left k buffer) (sym ce)
 
-  pub turned : (over : Bool) → GoesOn (record { ended = p .ended || over; cursor = past; state = stateOf p }) buffer tables′ slots′ links′
+  pub turned : (over : Bool) → GoesOn (record { ended = p .ended || over; cursor = after; state = stateOf p }) buffer tables′ slots′ links′
   turned over = record { ready = λ e. by (p .ended) refl e }
     where
       x : Standing
@@ -107,7 +107,7 @@ module _ (c : Cursor) (s : State) (buffer tables slots : List ℕ) (links : List
       x′ : Standing
       x′ = standing (stateOf p) (c .offset + p .used) tables′ slots′ links′
 
-      reached : p .ended ≡ false → Reached x′ (left past buffer)
+      reached : p .ended ≡ false → Reached x′ (left after buffer)
       reached q =
           let course : obeyUntil (pausesIn last room) (length (left c buffer)) (going [] x) (left c buffer) ≡ going (take (p .written) text′) x′ = sym pe ∙ rw q in
           let leads : Leads [] x (left c buffer) (take (p .written) text′) x′ =
@@ -116,17 +116,17 @@ module _ (c : Cursor) (s : State) (buffer tables slots : List ℕ) (links : List
           subst (Reached x′) (ap (λ (k : ℕ). drop k (left c buffer)) used ∙ some-left)
           (part-reached x (left c buffer) (take (p .written) text′) x′ (ready .reached) leads)
 
-      by : (b : Bool) → p .ended ≡ b → (b || over) ≡ false → Ready past (stateOf p) buffer tables′ slots′ links′
+      by : (b : Bool) → p .ended ≡ b → (b || over) ≡ false → Ready after (stateOf p) buffer tables′ slots′ links′
       by true q e = clash cc
       by false q e =
           let r = reached q in
           record {
             memory = st .memory q;
             unread = rw ce (record { forward = omega (arith, few, ready .unread .forward); inside = ready .unread .inside });
-            reached = subst (λ (k : ℕ). Reached (standing (stateOf p) k tables′ slots′ links′) (left past buffer)) (sym (ap (λ (k : Cursor). k .offset) ce)) r;
+            reached = subst (λ (k : ℕ). Reached (standing (stateOf p) k tables′ slots′ links′) (left after buffer)) (sym (ap (λ (k : Cursor). k .offset) ce)) r;
           }
 
-  pub offset-near : past .offset ≤ c .offset + length buffer
+  pub offset-near : after .offset ≤ c .offset + length buffer
   offset-near = omega (arith, few, ready .unread .inside, ap (λ (k : Cursor). k .offset) ce)
 
 -- ---- the end
@@ -138,43 +138,47 @@ same-past o a b = by (eqb a b) refl
     by true e = eq-eqb (o + a) (o + b) (ap (λ (n : ℕ). o + n) (eqb-true a b e))
     by false e = ne-eqb (o + a) (o + b) (λ q. eqb-false a b e (omega (arith, q)))
 
--- a block is obeyed: its length is n
-pub block-ends : (c : Cursor) (buffer : List ℕ) → Unread c buffer → (s : State) (tables slots : List ℕ) (links : List (List ℕ)) (room : ℕ)
+-- a block is obeyed
+pub block-turned : (c : Cursor) (s : State) (buffer tables slots : List ℕ) (links : List (List ℕ)) → Ready c s buffer tables slots links → (room : ℕ)
     (p : Progress) (tables′ slots′ : List ℕ) (links′ : List (List ℕ)) (text′ : List ℕ)
     → courseOf p (c .offset) tables′ slots′ links′ text′ ≡ blockCourse (c .last) room (standing s (c .offset) tables slots links) (left c buffer)
-    → (past : Cursor)
-    → EndsWith (record { ended = p .ended || (c .last && eqb (p .used) (c .filled - c .from)); cursor = past; state = stateOf p }) room
-    (standing s (c .offset) tables slots links) (left c buffer)
-block-ends c buffer unread s tables slots links room p tables′ slots′ links′ text′ pe past =
+    → (after : Cursor) → after ≡ past c (p .used)
+    → Turned (record { ended = p .ended || (c .last && eqb (p .used) (c .filled - c .from)); cursor = after; state = stateOf p }) room
+    (standing s (c .offset) tables slots links) c buffer tables′ slots′ links′
+block-turned c s buffer tables slots links ready room p tables′ slots′ links′ text′ pe after ae =
     record {
-      last = c .last;
-      block = left c buffer;
-      extends = record { more = []; is = sym (append-nil (left c buffer)) };
-      is = by (p .ended) refl ∙ ap (isOver (c .last) (c .offset + length (left c buffer))) pe;
+      ended = by (p .ended) refl ∙ ap (isOver (c .last) (c .offset + length (left c buffer))) pe;
+      used = p .used;
+      cursor = ae;
+      text = take (p .written) text′;
+      course = λ e. sym pe ∙ goes (p .ended) refl e ∙ ap (λ (k : ℕ). going (take (p .written) text′) (standing (stateOf p) k tables′ slots′ links′)) (sym (ap (λ (k : Cursor). k .offset) ae));
     }
   where
     long : length (left c buffer) ≡ c .filled - c .from
-    long = let k = unread .inside in omega (arith, length-take (c .filled - c .from) (drop (c .from) buffer), length-drop (c .from) buffer, k)
+    long = let k = ready .unread .inside in omega (arith, length-take (c .filled - c .from) (drop (c .from) buffer), length-drop (c .from) buffer, k)
 
-    by : (b : Bool) → p .ended ≡ b
-        → (b || (c .last && eqb (p .used) (c .filled - c .from)))
-        ≡ isOver (c .last) (c .offset + length (left c buffer))
-        (cond b (ended (take (p .written) text′)) (going (take (p .written) text′) (standing (stateOf p) (c .offset + p .used) tables′ slots′ links′)))
+    by : (b : Bool) → p .ended ≡ b → (b || (c .last && eqb (p .used) (c .filled - c .from))) ≡ isOver (c .last) (c .offset + length (left c buffer)) (cond b (ended (take (p .written) text′)) (going (take (p .written) text′) (standing (stateOf p) (c .offset + p .used) tables′ slots′ links′)))
     by true e = refl
     by false e = ap (λ (k : Bool). c .last && k) (sym (ap (λ (n : ℕ). eqb (c .offset + p .used) (c .offset + n)) long ∙ same-past (c .offset) (p .used) (c .filled - c .from)))
 
--- and what was left before more was read begins the block
-pub turn-ends : (t : Turn) (room : ℕ) (s : State) (offset : ℕ) (tables slots : List ℕ) (links : List (List ℕ)) (l l′ : List ℕ) (offset′ : ℕ)
-    → EndsWith t room (standing s offset′ tables slots links) l′ → offset′ ≡ offset → Extends l l′
-    → EndsWith t room (standing s offset tables slots links) l
-turn-ends t room s offset tables slots links l l′ offset′ e oe m =
-    rw (← oe)
-    (record {
-      last = e .last;
-      block = e .block;
-      extends = record { more = m .more ++ e .extends .more; is = e .extends .is ∙ ap (λ (s : List ℕ). s ++ e .extends .more) (m .is) ∙ append-assoc l (m .more) (e .extends .more) };
-      is = e .is;
-    })
+    goes : (b : Bool) → p .ended ≡ b → (b || (c .last && eqb (p .used) (c .filled - c .from))) ≡ false
+        → cond b (ended (take (p .written) text′)) (going (take (p .written) text′) (standing (stateOf p) (c .offset + p .used) tables′ slots′ links′))
+        ≡ going (take (p .written) text′) (standing (stateOf p) (c .offset + p .used) tables′ slots′ links′)
+    goes true e k = clash cc
+    goes false e k = refl
+
+-- after more was read
+pub read-and-turned : (t : Turn) (room : ℕ) (s : State) (c : Cursor) (tables slots : List ℕ) (links : List (List ℕ)) (l : List ℕ)
+    (unread : Cursor) (buffer tables′ slots′ : List ℕ) (links′ : List (List ℕ))
+    → Turned t room (standing s (unread .offset) tables slots links) unread buffer tables′ slots′ links′ → unread .offset ≡ c .offset
+    → Extends l (left unread buffer) → ReadAndTurned t room (standing s (c .offset) tables slots links) l buffer tables′ slots′ links′
+read-and-turned t room s c tables slots links l unread buffer tables′ slots′ links′ turned oe m =
+    record {
+      unread = unread;
+      offset = oe;
+      extends = m;
+      turned = subst (λ (k : ℕ). Turned t room (standing s k tables slots links) unread buffer tables′ slots′ links′) oe turned;
+    }
 
 pub still-ready : (t : Turn) (buffer tables slots : List ℕ) (links : List (List ℕ)) → GoesOn t buffer tables slots links → t .ended ≡ false
     → Ready (t .cursor) (t .state) buffer tables slots links

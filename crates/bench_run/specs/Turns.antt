@@ -10,7 +10,7 @@ use Rattle.bench_points.specs.declared.State.{State}
 use Rattle.bench_core.specs.InCode.{Memory}
 use Rattle.bench_input.specs.declared.Cursor.{Cursor}
 use Rattle.bench_run.specs.declared.turn.Turn.{Turn}
-use Rattle.bench_input.specs.Reading.{left, Unread, Extends}
+use Rattle.bench_input.specs.Reading.{left, past, Unread, Extends}
 use Rattle.bench_run.specs.Blocks.{standing, pausesIn}
 
 -- The bench stands where some input has led it: whatever comes in yet, obeying all of the input from the start is going on from
@@ -39,9 +39,21 @@ pub record Ready (c : Cursor) (s : State) (buffer tables slots : List ℕ) (link
 pub record GoesOn (t : Turn) (buffer tables slots : List ℕ) (links : List (List ℕ)) : Type 0 where
   pub ready : t .ended ≡ false → Ready (t .cursor) (t .state) buffer tables slots links
 
--- a turn has ended the bench exactly if the octets that were left, and those that came behind them, bring it to its end
-pub record EndsWith (t : Turn) (room : ℕ) (x : Standing) (left : List ℕ) : Type 0 where
-  pub last : Bool
-  pub block : List ℕ
-  pub extends : Extends left block
-  pub is : t .ended ≡ isOver last (x .offset + length block) (blockCourse last room x block)
+-- What a turn leaves that obeyed these octets from x: the bench has ended exactly if the octets bring it to its end, and else it
+-- stands where they bring it, with the cursor behind those that were obeyed.
+pub record Turned (t : Turn) (room : ℕ) (x : Standing) (c : Cursor) (buffer tables slots : List ℕ) (links : List (List ℕ))
+    : Type 0 where
+  pub ended : t .ended ≡ isOver (c .last) (x .offset + length (left c buffer)) (blockCourse (c .last) room x (left c buffer))
+  pub used : ℕ
+  pub cursor : t .cursor ≡ past c used
+  pub text : List ℕ
+  pub course : t .ended ≡ false
+      → blockCourse (c .last) room x (left c buffer) ≡ going text (standing (t .state) (t .cursor .offset) tables slots links)
+
+-- where more may have been read behind the octets that were left
+pub record ReadAndTurned (t : Turn) (room : ℕ) (x : Standing) (left₀ buffer tables slots : List ℕ) (links : List (List ℕ))
+    : Type 0 where
+  pub unread : Cursor
+  pub offset : unread .offset ≡ x .offset
+  pub extends : Extends left₀ (left unread buffer)
+  pub turned : Turned t room x unread buffer tables slots links

@@ -115,7 +115,7 @@ fn step(
 }
 
 // All whole commands of a block, as long as the text has room; of the last block the one that is cut too.
-fn obey_block(
+pub fn obey_block(
     block: &[u8],
     last: bool,
     offset: u64,
@@ -155,31 +155,9 @@ fn obey_block(
     p
 }
 
-fn print(text: &[u8], n: usize)
+// Sends the first n octets of the text.
+pub fn print(text: &[u8], n: usize)
     requires { ⌜ n ≤ length (now text) ⌝ }
 {
     io::write_all(STDOUT_FILENO, &text[..n]);
-}
-
-// A block, and its lines printed at once. The bench ends with the last of the input, or at a fault.
-pub fn obey_and_print(
-    block: &[u8],
-    last: bool,
-    offset: u64,
-    s: State,
-    tables: &mut [u8],
-    slots: &mut [u8],
-    links: &mut [[u32; 16]; 16],
-    text: &mut [u8],
-) -> Progress
-    requires { ⌜ Memory s (now tables) (now slots) ⌝ }
-    requires { ⌜ offset + length (now block) < 18446744073709551616 ⌝ }
-    ensures { λ r. ⌜ courseOf r offset (now (tables .exit)) (now (slots .exit)) (now (links .exit)) (now (text .exit))
-        ≡ obeyUntil (pausesIn last (length (now (text .entry)))) (length (now (block .entry)))
-        (going [] (standing s offset (now (tables .entry)) (now (slots .entry)) (now (links .entry)))) (now (block .entry)) ⌝ }
-    ensures { λ r. ⌜ Stands r (length (now (block .entry))) (now (tables .exit)) (now (slots .exit)) (now (text .exit)) ⌝ }
-{
-    let p = obey_block(block, last, offset, s, tables, slots, links, text);
-    print(text, p.written);
-    p
 }

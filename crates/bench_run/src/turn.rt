@@ -6,7 +6,7 @@ ghost use Prim.Native.Nat.{_+_, _<_, _≤_};
 ghost use lib.ListN.{length};
 ghost use Rattle.bench_input.specs.Reading.{left};
 ghost use Rattle.bench_run.specs.Blocks.{standing};
-ghost use Rattle.bench_run.specs.Turns.{EndsWith, GoesOn, Ready};
+ghost use Rattle.bench_run.specs.Turns.{GoesOn, ReadAndTurned, Ready, Turned};
 
 // Whether the bench has ended, which octets are still to be obeyed, and what it holds beside its memory.
 pub struct Turn {
@@ -15,7 +15,7 @@ pub struct Turn {
     pub state: State,
 }
 
-// Obeys what has been read. The bench ends at a fault, or with the last of the input.
+// Obeys what has been read, and prints its lines at once. The bench ends at a fault, or with the last of the input.
 fn obey_unread(
     c: Cursor,
     s: State,
@@ -29,15 +29,17 @@ fn obey_unread(
     requires { ⌜ c .offset + length (now buffer) < 18446744073709551616 ⌝ }
     ensures { λ r. ⌜ GoesOn r (now (buffer .entry)) (now (tables .exit)) (now (slots .exit)) (now (links .exit)) ⌝ }
     ensures { λ r. ⌜ r .cursor .offset ≤ c .offset + length (now (buffer .entry)) ⌝ }
-    ensures { λ r. ⌜ EndsWith r (length (now (text .entry)))
+    ensures { λ r. ⌜ Turned r (length (now (text .entry)))
         (standing s (c .offset) (now (tables .entry)) (now (slots .entry)) (now (links .entry)))
-        (left c (now (buffer .entry))) ⌝ }
+        c (now (buffer .entry)) (now (tables .exit)) (now (slots .exit)) (now (links .exit)) ⌝ }
 {
     let from = c.from;
     let filled = c.filled;
     let last = c.last;
+    let long = filled - from;
     let block = &buffer[from..filled];
-    let p = block::obey_and_print(block, last, c.offset, s, tables, slots, links, text);
+    let p = block::obey_block(block, last, c.offset, s, tables, slots, links, text);
+    block::print(text, p.written);
     let used = p.used;
     let cursor = bench_input::go_past(c, used);
     let state = State {
@@ -46,7 +48,7 @@ fn obey_unread(
         clock: p.clock,
     };
     Turn {
-        ended: p.ended | (last & (used == filled - from)),
+        ended: p.ended | (last & (used == long)),
         cursor,
         state,
     }
@@ -65,9 +67,9 @@ pub fn take_turn(
     requires { ⌜ c .offset + length (now buffer) < 18446744073709551616 ⌝ }
     ensures { λ r. ⌜ GoesOn r (now (buffer .exit)) (now (tables .exit)) (now (slots .exit)) (now (links .exit)) ⌝ }
     ensures { λ r. ⌜ r .cursor .offset ≤ c .offset + length (now (buffer .entry)) ⌝ }
-    ensures { λ r. ⌜ EndsWith r (length (now (text .entry)))
+    ensures { λ r. ⌜ ReadAndTurned r (length (now (text .entry)))
         (standing s (c .offset) (now (tables .entry)) (now (slots .entry)) (now (links .entry)))
-        (left c (now (buffer .entry))) ⌝ }
+        (left c (now (buffer .entry))) (now (buffer .exit)) (now (tables .exit)) (now (slots .exit)) (now (links .exit)) ⌝ }
 {
     let unread = bench_input::refill(buffer, c);
     obey_unread(unread, s, buffer, tables, slots, links, text)

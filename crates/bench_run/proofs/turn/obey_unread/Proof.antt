@@ -1,6 +1,6 @@
 -- `bench_run::turn::obey_unread` meets its contract: what is left is obeyed from where the bench stands.
 use borrow.Author.Needs.{needs}
-use Rattle.bench_run.proofs.Turning.{turned, offset-near, block-ends}
+use Rattle.bench_run.proofs.Turning.{turned, offset-near, block-turned}
 use Rattle.bench_run.proofs.turn.obey_unread.Statement.{statement}
 use Rattle.bench_run.proofs.turn.obey_unread.Tie as tie
 
@@ -11,10 +11,11 @@ obey-unread-spec =
     (λ c. search needs)
     (λ c. search needs)
     (λ c. search needs)
+    (λ c. search needs)
     (λ c κs. search needs)
     (λ c κs. search needs)
+    (λ c κs. search needs)
     (λ c. search needs)
     (λ c. search needs)
     (λ c. search needs)
-    (λ c. search needs)
-    (λ c. (search turned, (search offset-near, search block-ends))))
+    (λ c. (search turned, (search offset-near, search block-turned))))

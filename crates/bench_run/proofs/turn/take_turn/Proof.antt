@@ -1,6 +1,6 @@
 -- `bench_run::turn::take_turn` meets its contract: what has been read is obeyed from where the bench stands.
 use borrow.Author.Needs.{needs}
-use Rattle.bench_run.proofs.Turning.{refilled, turn-ends}
+use Rattle.bench_run.proofs.Turning.{refilled, read-and-turned}
 use Rattle.bench_run.proofs.turn.take_turn.Statement.{statement}
 use Rattle.bench_run.proofs.turn.take_turn.Tie as tie
 
@@ -14,4 +14,4 @@ take-turn-spec =
     (λ c. search needs)
     (λ c. search needs)
     (λ c. search needs)
-    (λ c. (search needs, (search needs, search turn-ends))))
+    (λ c. (search needs, (search needs, search read-and-turned))))
