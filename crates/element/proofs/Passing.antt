@@ -10,7 +10,7 @@ use Rattle.element.specs.declared.Kind.{Kind}
 use Rattle.element.specs.declared.Kind.the-variants.{Rann, Rreq, Rrep, Rerr}
 use Rattle.element.specs.Layout.{known, kindWith, fits, idOf, lengthWith, countOk}
 use Rattle.element.specs.Octets.{kindIn, countAs, wrongLength, otherId, misfit}
-use Rattle.octets.proofs.Tests.{both, clash}
+use Rattle.octets.proofs.Tests.{both, neither}
 
 -- an ID is known if it is that of the type it gives
 pub known-is : (id : ℕ) → known id ≡ eqb id (idOf (kindWith id))
@@ -24,15 +24,11 @@ known-is id = by (eqb id 126) (eqb id 130) (eqb id 131) refl refl refl
     by false false true ae be ce = sym ce
     by false false false ae be ce = refl
 
-either-false : (a b : Bool) → (a || b) ≡ false → (a ≡ false) × (b ≡ false)
-either-false true b e = clash cc
-either-false false b e = (refl, e)
-
 -- octets that pass 6 are as many as Length says
 pub length-right : (s : List ℕ) → wrongLength s ≡ false → (2 ≤ length s) × (2 + getD s 1 0 ≡ length s)
 unfolding wrongLength
 length-right s e =
-    let f = either-false (ltb (length s) 2) (not (eqb (2 + getD s 1 0) (length s))) e in
+    let f = neither (ltb (length s) 2) (not (eqb (2 + getD s 1 0) (length s))) e in
     (ltb-false (length s) 2 (f .0), eqb-true (2 + getD s 1 0) (length s) (not-false (eqb (2 + getD s 1 0) (length s)) (f .1)))
 
 -- what octets of a type are that pass

@@ -1,13 +1,13 @@
 -- What the checks tell of an element that is accepted.
 use Prim.Native.Nat.{ℕ, _-_, _^_, _<_, _≤_}
-use mathlib.Core.Path.{_≡_, refl, sym, ap, subst, _∙_}
-use mathlib.Core.Bool.{Bool, true, false, not, _||_}
+use mathlib.Core.Path.{_≡_, sym, ap, subst, _∙_}
+use mathlib.Core.Bool.{Bool, true, false, not}
 use mathlib.Core.List.{List}
 use mathlib.Core.Option.{some, Option·none-ne-some, Option·some-injective}
 use lib.Dec.{eqb, ltb}
 use native.Mathlib.Omega.{arith}
 use borrow.Author.Tests.{ltb-false, eqb-false, not-false}
-use Rattle.octets.proofs.Tests.{clash}
+use Rattle.octets.proofs.Tests.{first-holds}
 use Rattle.octets.specs.LittleEndian.{Octets}
 use Rattle.octets.proofs.Laws.{FitFields}
 use Rattle.layout.specs.declared.address.Address.{Address}
@@ -45,19 +45,15 @@ path-fits (rreq q targets) f p is = subst PathFits (Option·some-injective (q .p
 path-fits (rrep q dependents) f p is = subst PathFits (Option·some-injective (q .path) p is) (search (f .fields))
 path-fits (rerr g destinations) f p is = absurd (Option·none-ne-some p is)
 
-first-false : (b c : Bool) → (not b || c) ≡ false → b ≡ true
-first-false true c e = refl
-first-false false c e = clash cc
-
 subject-individual : (e : Element) → hasBadAddress e ≡ false → (p : PathInfo) → pathOf e ≡ some p → individual (p .subject) ≡ true
 unfolding hasBadAddress
 subject-individual (rann q) ok p is = subst (λ (x : PathInfo). individual (x .subject) ≡ true) (Option·some-injective q p is) (not-false _ ok)
 subject-individual (rreq q targets) ok p is =
     subst (λ (x : PathInfo). individual (x .subject) ≡ true) (Option·some-injective (q .path) p is)
-    (first-false (individual (q .path .subject)) (anyForbidden Targets (targetAddresses targets)) ok)
+    (first-holds (individual (q .path .subject)) (anyForbidden Targets (targetAddresses targets)) ok)
 subject-individual (rrep q dependents) ok p is =
     subst (λ (x : PathInfo). individual (x .subject) ≡ true) (Option·some-injective (q .path) p is)
-    (first-false (individual (q .path .subject)) (not (individual (q .source .address))) ok)
+    (first-holds (individual (q .path .subject)) (not (individual (q .source .address))) ok)
 subject-individual (rerr g destinations) ok p is = absurd (Option·none-ne-some p is)
 
 other-of : (a x : Address) → individual x ≡ true → same x a ≡ false → isOther a x ≡ true

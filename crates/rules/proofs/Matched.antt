@@ -2,11 +2,12 @@
 -- number beside it. The rules say which destinations match (`matches`) and which rows are changed (`isMatch`, `erred`) in two
 -- definitions; where no destination stands twice they agree.
 use mathlib.Core.Path.{_≡_, refl, sym, ap, _∙_}
-use mathlib.Core.Bool.{Bool, true, false, _||_, and-true}
+use mathlib.Core.Bool.{false, and-true}
 use mathlib.Core.List.{List, [], _∷_}
 use mathlib.Core.Option.{Option, some}
 use Prim.Native.Nat.{ℕ}
 use borrow.Author.Tests.{eq-eqb, ne-eqb, eqb-false}
+use Rattle.octets.proofs.Tests.{neither}
 use Rattle.counters.specs.declared.SequenceNumber.{SequenceNumber}
 use Rattle.layout.specs.declared.address.Address.{Address}
 use Rattle.layout.specs.declared.row.Row.{Row}
@@ -20,24 +21,13 @@ use Rattle.rules.specs.Errors.{isLostBy, matches, numberBeside, isMatch,
 use Rattle.rules.specs.Receive.{lostAddresses}
 use Rattle.rules.proofs.Alls.{all-implies}
 
--- the first of two tests that both fail, and the second
-first-fails : (a b : Bool) → (a || b) ≡ false → a ≡ false
-first-fails false b e = refl
-first-fails true b e = e
-
-second-fails : (a b : Bool) → (a || b) ≡ false → b ≡ false
-second-fails false b e = e
-second-fails true false e = refl
-second-fails true true e = e
-
 -- an address that is not among those of a list is none of them
 apart : (d : Address) (named : List LostDestination) → contains (lostAddresses named) d ≡ false → All (λ (m : LostDestination). same (m .address) d ≡ false) named
 unfolding contains All
 apart d [] e = tt
-apart d (m ∷ named) e = (
-  first-fails (same (m .address) d) (contains (lostAddresses named) d) e,
-  apart d named (second-fails (same (m .address) d) (contains (lostAddresses named) d) e),
-)
+apart d (m ∷ named) e =
+    let other = neither (same (m .address) d) (contains (lostAddresses named) d) e in
+    (other .0, apart d named (other .1))
 
 -- the number beside a destination that is named once
 module _ (m : LostDestination) (named : List LostDestination) where
@@ -56,9 +46,9 @@ beside-each : (named : List LostDestination) → hasDuplicate (lostAddresses nam
 unfolding All numberBeside hasDuplicate
 beside-each [] e = tt
 beside-each (m ∷ named) e =
-    let once = first-fails (contains (lostAddresses named) (m .address)) (hasDuplicate (lostAddresses named)) e in
-    let rest = beside-each named (second-fails (contains (lostAddresses named) (m .address)) (hasDuplicate (lostAddresses named)) e) in
-    (rw (eq-eqb (m .address .0) (m .address .0) refl), beside-others m named named (apart (m .address) named once) rest)
+    let once = neither (contains (lostAddresses named) (m .address)) (hasDuplicate (lostAddresses named)) e in
+    let rest = beside-each named (once .1) in
+    (rw (eq-eqb (m .address .0) (m .address .0) refl), beside-others m named named (apart (m .address) named (once .0)) rest)
 
 -- the row of a destination that is named, with the number beside it
 module _ (t : List ℕ) (c : ℕ) (transmitter : Address) (named : List LostDestination) (m : LostDestination) (b : numberBeside (m .address) named ≡ some (m .number))

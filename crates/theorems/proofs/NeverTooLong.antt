@@ -1,7 +1,7 @@
 -- Within the premise no walk answers 42: with as many hops as points it would meet one point more than there are, none twice.
 use Prim.Native.Nat.{ℕ, zero, suc, _+_, _*_, _/_, _^_, _<_, _≤_}
 use mathlib.Core.Path.{_≡_, refl, sym, ap, ap₂, subst, _∙_}
-use mathlib.Core.Bool.{Bool, true, false, not, _&&_, _||_, cond}
+use mathlib.Core.Bool.{Bool, true, false, _&&_, _||_, cond}
 use mathlib.Core.List.{List, [], _∷_, _++_, map, flatMap, append-assoc}
 use mathlib.Core.Option.{Option, none, some, Option·none-ne-some, Option·some-injective}
 use mathlib.Core.Logic.{_⊎_, inl, inr, ⊎-elim, ⊎-map}
@@ -11,7 +11,7 @@ use lib.Seq.{take-append-seam, drop-append-seam}
 use native.Mathlib.Nat.{mul-zero, mul-suc, mul-div-cancel}
 use native.Mathlib.Omega.{arith}
 use Rattle.octets.specs.LittleEndian.{fieldsAt}
-use Rattle.octets.proofs.Tests.{clash}
+use Rattle.octets.proofs.Tests.{first-holds}
 use Rattle.layout.specs.declared.address.Address.{Address}
 use Rattle.layout.specs.declared.row.Row.{Row}
 use Rattle.layout.specs.Address.{same}
@@ -91,10 +91,6 @@ module _ (a : Address) where
       by false rest = rest
 
 -- the test of 10 did not apply, so the start is a point
-start-passed : (a b : Bool) → (not a || b) ≡ false → a ≡ true
-start-passed true b e = refl
-start-passed false b e = clash cc
-
 -- ---- a step of the walk along active rows is one of the walk along valid rows
 
 active-is-valid : (c : ℕ) (b : Address) (o : Option Row) → activeNext c o ≡ some b → validNext o ≡ some b
@@ -208,7 +204,7 @@ module _ (m : Mesh) (c : ℕ) (d : Address) where
         let checks = walking s n c from d .checks in
         let cut : tablesIn s n ≡ tables = pieces (λ (l : Lent). l .table) long (m .boxes) alike in
         let start : contains (points (tablesIn s n)) from ≡ true =
-        start-passed (contains (points (tablesIn s n)) from) _ (passed-check 10 checks (p .0)) in
+        first-holds (contains (points (tablesIn s n)) from) _ (passed-check 10 checks (p .0)) in
         subst Ends (p .1) (rw cut (way-ends from (sym (is-point from (m .boxes)) ∙ (rw cut at start))))
 
 -- ---- after a list of calls

@@ -8,6 +8,7 @@ use lib.ListN.{length}
 use native.Mathlib.Omega.{arith}
 use native.Mathlib.Nat.{sub-zero}
 use borrow.Author.Tests.{eq-eqb, ne-eqb, not-true, not-false}
+use Rattle.octets.proofs.Tests.{first-holds}
 use Rattle.layout.specs.declared.address.Address.{Address}
 use Rattle.layout.specs.declared.row.Row.{Row}
 use Rattle.table.specs.declared.search.NextHop.{NextHop}
@@ -150,10 +151,6 @@ ended-there tables a d hops before = way-arrived tables 0 d 0 hops before a (res
 
 -- ---- the call, by what its checks answer
 
-contained-passed : (a b : Bool) → (not a || b) ≡ false → a ≡ true
-contained-passed true b e = refl
-contained-passed false b e = sym e
-
 module _ (s : List ℕ) (count c : ℕ) (start d : Address) (a : Answer) (ae : a ≡ answerTo (walking s count c start d .checks)) where
   abbrev way : Walked
   way = follow (tablesIn s count) c d count start 0
@@ -175,7 +172,7 @@ module _ (s : List ℕ) (count c : ℕ) (start d : Address) (a : Answer) (ae : a
 
     pub start-accepted : contains (points (tablesIn s count)) start ≡ true
     start-accepted =
-        contained-passed (contains (points (tablesIn s count)) start) (hasDuplicate (points (tablesIn s count)))
+        first-holds (contains (points (tablesIn s count)) start) (hasDuplicate (points (tablesIn s count)))
         (passed-check 10 (walking s count c start d .checks) walk-passed)
 
     pub count-accepted : 0 < count
