@@ -11,7 +11,7 @@ use Rattle.octets.proofs.Tests.{clash}
 use Rattle.bench_rules.specs.Bench.{WithLinks}
 use Rattle.bench_rules.specs.Interpreter.{lengthOf, command}
 use Rattle.bench_rules.specs.Text.{lineText, faultText}
-use Rattle.bench_rules.specs.Run.{obeyFirst, behind}
+use Rattle.bench_rules.specs.Run.{obeyFirst}
 use Rattle.bench_rules.proofs.Sound.{whole-command}
 use Rattle.bench_points.specs.declared.State.{State}
 use Rattle.bench_points.specs.declared.Printed.{Printed}

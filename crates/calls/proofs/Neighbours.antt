@@ -1,5 +1,5 @@
 -- What receive and break have in common: what their checks of operands say, and the head that they store.
-use Prim.Native.Nat.{ℕ, _≤_}
+use Prim.Native.Nat.{ℕ}
 use mathlib.Core.Path.{_≡_, ap, ap₂, _∙_}
 use mathlib.Core.List.{List}
 use lib.ListN.{length}

@@ -4,7 +4,7 @@ use counters::Metric;
 use element::PathInfo;
 use rules::Arrival;
 ghost use mathlib.Core.Path.{_≡_};
-ghost use Prim.Native.Nat.{_+_, _<_, _≤_};
+ghost use Prim.Native.Nat.{_<_, _≤_};
 ghost use Rattle.rules.specs.Learn.{hopsHere, maxMetric, metricHere, maxHops};
 
 // Received metric + link metric.

@@ -13,7 +13,7 @@ use table::search::Found;
 use table::store;
 ghost use mathlib.Core.Path.{_≡_};
 ghost use mathlib.Core.Bool.{_||_};
-ghost use Prim.Native.Nat.{_+_, _<_, _≤_};
+ghost use Prim.Native.Nat.{_≤_};
 ghost use Rattle.layout.specs.Row.{maxClock};
 ghost use Rattle.table.specs.Places.{isNothing};
 ghost use Rattle.table.specs.Table.{findRow, rowFor};

@@ -5,7 +5,7 @@ use element::list;
 use layout::address::Address;
 use rules::Arrival;
 ghost use mathlib.Core.Path.{_≡_};
-ghost use Prim.Native.Nat.{_+_, _<_, _≤_};
+ghost use Prim.Native.Nat.{_+_, _≤_};
 ghost use lib.ListN.{length};
 ghost use Rattle.rules.specs.Learn.{Extends};
 ghost use Rattle.octets.specs.LittleEndian.{overwrite};

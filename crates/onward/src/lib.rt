@@ -8,7 +8,7 @@ use calls::here;
 use element::PathInfo;
 use rules::Arrival;
 ghost use mathlib.Core.Path.{_≡_};
-ghost use Prim.Native.Nat.{_+_, _<_, _≤_};
+ghost use Prim.Native.Nat.{_≤_};
 ghost use Rattle.rules.specs.Learn.{Extends};
 ghost use Rattle.rules.specs.Onward.{onward};
 

@@ -7,7 +7,7 @@ use rules::Arrival;
 use table::search;
 use table::search::NextHop;
 ghost use mathlib.Core.Path.{_≡_};
-ghost use Prim.Native.Nat.{_+_, _<_, _≤_};
+ghost use Prim.Native.Nat.{_+_, _≤_};
 ghost use lib.ListN.{length};
 ghost use Rattle.rules.specs.Learn.{Extends};
 ghost use Rattle.octets.specs.LittleEndian.{overwrite};

@@ -11,7 +11,7 @@ use table::search;
 use table::search::NextHop;
 ghost use mathlib.Core.Path.{_≡_};
 ghost use mathlib.Core.Bool.{false};
-ghost use Prim.Native.Nat.{_+_, _<_, _≤_};
+ghost use Prim.Native.Nat.{_+_, _≤_};
 ghost use lib.ListN.{length};
 ghost use Rattle.rules.specs.Learn.{Extends};
 ghost use Rattle.octets.specs.LittleEndian.{overwrite};

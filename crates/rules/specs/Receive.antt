@@ -6,7 +6,7 @@
 --   rerrReceived, received                               of any type
 --   judging, readingOctets, receiving                    the rulings of an element, of octets and of the whole call
 --   receive                                              the decision
-use Prim.Native.Nat.{ℕ, _+_, _-_, _^_}
+use Prim.Native.Nat.{ℕ, _+_}
 use mathlib.Core.Bool.{Bool, false, not, _&&_, _||_, cond}
 use mathlib.Core.List.{List, _++_, map}
 use mathlib.Core.Option.{Option, none, some}

@@ -5,7 +5,7 @@
 --   leadsTo, follow                  where a row leads, and the way from an address on
 --   tableChecks, walking, walk       the checks of the tables, the ruling and the decision
 --   walkedAtExit                     the numbers that are returned
-use Prim.Native.Nat.{ℕ, zero, suc, _+_, _-_, _*_, _/_, _%_, _^_}
+use Prim.Native.Nat.{ℕ, zero, suc, _+_, _*_, _/_, _%_}
 use mathlib.Core.Bool.{Bool, not, _&&_, _||_, cond}
 use mathlib.Core.List.{List, [], _∷_, map}
 use mathlib.Core.Option.{Option, none, some}

@@ -1,5 +1,5 @@
 -- The definitions of `specs/` by cases, each as a `return` asks it: from what the calls before it gave, by `search`.
-use Prim.Native.Nat.{ℕ, _+_, _-_, _%_, _<_, _≤_}
+use Prim.Native.Nat.{ℕ, _+_, _-_, _%_, _≤_}
 use lib.Dec.{eqb, leb}
 use lib.ListN.{length}
 use mathlib.Core.Path.{_≡_, refl, sym, ap, _∙_}

@@ -1,7 +1,5 @@
 -- `bench_input::move_to_start` meets its contract: each octet is read before its place is written.
 use Prim.Native.Nat.{_-_, _≤_}
-use mathlib.Core.Path.{_≡_}
-use lib.ListN.{length}
 use borrow.Author.Needs.{needs}
 use Rattle.bench_input.proofs.Refilling.{Moved, moved-none, moved-more, moved-all}
 use Rattle.bench_input.proofs.move_to_start.Statement.{statement}
