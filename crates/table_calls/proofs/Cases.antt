@@ -17,19 +17,18 @@ use Rattle.layout.specs.Address.{individual}
 use Rattle.layout.specs.Row.{freeRow}
 use Rattle.layout.specs.Layout.{sized, place, headAt, rowAt, putRow, rowOctets}
 use Rattle.table.specs.Table.{isTable, findRow, rowFor, activeNext, hopIn, fresh, freed}
-use Rattle.table.proofs.Cases.{found-within, row-at, row-none}
+use Rattle.table.proofs.Cases.{row-at, row-none}
 use Rattle.rules.specs.Exit.{tableAtExit}
 use Rattle.rules.specs.Fresh.{makeFresh}
 use Rattle.rules.specs.Forget.{forget}
 use Rattle.rules.specs.NextHop.{nextHop}
 use Rattle.calls.specs.declared.Answer.the-variants.{Accepted, Refused}
-use Rattle.calls.proofs.Checks.{passes-1}
 use Rattle.table_calls.specs.declared.forget.Check.{Check}
 use Rattle.table_calls.specs.declared.forget.Check.the-variants.{Row, Refused as Refusal}
 use Rattle.table_calls.specs.declared.next_hop.Hop.the-variants.{Via, Refused as NoHop}
 use Rattle.calls.specs.Answers.{tableExitOf}
 use Rattle.table_calls.specs.Answers.{hopDecision}
-use Rattle.table_calls.specs.Checks.{ToFree}
+use Rattle.table_calls.specs.Checks.{forgetDecision, Inside}
 
 -- ---- make a fresh table
 
@@ -50,35 +49,35 @@ module _ (t : List ℕ) (d : Address) (s : SequenceNumber) (a : Bool) (ae : a �
 -- ---- forget a destination
 
 module _ (t : List ℕ) (d : Address) (a : Bool) (ae : a ≡ sized t) where
-  pub forget-1 : not a ≡ true → ToFree t d (Refusal 1)
+  pub forget-1 : not a ≡ true → forgetDecision t (Refusal 1) ≡ forget t d
   unfolding forget
   forget-1 no-a = cc
 
   module _ (yes-a : not a ≡ false) (b : Bool) (be : b ≡ individual d) where
-    pub forget-9 : not b ≡ true → ToFree t d (Refusal 9)
+    pub forget-9 : not b ≡ true → forgetDecision t (Refusal 9) ≡ forget t d
     unfolding forget
     forget-9 no-b = cc
 
     module _ (yes-b : not b ≡ false) (c : Bool) (ce : c ≡ isTable t) where
-      pub forget-21 : not c ≡ true → ToFree t d (Refusal 21)
+      pub forget-21 : not c ≡ true → forgetDecision t (Refusal 21) ≡ forget t d
       unfolding forget
       forget-21 no-c = cc
 
       module _ (yes-c : not c ≡ false) (f : Found) (fe : f ≡ findRow t d) where
-        pub forget-29 : f ≡ Nothing → ToFree t d (Refusal 29)
+        pub forget-29 : f ≡ Nothing → forgetDecision t (Refusal 29) ≡ forget t d
         unfolding forget
         forget-29 no-row = cc (row-none t d f fe no-row)
 
-        pub forget-row : (i : ℕ) → f ≡ At i → ToFree t d (Row i)
+        pub forget-row : (i : ℕ) → f ≡ At i → forgetDecision t (Row i) ≡ forget t d
         unfolding forget freed
-        forget-row i at-i = (found-within t d f i fe at-i (passes-1 t a ae yes-a), cc (row-at t d f fe i at-i (rowAt t i) refl))
+        forget-row i at-i = cc (row-at t d f fe i at-i (rowAt t i) refl)
 
-module _ (t : List ℕ) (d : Address) (k : Check) (ke : ToFree t d k) where
-  pub row-within : (i : ℕ) → k ≡ Row i → place i + rowOctets ≤ length t
-  row-within i at-i = (rw at-i at ke) .0
+pub row-within : (t : List ℕ) (k : Check) → Inside t k → (i : ℕ) → k ≡ Row i → place i + rowOctets ≤ length t
+row-within t k inside i at-i = rw at-i at inside
 
+module _ (t : List ℕ) (d : Address) (k : Check) (ke : forgetDecision t k ≡ forget t d) where
   pub forgotten : (i : ℕ) → k ≡ Row i → (r : TableRow) → r ≡ freeRow → (u : List ℕ) → u ≡ putRow t i r → tableExitOf Accepted u ≡ tableAtExit t (forget t d)
-  forgotten i at-i r re u ue = let e = (rw at-i at ke) .1 in cc
+  forgotten i at-i r re u ue = let e = rw at-i at ke in cc
 
   pub not-forgotten : (n : ℕ) → k ≡ Refusal n → tableExitOf (Refused n) t ≡ tableAtExit t (forget t d)
   not-forgotten n refusal = let e = rw refusal at ke in cc

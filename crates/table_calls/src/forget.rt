@@ -8,8 +8,9 @@ use table::search;
 use table::search::Found;
 ghost use mathlib.Core.Path.{_≡_};
 ghost use Rattle.rules.specs.Exits.{forgetExit};
+ghost use Rattle.rules.specs.Forget.{forget};
 ghost use Rattle.calls.specs.Answers.{tableExitOf};
-ghost use Rattle.table_calls.specs.Checks.{ToFree};
+ghost use Rattle.table_calls.specs.Checks.{Inside, forgetDecision};
 
 // The place of the row to free, or the refusal of lowest number.
 pub enum Check {
@@ -18,7 +19,8 @@ pub enum Check {
 }
 
 fn row_to_free(table: &[u8], destination: Address) -> Check
-    ensures { λ r. ⌜ ToFree (now (table .entry)) destination r ⌝ }
+    ensures { λ r. ⌜ forgetDecision (now (table .entry)) r ≡ forget (now (table .entry)) destination ⌝ }
+    ensures { λ r. ⌜ Inside (now (table .entry)) r ⌝ }
 {
     if !legal::is_sized(table) {
         return Check::Refused(refusals::TABLE_LENGTH);
