@@ -1,3 +1,3 @@
-mod Listed
 mod LostBy
+mod Listed
 mod LostRows

@@ -7,6 +7,11 @@ use lib.ListN.{length}
 use native.Mathlib.Omega.{arith}
 use borrow.Author.Tests.{not-true, not-false}
 use Rattle.octets.specs.LittleEndian.{overwrite}
+use Rattle.layout.specs.declared.row.Row.{Row}
+use Rattle.layout.specs.Layout.{rowAt}
+use Rattle.table.specs.declared.search.Found.{Found}
+use Rattle.table.specs.declared.search.Found.the-variants.{At, Nothing}
+use Rattle.table.specs.Table.{findRow}
 use Rattle.element.specs.declared.Kind.the-variants.{Rerr}
 use Rattle.element.specs.declared.LostDestination.{LostDestination}
 use Rattle.element.specs.declared.RerrFields.{RerrFields}
@@ -21,14 +26,15 @@ use Rattle.element.proofs.Scans.{each-length}
 use Rattle.element.proofs.Sizes.{frame-length}
 use Rattle.writing.proofs.Written.{lost-length, started-last}
 use Rattle.rules.specs.declared.Arrival.{Arrival}
-use Rattle.rules.specs.Errors.{matches}
+use Rattle.rules.specs.Errors.{isLostBy, matches}
 use Rattle.rules.specs.Lists.{filter}
 use Rattle.rules.specs.Onward.{toAll}
 use Rattle.rules.specs.Exit.{frameOctets}
 use Rattle.rules.proofs.Alls.{filter-fewer}
 use Rattle.rules.proofs.Branches.{cond-cases}
 use Rattle.rules.proofs.FrameOctets.{one-frame}
-use Rattle.matches.specs.Report.{matchOctets}
+use Rattle.matches.specs.Report.{matchOctets, octetsIf}
+use Rattle.matches.proofs.LostBy.{match-absent, match-found}
 
 -- those of these destinations that match
 abbrev matched : List ℕ → Arrival → List LostDestination → List LostDestination
@@ -36,21 +42,33 @@ matched t a named = filter (matches t (a .clock) (a .transmitter)) named
 
 -- ---- one destination: written, or not
 
+module _ (a : Arrival) (r : Row) (m : LostDestination) (b : Bool) (be : b ≡ isLostBy (a .clock) (a .transmitter) r) where
+  abbrev octetsByRow : List ℕ
+  octetsByRow = octetsIf (isLostBy (a .clock) (a .transmitter) r) m
+
+  pub row-not-lost : not b ≡ true → [] ≡ octetsByRow
+  unfolding octetsIf
+  row-not-lost e = rw (← be, not-true b e)
+
+  pub row-lost : not b ≡ false → lostOctets m ≡ octetsByRow
+  unfolding octetsIf
+  row-lost e = rw (← be, not-false b e)
+
+  pub lost-place : not b ≡ false → (at p : ℕ) → p ≡ at + 10 → p ≡ at + length octetsByRow
+  lost-place e at p pe = taken-place octetsByRow (lostOctets m) (row-lost e) at p 10 pe (lost-length m)
+
 module _ (t : List ℕ) (a : Arrival) (m : LostDestination) where
-  module _ (b : Bool) (be : b ≡ matches t (a .clock) (a .transmitter) m) where
-    pub no-match : not b ≡ true → [] ≡ matchOctets t a m
-    unfolding matchOctets
-    no-match e = rw (← be, not-true b e)
+  module _ (f : Found) (fe : f ≡ findRow t (m .address)) where
+    pub no-row : f ≡ Nothing → [] ≡ matchOctets t a m
+    unfolding matchOctets octetsIf
+    no-row e = rw (← match-absent t (a .clock) (a .transmitter) m f fe e)
 
-    pub one-match : not b ≡ false → lostOctets m ≡ matchOctets t a m
+    pub by-row : (i : ℕ) → f ≡ At i → (r : Row) → r ≡ rowAt t i → octetsIf (isLostBy (a .clock) (a .transmitter) r) m ≡ matchOctets t a m
     unfolding matchOctets
-    one-match e = rw (← be, not-false b e)
-
-    pub match-place : not b ≡ false → (at r : ℕ) → r ≡ at + 10 → r ≡ at + length (matchOctets t a m)
-    match-place e at r re = taken-place (matchOctets t a m) (lostOctets m) (one-match e) at r 10 re (lost-length m)
+    by-row i e r re = ap (λ (b : Bool). octetsIf b m) (match-found t (a .clock) (a .transmitter) m f fe i e r re _ refl)
 
   match-short : length (matchOctets t a m) ≤ 10
-  unfolding matchOctets
+  unfolding matchOctets octetsIf
   match-short =
       cond-cases (λ (l : List ℕ). length l ≤ 10) (matches t (a .clock) (a .transmitter) m) (λ _. omega (arith, lost-length m)) (λ _. omega arith)
 
@@ -58,7 +76,7 @@ module _ (t : List ℕ) (a : Arrival) (m : LostDestination) where
 
 pub matches-octets : (t : List ℕ) (a : Arrival) (named : List LostDestination)
     → flatMap (matchOctets t a) named ≡ flatMap lostOctets (matched t a named)
-unfolding matchOctets filter flatMap
+unfolding matchOctets octetsIf filter flatMap
 matches-octets t a [] = refl
 matches-octets t a (m ∷ named) = by (matches t (a .clock) (a .transmitter) m) (matches-octets t a named)
   where

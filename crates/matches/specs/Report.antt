@@ -1,12 +1,15 @@
 -- What the RERR that goes on has of a destination. For the code's own functions: `matches-octets` says that all of these are
 -- the octets of those that match.
 use Prim.Native.Nat.{ℕ}
-use mathlib.Core.Bool.{cond}
+use mathlib.Core.Bool.{Bool, cond}
 use mathlib.Core.List.{List, []}
 use Rattle.element.specs.declared.LostDestination.{LostDestination}
 use Rattle.element.specs.Entries.{lostOctets}
 use Rattle.rules.specs.declared.Arrival.{Arrival}
 use Rattle.rules.specs.Errors.{matches}
 
+unfoldable pub octetsIf : (goesOn : Bool) → LostDestination → List ℕ
+octetsIf goesOn m = cond goesOn (lostOctets m) []
+
 unfoldable pub matchOctets : List ℕ → Arrival → LostDestination → List ℕ
-matchOctets t a m = cond (matches t (a .clock) (a .transmitter) m) (lostOctets m) []
+matchOctets t a m = octetsIf (matches t (a .clock) (a .transmitter) m) m

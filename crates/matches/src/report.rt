@@ -4,7 +4,11 @@ use element::LostDestination;
 use element::RerrFields;
 use element::list;
 use layout::address::Address;
+use layout::row;
+use layout::row::Row;
 use rules::Arrival;
+use table::search;
+use table::search::Found;
 ghost use mathlib.Core.Path.{_≡_};
 ghost use mathlib.Core.List.{flatMap};
 ghost use Prim.Native.Nat.{_+_, _≤_};
@@ -15,14 +19,27 @@ ghost use Rattle.element.specs.Layout.{PartOf, sizeOf};
 ghost use Rattle.element.specs.declared.Kind.{Kind};
 ghost use Rattle.element.specs.declared.list.ListKind.{ListKind};
 ghost use Rattle.element.specs.Entries.{lostIn, lostOctets};
-ghost use Rattle.rules.specs.Errors.{matches};
+ghost use Rattle.rules.specs.Errors.{isLostBy, matches};
 ghost use Rattle.rules.specs.Lists.{filter};
 ghost use Rattle.rules.specs.Onward.{toAll};
 ghost use Rattle.rules.specs.Exit.{frameOctets};
-ghost use Rattle.matches.specs.Report.{matchOctets};
+ghost use Rattle.matches.specs.Report.{matchOctets, octetsIf};
 ghost use Rattle.layout.specs.Layout.{Sized};
 
-// Answers the place after it.
+// Writes a destination that has the row r, if the RERR makes that row lost; answers the place after it.
+fn write_if_lost(output: &mut [u8], at: usize, a: Arrival, r: Row, m: LostDestination) -> usize
+    requires { ⌜ at + sizeOf ListKind.LostDestinations ≤ length (now output) ⌝ }
+    ensures { λ p. ⌜ p ≡ at + length (octetsIf (isLostBy (a .clock) (a .transmitter) r) m) ⌝ }
+    ensures { λ _. ⌜ now (output .exit)
+        ≡ overwrite (now (output .entry)) at (octetsIf (isLostBy (a .clock) (a .transmitter) r) m) ⌝ }
+{
+    if !matching::is_lost_by(a, r) {
+        return at;
+    }
+    writing::write_lost(output, at, m)
+}
+
+// Writes a destination if it matches; answers the place after it.
 fn write_if_match(
     output: &mut [u8],
     at: usize,
@@ -35,10 +52,10 @@ fn write_if_match(
     ensures { λ r. ⌜ r ≡ at + length (matchOctets (now (table .entry)) a m) ⌝ }
     ensures { λ _. ⌜ now (output .exit) ≡ overwrite (now (output .entry)) at (matchOctets (now (table .entry)) a m) ⌝ }
 {
-    if !matching::is_match(table, a, m) {
-        return at;
+    match search::find_row(table, m.address) {
+        Found::At(i) => write_if_lost(output, at, a, row::read_row(table, i), m),
+        Found::Nothing => at,
     }
-    writing::write_lost(output, at, m)
 }
 
 // The matches of part, from place at on; answers the place after them.

@@ -2,7 +2,7 @@
 -- whole.
 use Prim.Native.Nat.{ℕ, suc, _+_, _-_, _*_, _/_, _<_, _≤_}
 use mathlib.Core.Path.{_≡_, sym, ap, _∙_}
-use mathlib.Core.List.{List, [], _∷_, _++_, flatMap}
+use mathlib.Core.List.{List, [], _++_, flatMap}
 use lib.ListN.{length, length-append}
 use native.Mathlib.Omega.{arith}
 use native.Mathlib.Nat.{add-zero, sub-zero, mul-zero, mul-suc, mul-comm, mul-le-mul-left, div-mul-le-self}
@@ -72,8 +72,11 @@ module _ (p : List ℕ) where
     skipped-written s at = ap (overwrite s at) none
 
   module _ (q : List ℕ) (these : q ≡ p) where
+    pub after-these : (at r : ℕ) → r ≡ at + length q → r ≡ at + length p
+    after-these at r e = e ∙ ap (λ (l : List ℕ). at + length l) these
+
     pub taken-place : (at r size : ℕ) → r ≡ at + size → length q ≡ size → r ≡ at + length p
-    taken-place at r size e long = e ∙ ap (λ (k : ℕ). at + k) (sym long ∙ ap length these)
+    taken-place at r size e long = after-these at r (e ∙ ap (λ (k : ℕ). at + k) (sym long))
 
     pub taken-written : (s v : List ℕ) (at : ℕ) → v ≡ overwrite s at q → v ≡ overwrite s at p
     taken-written s v at e = e ∙ ap (overwrite s at) these

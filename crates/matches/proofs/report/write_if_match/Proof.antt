@@ -1,7 +1,8 @@
--- `matches::report::write_if_match` meets its contract: it is written, or not.
+-- `matches::report::write_if_match` meets its contract: by the row, or without one.
 use borrow.Author.Needs.{needs}
-use Rattle.writing.proofs.Listing.{skipped-place, skipped-written, taken-written}
-use Rattle.matches.proofs.Listed.{no-match, one-match, match-place}
+use Rattle.table.proofs.Cases.{found-within}
+use Rattle.writing.proofs.Listing.{skipped-place, skipped-written, after-these, taken-written}
+use Rattle.matches.proofs.Listed.{no-row, by-row}
 use Rattle.matches.proofs.report.write_if_match.Statement.{statement}
 use Rattle.matches.proofs.report.write_if_match.Tie as tie
 
@@ -10,7 +11,10 @@ write-if-match-spec =
     tie.close
     (tie.spec
     (λ c κs. search needs)
-    (λ c. (search (skipped-place, no-match), search (skipped-written, no-match)))
+    (λ c. search needs)
+    (λ c κs. search found-within)
     (λ c κs. search needs)
     (λ c. search needs)
-    (λ c. (search match-place, search (taken-written, one-match))))
+    (λ c. search needs)
+    (λ c. (search (after-these, by-row), search (taken-written, by-row)))
+    (λ c. (search (skipped-place, no-row), search (skipped-written, no-row))))
