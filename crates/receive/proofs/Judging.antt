@@ -34,7 +34,8 @@ use Rattle.calls.specs.Answers.{answerTo, exitOf}
 use Rattle.calls.proofs.Checks.{answer-passed, refused-first, passed-first, refusal}
 use Rattle.onward.specs.Sent.{unicastToSeveral}
 use Rattle.receive.specs.declared.faults.Faults.{Faults}
-use Rattle.receive.specs.Checks.{faultsOf, pathStateChecks, learntIf}
+use Rattle.learn.specs.Learnt.{learntIf}
+use Rattle.receive.specs.Checks.{faultsOf, pathStateChecks}
 use Rattle.receive.proofs.Learnt.{nothing-learnt}
 
 -- ---- the parts are the checks of an element

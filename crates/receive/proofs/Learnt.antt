@@ -12,7 +12,7 @@ use Rattle.rules.specs.Learn.{learnt, subjectLearnt, takesLink, transmitterLear
 use Rattle.rules.proofs.Branches.{cond-cases}
 use Rattle.calls.specs.declared.Answer.{Answer}
 use Rattle.calls.specs.declared.Answer.the-variants.{Accepted, Refused}
-use Rattle.receive.specs.Checks.{learntIf}
+use Rattle.learn.specs.Learnt.{learntIf}
 
 -- what is learnt leaves the head
 module _ (a : Arrival) where

@@ -45,7 +45,7 @@ use Rattle.destinations.specs.Replies.{repliedFrom}
 use Rattle.onward.proofs.KeptOnes.{answered-contains, kept-few}
 use Rattle.destinations.proofs.Replying.{replies-long}
 use Rattle.receive.specs.declared.request.Sent.{Sent}
-use Rattle.receive.specs.Checks.{learntIf}
+use Rattle.learn.specs.Learnt.{learntIf}
 use Rattle.receive.specs.Sent.{together, framesAfter, sentFor}
 use Rattle.receive.proofs.Learnt.{learnt-head, both-steps}
 

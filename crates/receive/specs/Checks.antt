@@ -12,10 +12,7 @@ use Rattle.rules.specs.Decision.{Check}
 use Rattle.rules.specs.Checks.{stateChecks}
 use Rattle.rules.specs.Errors.{matches}
 use Rattle.rules.specs.Lists.{any}
-use Rattle.rules.specs.Learn.{learnt}
 use Rattle.rules.specs.Receive.{hasBadAddress, hasBadList, isLowTtlReply, rowChecks}
-use Rattle.calls.specs.declared.Answer.{Answer}
-use Rattle.calls.specs.declared.Answer.the-variants.{Accepted, Refused}
 use Rattle.receive.specs.declared.faults.Faults.{Faults}
 
 -- the refusals whose test depends on the type of an element with a path: 9, 10 and 14
@@ -25,11 +22,6 @@ faultsOf e = record { address = hasBadAddress e; list = hasBadList e; ttl = isLo
 -- of an element with the path p, by the state: 21 to 25 and 27
 abbrev pub pathStateChecks : List ℕ → Arrival → PathInfo → List Check
 pathStateChecks t a p = stateChecks t (a .clock) (a .transmitter) ++ rowChecks t a false (some p)
-
--- Returns the table t after the checks of an element with the path p: with what is learnt from it where they accept.
-abbrev pub learntIf : Answer → Arrival → PathInfo → List ℕ → List ℕ
-learntIf Accepted a p t = learnt a p t
-learntIf (Refused n) a p t = t
 
 -- of a RERR with the list part, by the state: 21 to 23 and 26
 abbrev pub errorStateChecks : List ℕ → Arrival → List ℕ → List Check

@@ -17,7 +17,7 @@ ghost use Rattle.rules.specs.Decision.{decide};
 ghost use Rattle.rules.specs.Exit.{atExit, lend, leastOutput};
 ghost use Rattle.rules.specs.Receive.{judging};
 ghost use Rattle.calls.specs.Answers.{answerTo, exitOf};
-ghost use Rattle.receive.specs.Checks.{learntIf};
+ghost use Rattle.learn.specs.Learnt.{learntIf};
 ghost use Rattle.layout.specs.Layout.{Sized};
 
 // Refuses it, or does steps 1 and 2. Takes the second answer apart too: a refusal then takes fewer instructions than if that

@@ -3,22 +3,17 @@ use crate::faults::Faults;
 use calls::Answer;
 use calls::clocked;
 use element::PathInfo;
-use layout::row;
-use learn::room;
-use learn::stale;
-use learn::steps;
 use rules::Arrival;
-use table::search;
 ghost use mathlib.Core.Path.{_≡_};
-ghost use mathlib.Core.Bool.{false};
 ghost use mathlib.Core.Option.{some};
-ghost use Prim.Native.Nat.{_+_, _<_, _≤_};
+ghost use Prim.Native.Nat.{_≤_};
 ghost use lib.Dec.{ltb};
 ghost use Rattle.layout.specs.Row.{maxClock};
 ghost use Rattle.rules.specs.Learn.{metricHere, Extends, maxMetric};
-ghost use Rattle.rules.specs.Receive.{fieldChecks, rowChecks};
+ghost use Rattle.rules.specs.Receive.{fieldChecks};
 ghost use Rattle.calls.specs.Answers.{answerTo};
-ghost use Rattle.receive.specs.Checks.{learntIf, pathStateChecks};
+ghost use Rattle.learn.specs.Learnt.{learntIf};
+ghost use Rattle.receive.specs.Checks.{pathStateChecks};
 ghost use Rattle.layout.specs.Layout.{Sized};
 
 // Received metric + link metric above 4,294,967,294.
@@ -53,28 +48,6 @@ pub fn check_fields(a: Arrival, p: PathInfo, faults: Faults) -> Answer
     Answer::Accepted
 }
 
-// Refuses by the rows, 24, 25 and 27, or does steps 1 and 2 where the subject was found.
-fn learn_by_rows(table: &mut [u8], a: Arrival, p: PathInfo) -> Answer
-    requires { ⌜ Sized (now table) ⌝ }
-    requires { ⌜ a .clock ≤ maxClock ⌝ }
-    requires { ⌜ Extends a p ⌝ }
-    ensures { λ r. ⌜ r ≡ answerTo (rowChecks (now (table .entry)) a false (some p)) ⌝ }
-    ensures { λ r. ⌜ now (table .exit) ≡ learntIf r a p (now (table .entry)) ⌝ }
-{
-    if p.subject.0 == row::read_head(table).own.0 {
-        return Answer::Refused(refusals::ABOUT_ITSELF);
-    }
-    let found = search::find_row(table, p.subject);
-    if stale::is_stale(table, found, a, p) {
-        return Answer::Refused(refusals::STALE);
-    }
-    if room::lacks_rows(table, found, a, p) {
-        return Answer::Refused(refusals::NO_ROOM);
-    }
-    steps::learn(table, found, a, p);
-    Answer::Accepted
-}
-
 // Refuses by the state, 21 to 25 and 27, or does steps 1 and 2. Learns in here, and so hands no place of the subject back.
 pub fn learn(table: &mut [u8], a: Arrival, p: PathInfo) -> Answer
     requires { ⌜ Sized (now table) ⌝ }
@@ -86,5 +59,5 @@ pub fn learn(table: &mut [u8], a: Arrival, p: PathInfo) -> Answer
     if let Answer::Refused(n) = clocked::check_state(table, a.clock, a.transmitter) {
         return Answer::Refused(n);
     }
-    learn_by_rows(table, a, p)
+    learn::learn_by_rows(table, a, p)
 }

@@ -1,9 +1,9 @@
--- `receive::path::learn_by_rows` meets its contract: one check of the list after another, and then what is learnt.
+-- `learn::learn_by_rows` meets its contract: one check of the list after another, and then what is learnt.
 use borrow.Author.Needs.{needs}
 use Rattle.table.proofs.ByHead.{is-own, is-other}
 use Rattle.calls.proofs.Checks.{applies, passes, all-passed, as-tested}
-use Rattle.receive.proofs.path.learn_by_rows.Statement.{statement}
-use Rattle.receive.proofs.path.learn_by_rows.Tie as tie
+use Rattle.learn.proofs.learn_by_rows.Statement.{statement}
+use Rattle.learn.proofs.learn_by_rows.Tie as tie
 
 -- what these checks need of `checking` and `by-head`: with all of both, a search for a wrong answer meets its bound
 ruleset judging = (applies, passes, all-passed, as-tested, is-own, is-other)
