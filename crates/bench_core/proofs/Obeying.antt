@@ -1,10 +1,8 @@
 -- Commands by their octets.
 use Prim.Native.Nat.{ℕ, _<_, _≤_}
 use mathlib.Core.Path.{_≡_, sym, ap, subst, _∙_}
-use mathlib.Core.Bool.{true}
-use mathlib.Core.List.{List, [], _∷_}
-use lib.Dec.{ltb}
-use lib.ListN.{length, getD, List·getD-eq-default}
+use mathlib.Core.List.{List}
+use lib.ListN.{length, getD}
 use native.Mathlib.Omega.{arith}
 use borrow.Author.Tests.{ne-eqb, lt-ltb, le-ltb}
 use Rattle.octets.specs.LittleEndian.{numberAt, Octets}
@@ -16,25 +14,14 @@ use Rattle.bench_rules.specs.Bench.{Bench, Sound, WithLinks, Done as Came}
 use Rattle.bench_slots.specs.Slots.{keptAt}
 use Rattle.bench_points.specs.InCode.{benchOf, doneIn, Adds, Advances, Links, Walks}
 use Rattle.bench_core.specs.InCode.{Memory, Remains}
-use Rattle.bench_rules.specs.Interpreter.{lengthOf, leavingLinks, obeyed, command, isCut}
+use Rattle.bench_rules.specs.Interpreter.{lengthOf, leavingLinks, obeyed, command}
 use Rattle.bench_rules.proofs.Sound.{Stays, obeyed-sound}
 
-pub no-command : (c : ℕ) → 9 ≤ c → 0 ≡ lengthOf c
-no-command c l = sym (List·getD-eq-default (0 ∷ 11 ∷ 5 ∷ 7 ∷ 13 ∷ 6 ∷ 4 ∷ 3 ∷ 3 ∷ []) 0 l)
-
--- ---- the first octet, and octets still to come
+-- ---- the first octet
 
 pub first-read : (s : List ℕ) (c : ℕ) → c ≡ getD s 0 0 → c ≡ numberAt 1 s 0
 unfolding numberAt
 first-read s c e = omega arith
-
-pub cut-nothing : (s : List ℕ) → length s ≡ 0 → true ≡ isCut s
-unfolding isCut
-cut-nothing s e = rw e
-
-pub cut-short : (s : List ℕ) → (length s ≡ 0 → ⊥) → (c n : ℕ) → c ≡ numberAt 1 s 0 → n ≡ lengthOf c → ltb (length s) n ≡ isCut s
-unfolding isCut
-cut-short s some c n ce ne = rw (ne-eqb (length s) 0 some, ne, ce)
 
 -- ---- operands
 

@@ -7,29 +7,7 @@ ghost use Prim.Native.Nat.{_<_, _≤_};
 ghost use lib.ListN.{length};
 ghost use Rattle.bench_points.specs.InCode.{benchOf, doneIn};
 ghost use Rattle.bench_core.specs.InCode.{Memory, Remains};
-ghost use Rattle.bench_rules.specs.Interpreter.{command, isCut, lengthOf, obeyed};
-
-// Octets of a command with its operands; 0 if there is no such command.
-pub fn length_of(command: u8) -> usize
-    ensures { λ r. ⌜ r ≡ lengthOf command ⌝ }
-{
-    let lengths = [0usize, 11, 5, 7, 13, 6, 4, 3, 3];
-    let i = command as usize;
-    if lengths.len() <= i {
-        return 0;
-    }
-    lengths[i]
-}
-
-// Whether octets of the first command are still to come. A command that is unknown has none.
-pub fn is_cut(input: &[u8]) -> bool
-    ensures { λ r. ⌜ r ≡ isCut (now (input .entry)) ⌝ }
-{
-    if input.len() == 0 {
-        return true;
-    }
-    input.len() < length_of(octets::read_u8(input, 0))
-}
+ghost use Rattle.bench_rules.specs.Interpreter.{command, lengthOf, obeyed};
 
 fn obey(
     command: u8,
@@ -86,7 +64,7 @@ pub fn obey_first(
     ensures { λ r. ⌜ Remains r (now (tables .exit)) (now (slots .exit)) ⌝ }
 {
     let command = octets::octet(input, 0);
-    let length = length_of(command);
+    let length = bench_commands::length_of(command);
     if length == 0 {
         return Done::Fault;
     }

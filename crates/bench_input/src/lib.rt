@@ -1,5 +1,4 @@
 // Commands come in blocks of standard input, and a block may end inside a command.
-use bench_core::interpreter;
 use libc::STDIN_FILENO;
 ghost use mathlib.Core.Path.{_≡_};
 ghost use mathlib.Core.Bool.{_&&_, _||_, false};
@@ -87,7 +86,7 @@ pub fn refill(buffer: &mut [u8], c: Cursor) -> Cursor
     if c.last {
         return c;
     }
-    if !interpreter::is_cut(&buffer[from..filled]) {
+    if !bench_commands::is_cut(&buffer[from..filled]) {
         return c;
     }
     read_more(buffer, c)

@@ -47,7 +47,7 @@ fn print_line(p: Progress, rest: &[u8], x: Printed, text: &mut [u8]) -> Progress
     let written = p.written;
     let command = octets::read_u8(rest, 0);
     Progress {
-        used: used + interpreter::length_of(command),
+        used: used + bench_commands::length_of(command),
         written: bench_text::put_line(text, written, command, x.answer, x.third),
         ended: false,
         points: x.points,
@@ -143,7 +143,7 @@ pub fn obey_block(
     };
     while p.used < n {
         let used = p.used;
-        if !last & interpreter::is_cut(&block[used..]) {
+        if !last & bench_commands::is_cut(&block[used..]) {
             return p;
         }
         let room = text.len() - p.written;
