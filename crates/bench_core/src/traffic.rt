@@ -9,7 +9,6 @@ use calls::LEAST_OUTPUT;
 use counters::Metric;
 use layout::address::Address;
 use originate::announce;
-use originate::ask;
 use rules::Arrival;
 ghost use mathlib.Core.Path.{_≡_};
 ghost use mathlib.Core.List.{_∷_};

@@ -5,7 +5,6 @@ use counters::Metric;
 use counters::SequenceNumber;
 use layout::address;
 use originate::announce;
-use originate::ask;
 use originate::root_request;
 use rules::Arrival;
 use table_calls::forget;

@@ -1,3 +1,2 @@
--- The laws of ask, announce and root request.
+-- The laws of announce and root request, of which an ask uses those of a request.
 pub mod Originated
-pub mod Asked

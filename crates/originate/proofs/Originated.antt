@@ -1,4 +1,4 @@
--- What announce, root request and ask leave, as their `return`s ask it.
+-- What announce and root request leave, as their `return`s ask it; what a request leaves serves an ask too.
 use Prim.Native.Nat.{ℕ, _+_, _*_}
 use mathlib.Core.Path.{_≡_, refl, sym, ap, ap₂, _∙_}
 use mathlib.Core.Bool.{Bool, true, false, not}

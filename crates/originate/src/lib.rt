@@ -1,5 +1,4 @@
-// The calls that send a new element of one's own: ask, announce and root request.
+// The calls that send a new element about the point itself: announce and root request. An ask uses what these have in common.
 pub mod announce;
-pub mod ask;
-mod common;
+pub mod common;
 pub mod root_request;

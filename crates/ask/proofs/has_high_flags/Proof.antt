@@ -1,4 +1,4 @@
--- `originate::ask::has_high_flags` meets its contract: the items passed have no high flags.
+-- `ask::has_high_flags` meets its contract: the items passed have no high flags.
 use Prim.Native.Nat.{_-_}
 use mathlib.Core.Path.{_≡_}
 use borrow.Author.Needs.{needs}
@@ -6,9 +6,9 @@ use Rattle.element.specs.Entries.{each, itemAt}
 use Rattle.rules.specs.Lists.{any}
 use Rattle.rules.specs.Originate.{hasHighFlags}
 use Rattle.rules.proofs.AnyOf.{any-start, any-ended}
-use Rattle.originate.proofs.Asked.{high-found, high-more}
-use Rattle.originate.proofs.ask.has_high_flags.Statement.{statement}
-use Rattle.originate.proofs.ask.has_high_flags.Tie as tie
+use Rattle.ask.proofs.Asked.{high-found, high-more}
+use Rattle.ask.proofs.has_high_flags.Statement.{statement}
+use Rattle.ask.proofs.has_high_flags.Tie as tie
 
 abbrev Inv-loop : tie.InvT-loop
 Inv-loop items n i₀ i = any hasHighFlags (each (itemAt items) i (n - i)) ≡ any hasHighFlags (each (itemAt items) 0 n)

@@ -1,8 +1,8 @@
--- `originate::ask::ask` meets its contract: by its check, and by what an accepted one sends.
+-- `ask::ask` meets its contract: by its check, and by what an accepted one sends.
 use borrow.Author.Needs.{needs}
-use Rattle.originate.proofs.Asked.{ask-table-sized, ask-output-long, items-some, items-few, ask-refused, ask-accepted}
-use Rattle.originate.proofs.ask.ask.Statement.{statement}
-use Rattle.originate.proofs.ask.ask.Tie as tie
+use Rattle.ask.proofs.Asked.{ask-table-sized, ask-output-long, items-some, items-few, ask-refused, ask-accepted}
+use Rattle.ask.proofs.ask.Statement.{statement}
+use Rattle.ask.proofs.ask.Tie as tie
 
 pub ask-spec : {M : Type 1} → statement M
 ask-spec =

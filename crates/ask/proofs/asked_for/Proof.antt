@@ -1,8 +1,8 @@
--- `originate::ask::asked_for` meets its contract: by what its definition unfolds to.
+-- `ask::asked_for` meets its contract: by what its definition unfolds to.
 use borrow.Author.Needs.{needs}
 use Rattle.rules.specs.Originate.{askedFor}
-use Rattle.originate.proofs.ask.asked_for.Statement.{statement}
-use Rattle.originate.proofs.ask.asked_for.Tie as tie
+use Rattle.ask.proofs.asked_for.Statement.{statement}
+use Rattle.ask.proofs.asked_for.Tie as tie
 
 pub asked-for-spec : {M : Type 1} → statement M
 unfolding askedFor

@@ -1,10 +1,10 @@
--- `originate::ask::check` meets its contract: one check of the list after another.
+-- `ask::check` meets its contract: one check of the list after another.
 use borrow.Author.Needs.{needs}
 use Rattle.calls.proofs.Checks.{passes-1, checking, refused-first}
 use Rattle.rules.specs.Originate.{asking}
-use Rattle.originate.proofs.Asked.{items-passed, own-named}
-use Rattle.originate.proofs.ask.check.Statement.{statement}
-use Rattle.originate.proofs.ask.check.Tie as tie
+use Rattle.ask.proofs.Asked.{items-passed, own-named}
+use Rattle.ask.proofs.check.Statement.{statement}
+use Rattle.ask.proofs.check.Tie as tie
 
 pub check-spec : {M : Type 1} → statement M
 unfolding asking

@@ -1,8 +1,8 @@
--- `originate::ask::send` meets its contract: the head after the step, and one frame with the destinations.
+-- `ask::send` meets its contract: the head after the step, and one frame with the destinations.
 use borrow.Author.Needs.{needs}
-use Rattle.originate.proofs.Asked.{asked-exit}
-use Rattle.originate.proofs.ask.send.Statement.{statement}
-use Rattle.originate.proofs.ask.send.Tie as tie
+use Rattle.ask.proofs.Asked.{asked-exit}
+use Rattle.ask.proofs.send.Statement.{statement}
+use Rattle.ask.proofs.send.Tie as tie
 
 pub send-spec : {M : Type 1} → statement M
 send-spec =

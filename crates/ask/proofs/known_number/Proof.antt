@@ -1,9 +1,9 @@
--- `originate::ask::known_number` meets its contract: each return is a case of `knownNumber`.
+-- `ask::known_number` meets its contract: each return is a case of `knownNumber`.
 use borrow.Author.Needs.{needs}
 use Rattle.table.proofs.Cases.{found-within}
-use Rattle.originate.proofs.Asked.{number-absent, number-unknown, number-known}
-use Rattle.originate.proofs.ask.known_number.Statement.{statement}
-use Rattle.originate.proofs.ask.known_number.Tie as tie
+use Rattle.ask.proofs.Asked.{number-absent, number-unknown, number-known}
+use Rattle.ask.proofs.known_number.Statement.{statement}
+use Rattle.ask.proofs.known_number.Tie as tie
 
 pub known-number-spec : {M : Type 1} → statement M
 known-number-spec =

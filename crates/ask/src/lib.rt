@@ -1,5 +1,4 @@
 // Ask: a RREQ of one's own for 1 to 20 destinations.
-use crate::common;
 use calls::Answer;
 use calls::Emitted;
 use calls::Outcome;
@@ -11,6 +10,7 @@ use element::list::ListKind;
 use layout::address::Address;
 use layout::row;
 use layout::row::Head;
+use originate::common;
 use table::legal;
 use table::search;
 use table::search::Found;

@@ -1,9 +1,9 @@
--- `originate::ask::check_items` meets its contract: one check of the list after another.
+-- `ask::check_items` meets its contract: one check of the list after another.
 use borrow.Author.Needs.{needs}
 use Rattle.rules.specs.Originate.{itemChecks}
 use Rattle.calls.proofs.Checks.{checking}
-use Rattle.originate.proofs.ask.check_items.Statement.{statement}
-use Rattle.originate.proofs.ask.check_items.Tie as tie
+use Rattle.ask.proofs.check_items.Statement.{statement}
+use Rattle.ask.proofs.check_items.Tie as tie
 
 pub check-items-spec : {M : Type 1} → statement M
 unfolding itemChecks

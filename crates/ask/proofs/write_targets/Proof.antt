@@ -1,4 +1,4 @@
--- `originate::ask::write_targets` meets its contract: what is left to write makes the whole.
+-- `ask::write_targets` meets its contract: what is left to write makes the whole.
 use Prim.Native.Nat.{_+_, _-_, _*_, _≤_}
 use mathlib.Core.Path.{_≡_}
 use mathlib.Core.List.{flatMap, map}
@@ -8,9 +8,9 @@ use Rattle.octets.specs.LittleEndian.{overwrite}
 use Rattle.element.specs.Entries.{each, itemAt, targetOctets}
 use Rattle.writing.proofs.Written.{entries-ended}
 use Rattle.rules.specs.Originate.{askedFor}
-use Rattle.originate.proofs.Asked.{askedOctets, asked-start, asked-more}
-use Rattle.originate.proofs.ask.write_targets.Statement.{statement}
-use Rattle.originate.proofs.ask.write_targets.Tie as tie
+use Rattle.ask.proofs.Asked.{askedOctets, asked-start, asked-more}
+use Rattle.ask.proofs.write_targets.Statement.{statement}
+use Rattle.ask.proofs.write_targets.Tie as tie
 
 abbrev Inv-loop : tie.InvT-loop
 Inv-loop output₀ at table items n place₀ i₀ output place i =
