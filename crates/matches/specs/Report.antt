@@ -8,8 +8,10 @@ use Rattle.element.specs.Entries.{lostOctets}
 use Rattle.rules.specs.declared.Arrival.{Arrival}
 use Rattle.rules.specs.Errors.{matches}
 
+-- the octets of a destination that goes on; none of another
 unfoldable pub octetsIf : (goesOn : Bool) → LostDestination → List ℕ
 octetsIf goesOn m = cond goesOn (lostOctets m) []
 
+-- a destination goes on if it matches
 unfoldable pub matchOctets : List ℕ → Arrival → LostDestination → List ℕ
 matchOctets t a m = octetsIf (matches t (a .clock) (a .transmitter) m) m

@@ -26,7 +26,7 @@ ghost use Rattle.rules.specs.Exit.{frameOctets};
 ghost use Rattle.matches.specs.Report.{matchOctets, octetsIf};
 ghost use Rattle.layout.specs.Layout.{Sized};
 
-// Writes a destination that has the row r, if the RERR makes that row lost; answers the place after it.
+// Writes the destination m if the RERR loses m's row r; returns the place after it.
 fn write_if_lost(output: &mut [u8], at: usize, a: Arrival, r: Row, m: LostDestination) -> usize
     requires { ⌜ at + sizeOf ListKind.LostDestinations ≤ length (now output) ⌝ }
     ensures { λ p. ⌜ p ≡ at + length (octetsIf (isLostBy (a .clock) (a .transmitter) r) m) ⌝ }
@@ -39,7 +39,7 @@ fn write_if_lost(output: &mut [u8], at: usize, a: Arrival, r: Row, m: LostDestin
     writing::write_lost(output, at, m)
 }
 
-// Writes a destination if it matches; answers the place after it.
+// Writes the destination m if it matches; returns the place after it.
 fn write_if_match(
     output: &mut [u8],
     at: usize,

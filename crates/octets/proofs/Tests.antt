@@ -12,12 +12,12 @@ both a b = and-eq-true-iff a b .0
 pub clash : {A : Type 0} → _≡_ {A = ℕ} 0 1 → A
 clash e = absurd (omega (arith, e))
 
--- Where none of two tests is passed, each of them is not.
+-- Two tests neither of which is passed each fail.
 pub neither : (a b : Bool) → (a || b) ≡ false → (a ≡ false) × (b ≡ false)
 neither true b e = clash cc
 neither false b e = (refl, e)
 
--- What the first of two tests asks to be otherwise holds where none of them is passed.
+-- If neither `not a` nor another test is passed, a holds.
 pub first-holds : (a b : Bool) → (not a || b) ≡ false → a ≡ true
 first-holds true b e = refl
 first-holds false b e = clash cc
