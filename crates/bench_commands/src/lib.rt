@@ -2,7 +2,7 @@
 ghost use mathlib.Core.Path.{_≡_};
 ghost use Rattle.bench_rules.specs.Interpreter.{isCut, lengthOf};
 
-// Octets of a command with its operands; 0 if there is no such command.
+// Returns how many octets a command has with its operands: 0 if the command is unknown.
 pub fn length_of(command: u8) -> usize
     ensures { λ r. ⌜ r ≡ lengthOf command ⌝ }
 {
@@ -14,7 +14,7 @@ pub fn length_of(command: u8) -> usize
     lengths[i]
 }
 
-// Whether octets of the first command are still to come. A command that is unknown has none.
+// Returns whether octets of the first command are still to come. An unknown command has all of its octets.
 pub fn is_cut(input: &[u8]) -> bool
     ensures { λ r. ⌜ r ≡ isCut (now (input .entry)) ⌝ }
 {
