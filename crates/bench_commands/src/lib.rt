@@ -2,7 +2,7 @@
 ghost use mathlib.Core.Path.{_≡_};
 ghost use Rattle.bench_rules.specs.Interpreter.{isCut, lengthOf};
 
-// Returns how many octets a command has with its operands: 0 if the command is unknown.
+// Returns how many octets a command has with its operands, or 0 if the command is unknown.
 pub fn length_of(command: u8) -> usize
     ensures { λ r. ⌜ r ≡ lengthOf command ⌝ }
 {
@@ -14,7 +14,7 @@ pub fn length_of(command: u8) -> usize
     lengths[i]
 }
 
-// Returns whether octets of the first command are still to come. An unknown command has all of its octets.
+// Reports whether octets of the first command are still to come. An unknown command has all of its octets.
 pub fn is_cut(input: &[u8]) -> bool
     ensures { λ r. ⌜ r ≡ isCut (now (input .entry)) ⌝ }
 {

@@ -1,4 +1,4 @@
--- The buffer: what is moved to its start, and what is read behind that.
+-- The buffer: the unread octets are moved to its start, and more octets are read after them.
 use Prim.Native.Nat.{ℕ, suc, _+_, _-_, _<_, _≤_}
 use mathlib.Core.Path.{_≡_, refl, sym, ap, ap₂, _∙_}
 use mathlib.Core.Bool.{Bool, true, false, not, _&&_, _||_}
@@ -16,7 +16,7 @@ use Rattle.bench_input.specs.Reading.{left, Keeps, Extends}
 
 -- ---- moved to the start
 
--- the first i octets are moved, and from there on the buffer is as it was
+-- The first i unread octets are moved, and the buffer from the next unread octet on is as it was.
 pub record Moved (buffer₀ buffer : List ℕ) (from i : ℕ) : Type 0 where
   pub front : take i buffer ≡ take i (drop from buffer₀)
   pub behind : drop (from + i) buffer ≡ drop (from + i) buffer₀
@@ -54,7 +54,7 @@ module _ (buffer₀ : List ℕ) (from : ℕ) where
     pub moved-all : (n : ℕ) → n ≤ i → i ≤ n → take n buffer ≡ take n (drop from buffer₀)
     moved-all n l k = let same-place : n ≡ i = omega arith in rw same-place (m .front)
 
--- ---- read behind it
+-- ---- read after them
 
 pub nothing-more : (s : List ℕ) → Extends s s
 nothing-more s = record { more = []; is = sym (append-nil s) }
@@ -62,7 +62,7 @@ nothing-more s = record { more = []; is = sym (append-nil s) }
 pub before-stays : (at k : ℕ) (buffer part : List ℕ) → at ≤ length buffer → Keeps at buffer (putMid at k buffer part)
 before-stays at k buffer part l = record { first = take-put at k buffer part l }
 
--- n octets are moved to the start, and some are read behind them
+-- n octets are moved to the start, and `got` octets are read after them.
 module _ (c : Cursor) (buffer moved filled : List ℕ) (n got : ℕ) (ne : n ≡ c .filled - c .from)
     (ke : Keeps n moved filled)
     (me : take n moved ≡ take n (drop (c .from) buffer)) (last : Bool) where
@@ -76,7 +76,7 @@ module _ (c : Cursor) (buffer moved filled : List ℕ) (n got : ℕ) (ne : n ≡
 
 -- ---- whether the input has ended
 
--- n octets were left, and so many are there now
+-- n octets were unread before, and `filled` octets are unread now.
 pub none-came : (n filled : ℕ) (c : Cursor) → n ≡ c .filled - c .from → eqb filled n ≡ eqb (filled - 0) (c .filled - c .from)
 none-came n filled c ne = rw (sub-zero filled, ne)
 

@@ -1,27 +1,29 @@
--- The octets of the input that stand in the buffer and are still to be obeyed: for the code's own functions.
+-- The unread octets: the octets of the input that are in the buffer and not obeyed yet. Only contracts of the code use this
+-- file.
 use Prim.Native.Nat.{ℕ, _+_, _-_, _≤_}
 use mathlib.Core.Path.{_≡_}
 use mathlib.Core.List.{List, _++_}
 use lib.ListN.{length, take, drop}
 use Rattle.bench_input.specs.declared.Cursor.{Cursor}
 
+-- Returns the unread octets.
 abbrev pub left : Cursor → (buffer : List ℕ) → List ℕ
 left c buffer = take (c .filled - c .from) (drop (c .from) buffer)
 
--- after so many of them were obeyed
+-- Returns the cursor after the bench has obeyed `used` more octets.
 abbrev pub past : Cursor → (used : ℕ) → Cursor
 past c used = record { from = c .from + used; filled = c .filled; last = c .last; offset = c .offset + used }
 
--- they lie inside the buffer
+-- The unread octets lie inside the buffer.
 pub record Unread (c : Cursor) (buffer : List ℕ) : Type 0 where
   pub forward : c .from ≤ c .filled
   pub inside : c .filled ≤ length buffer
 
--- the first n octets stay as they are
+-- The first n octets of the buffer stay as they are.
 pub record Keeps (n : ℕ) (buffer buffer′ : List ℕ) : Type 0 where
   pub first : take n buffer′ ≡ take n buffer
 
--- t is s with some octets behind it
+-- t is s followed by some octets, or by none.
 pub record Extends (s t : List ℕ) : Type 0 where
   pub more : List ℕ
   pub is : t ≡ s ++ more

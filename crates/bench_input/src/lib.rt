@@ -1,4 +1,4 @@
-// Commands come in blocks of standard input, and a block may end inside a command.
+// Commands come in blocks of standard input. A block may end inside a command.
 use libc::STDIN_FILENO;
 ghost use mathlib.Core.Path.{_≡_};
 ghost use mathlib.Core.Bool.{_&&_, _||_, false};
@@ -8,7 +8,8 @@ ghost use lib.ListN.{drop, length, take};
 ghost use Rattle.bench_rules.specs.Interpreter.{isCut};
 ghost use Rattle.bench_input.specs.Reading.{Extends, Keeps, Unread, left, past};
 
-// Which octets of the buffer are still to be obeyed, whether standard input has ended, and the offset of the first of them.
+// The unread octets are the octets of the buffer that are not obeyed yet: those from place `from` on and before place `filled`.
+// `last` says whether standard input has ended. `offset` is the offset of the first unread octet in the input.
 pub struct Cursor {
     pub from: usize,
     pub filled: usize,
@@ -16,6 +17,7 @@ pub struct Cursor {
     pub offset: u64,
 }
 
+// Returns the cursor at the start of the input.
 pub fn start() -> Cursor
     ensures { λ r. ⌜ r ≡ record { from = 0; filled = 0; last = false; offset = 0 } ⌝ }
 {
@@ -27,7 +29,7 @@ pub fn start() -> Cursor
     }
 }
 
-// Moves what is left to the start of the buffer, and answers how much that is.
+// Moves the unread octets to the start of the buffer, and returns how many they are.
 fn move_to_start(buffer: &mut [u8], from: usize, filled: usize) -> usize
     requires { ⌜ (from ≤ filled) × (filled ≤ length (now buffer)) ⌝ }
     ensures { λ r. ⌜ r ≡ filled - from ⌝ }
@@ -42,7 +44,8 @@ fn move_to_start(buffer: &mut [u8], from: usize, filled: usize) -> usize
     n
 }
 
-// One read into the buffer from a place on: how many octets came. None is the end of the input, and so is a read that fails.
+// Reads once into the buffer from place `at` on, and returns how many octets came: 0 at the end of the input or if the read
+// fails.
 fn read_from(buffer: &mut [u8], at: usize) -> usize
     requires { ⌜ at ≤ length (now buffer) ⌝ }
     ensures { λ r. ⌜ at + r ≤ length (now (buffer .exit)) ⌝ }
@@ -53,7 +56,7 @@ fn read_from(buffer: &mut [u8], at: usize) -> usize
     io::count(got, part)
 }
 
-// Reads more octets behind those that are left, which come to the start of the buffer; the input has ended if there are none.
+// Moves the unread octets to the start of the buffer, and reads more octets after them. The input has ended if none come.
 fn read_more(buffer: &mut [u8], c: Cursor) -> Cursor
     requires { ⌜ Unread c (now buffer) ⌝ }
     ensures { λ r. ⌜ Unread r (now (buffer .exit)) ⌝ }
@@ -71,8 +74,8 @@ fn read_more(buffer: &mut [u8], c: Cursor) -> Cursor
     }
 }
 
-// Reads on where the next command is not all there, so that a whole one is obeyed before more is waited for. The input has ended
-// where nothing comes.
+// Reads more octets only if the next command is cut. The bench therefore obeys a whole command before it waits for more input.
+// The input has ended if no octets come.
 pub fn refill(buffer: &mut [u8], c: Cursor) -> Cursor
     requires { ⌜ Unread c (now buffer) ⌝ }
     ensures { λ r. ⌜ Unread r (now (buffer .exit)) ⌝ }
@@ -92,7 +95,7 @@ pub fn refill(buffer: &mut [u8], c: Cursor) -> Cursor
     read_more(buffer, c)
 }
 
-// After so many octets were obeyed.
+// Returns the cursor after the bench has obeyed `used` more octets.
 pub fn go_past(c: Cursor, used: usize) -> Cursor
     requires { ⌜ c .from + used < 18446744073709551616 ⌝ }
     requires { ⌜ c .offset + used < 18446744073709551616 ⌝ }

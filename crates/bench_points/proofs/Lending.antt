@@ -1,4 +1,4 @@
--- The table of a point: lent to a call as that part of the tables, and put back.
+-- The table of a point is lent to a call as a part of all tables, and put back.
 use Prim.Native.Nat.{ℕ, _+_, _-_, _*_}
 use mathlib.Core.Path.{_≡_, refl}
 use mathlib.Core.List.{List}

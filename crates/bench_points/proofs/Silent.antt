@@ -1,4 +1,4 @@
--- The commands that make no point emit: point, advance, link and walk.
+-- The commands that emit no frames: point, advance, link and walk.
 use Prim.Native.Nat.{ℕ, _+_, _-_, _*_, _<_, _≤_}
 use mathlib.Core.Path.{_≡_, sym, ap, _∙_}
 use mathlib.Core.Bool.{Bool, true, false, not, cond}
@@ -32,7 +32,7 @@ use Rattle.bench_points.proofs.Lending.{lent-table, put-back}
 
 -- ---- 1 point
 
--- The answer is 0 exactly if the table is made: no refusal has that number.
+-- The answer is 0 exactly if the table is made, because no refusal has number 0.
 module _ (t u : List ℕ) (own : Address) (number : SequenceNumber) (a : Answer) (ae : tableExitOf a u ≡ tableAtExit t (makeFresh t own number)) where
   abbrev byChecks : Bool → Bool → Decision (List ℕ)
   byChecks b d = cond b (refused 1) (cond d (refused 9) (accepted (fresh (length t) own number)))

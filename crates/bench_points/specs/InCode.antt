@@ -1,4 +1,4 @@
--- What the code holds of the bench, as the definitions have it, and the commands that make no point call.
+-- Reads what the code holds as the bench of the definitions, and states the contracts of the commands that emit no frames.
 use Prim.Native.Nat.{ℕ}
 use mathlib.Core.Path.{_≡_}
 use mathlib.Core.List.{List}
@@ -11,22 +11,26 @@ use Rattle.bench_points.specs.declared.State.{State}
 use Rattle.bench_points.specs.declared.Done.{Done}
 use Rattle.bench_points.specs.declared.Done.the-variants.{Line, Fault}
 
+-- Returns the bench that the code holds in its state, its tables and its slots.
 abbrev pub benchOf : State → (tables slots : List ℕ) → Bench
 benchOf s tables slots = record { tables = tables; points = s .points; frames = keptIn slots (s .frames); clock = s .clock }
 
--- with what stands in the memory after the command; after a fault that plays no part
+-- Returns the result of a command, given the tables and the slots after the command. After a fault, the tables and the slots do
+-- not matter.
 abbrev pub doneIn : Done → (tables slots : List ℕ) → Came
 doneIn Fault tables slots = fault
 doneIn (Line x) tables slots =
     line (x .answer) (x .third)
     (record { tables = tables; points = x .points; frames = keptIn slots (x .frames); clock = x .clock })
 
--- a line after which the bench holds what it did
+-- Returns a line, with the state of the bench unchanged.
 abbrev pub printed : State → ℕ → ℕ → Done
 printed s answer third =
     Line (record { answer = answer; third = third; points = s .points; frames = s .frames; clock = s .clock })
 
--- ---- commands that leave a part of the memory alone, whatever stands there
+-- ---- contracts of commands
+
+-- Each command leaves some part of the memory alone. Its contract holds for any octets in the part that it leaves alone.
 
 unfoldable pub Adds : Done → State → Address → SequenceNumber → (tables tables′ : List ℕ) → Type 0
 Adds r s own number tables tables′ = (slots : List ℕ) → doneIn r tables′ slots ≡ addPoint (benchOf s tables slots) own number

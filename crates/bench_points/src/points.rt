@@ -1,4 +1,4 @@
-// The points: their tables side by side, and the commands that add one, walk between two and advance their clock.
+// The points: their tables side by side, and the commands that add a point, advance the clock and walk between two points.
 use crate::Done;
 use crate::State;
 use counters::SequenceNumber;
@@ -19,7 +19,7 @@ pub const MOST_POINTS: usize = 16;
 // Octets of a table with 16 rows.
 pub const TABLE: usize = 544;
 
-// The address of a point.
+// Returns the address of point p.
 pub fn address_of(tables: &[u8], p: usize) -> Address
     requires { ⌜ length (now tables) ≡ 8704 ⌝ }
     requires { ⌜ p < 16 ⌝ }
@@ -28,6 +28,7 @@ pub fn address_of(tables: &[u8], p: usize) -> Address
     pieces::point_at(tables, TABLE, MOST_POINTS, p)
 }
 
+// Adds a point with a fresh table. A refused point is not added, and a 17th point is a fault.
 pub fn add_point(s: State, own: Address, number: SequenceNumber, tables: &mut [u8]) -> Done
     requires { ⌜ length (now tables) ≡ 8704 ⌝ }
     ensures { λ r. ⌜ Adds r s own number (now (tables .entry)) (now (tables .exit)) ⌝ }
@@ -50,6 +51,7 @@ pub fn add_point(s: State, own: Address, number: SequenceNumber, tables: &mut [u
     after.prints(0, 0)
 }
 
+// Advances the clock. A clock above 2^48 - 1 is a fault.
 pub fn advance_clock(s: State, by: u32) -> Done
     requires { ⌜ s .clock ≤ maxClock ⌝ }
     ensures { λ r. ⌜ Advances r s by ⌝ }
@@ -66,6 +68,7 @@ pub fn advance_clock(s: State, by: u32) -> Done
     after.prints(0, 0)
 }
 
+// Walks from point p to point q over the tables of all points. It is a fault if p or q is no point.
 pub fn walk_to(s: State, p: u8, q: u8, tables: &[u8]) -> Done
     requires { ⌜ length (now tables) ≡ 8704 ⌝ }
     requires { ⌜ s .points ≤ 16 ⌝ }

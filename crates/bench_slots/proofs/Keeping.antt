@@ -1,4 +1,4 @@
--- Frames that are put into slots are kept there after those before.
+-- Frames that are put into slots are kept there, after the frames kept before.
 use Prim.Native.Nat.{ℕ, zero, suc, _+_, _-_, _*_, _<_, _≤_}
 use mathlib.Core.Path.{_≡_, refl, sym, ap, ap₂, subst, _∙_}
 use mathlib.Core.List.{List, [], _∷_, _++_, append-nil, append-assoc, map, flatMap}
@@ -52,9 +52,9 @@ module _ {A : Type 0} (f : ℕ → A) where
 pub frame-found : (slots : List ℕ) (n k : ℕ) → k < n → getElem? (keptIn slots n) k ≡ some (keptAt slots k)
 frame-found slots n k l = each-found (keptAt slots) 0 n k l ∙ ap (λ (m : ℕ). some (keptAt slots m)) (zero-add k)
 
--- ---- octets before a place play no part behind it, and the other way round
+-- ---- what lies within the first n octets depends on these alone
 
--- m octets from a on, of the first n
+-- The m octets from place a on, if they lie within the first n octets of s, can be cut from the first n octets.
 part-of : (s : List ℕ) (n a m : ℕ) → a + m ≤ n → n ≤ length s → take m (drop a s) ≡ drop a (take (a + m) (take n s))
 part-of s n a m inside long =
     let a-long : a ≤ length s = omega arith in
@@ -70,12 +70,12 @@ module _ (s s′ : List ℕ) (n : ℕ) (long : n ≤ length s) (long′ : n ≤ 
 
 -- ---- one frame
 
--- octets that are a frame by their Length, in a slot
+-- The octets w are one frame by their Length, and fit in a slot.
 record InSlot (w : List ℕ) : Type 0 where
   long : length w ≡ 8 + getD w 7 0
   short : length w ≤ 263
 
--- an element that does not reach beyond its slot
+-- The element does not reach beyond its slot.
 abbrev Short : KeptFrame → Type 0
 Short f = length (f .element) ≤ 257
 
@@ -103,7 +103,7 @@ module _ (s : List ℕ) (long : length s ≡ 33792) (sender k : ℕ) (l : k < 12
   before-same : take (264 * k) after ≡ take (264 * k) s
   before-same = ap (take (264 * k)) parts ∙ take-at (take (264 * k) s) (sender ∷ w ++ rest) (264 * k) before-long
 
-  -- the frames before it
+  -- The frames in earlier slots stay.
   earlier-same : (i : ℕ) → i < k → Short (keptAt s i) → keptAt after i ≡ keptAt s i
   unfolding senderOf elementOf
   earlier-same i m short =
@@ -117,7 +117,7 @@ module _ (s : List ℕ) (long : length s ≡ 33792) (sender k : ℕ) (l : k < 12
       (ap (λ (x : ℕ). take (2 + x) (drop (264 * i + 7) after)) told
       ∙ part-before s after (264 * k) room room′ before-same (264 * i + 7) (2 + getD s (264 * i + 8) 0) (omega (arith, few)))
 
-  -- the frame itself
+  -- The Length octet of the new frame stands in slot k.
   length-octet-there : getD after (264 * k + 8) 0 ≡ getD w 7 0
   length-octet-there =
       ap₂ (λ (t : List ℕ) (n : ℕ). getD t (n + 8) 0) parts (sym before-long)
@@ -197,7 +197,7 @@ frames-kept sender frames fit s long k few short =
     ∙ all-kept sender (map written frames) (all-map InSlot FrameFits written written-in-slot frames fit) s long k (rw many few) short
     ∙ ap (λ (t : List KeptFrame). keptIn s k ++ t) (as-written sender frames)
 
--- and they are whole in the output
+-- The frames of a call are whole in its output.
 held : (frames : List Frame) (rest : List ℕ) → Holds (length frames) (frameOctets frames ++ rest)
 unfolding Holds frameOctets flatMap
 held [] rest = tt

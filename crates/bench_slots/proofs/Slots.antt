@@ -13,7 +13,7 @@ use Rattle.octets.specs.LittleEndian.{overwrite}
 use Rattle.rules.specs.Exit.{framesIn}
 use Rattle.bench_slots.specs.Slots.{senderOf, elementOf, putFrames, Holds, keptSlots}
 
--- the first n of a list
+-- The first n entries of a list are n entries.
 pub front-long : (s : List ℕ) (n : ℕ) → n ≤ length s → n ≡ length (take n s)
 front-long s n l = sym (length-take-le n s l)
 
@@ -42,10 +42,12 @@ module _ (s : List ℕ) (k : ℕ) where
     pub length-behind : (t : List ℕ) → length t ≡ length (set s at x) → length t ≡ length s
     length-behind t e = e ∙ length-set s at x
 
--- ---- all frames of a call, kept one after another: g is what the slots are at the end
+-- ---- all frames of a call, kept one after another
+
+-- g is the slots at the end.
 
 module _ (output : List ℕ) (sender first n : ℕ) where
-  -- the frames from this place on
+  -- Returns the frames from frame i on. They begin at place `at` of the output.
   abbrev left : ℕ → ℕ → List (List ℕ)
   left i at = framesIn (n - i) (drop at output)
 
@@ -93,10 +95,10 @@ module _ (output : List ℕ) (sender first n : ℕ) where
       let none : n - i ≡ 0 = omega arith in
       ap (λ (m : ℕ). putFrames slots sender (first + i) (framesIn m (drop at output))) (sym none) ∙ so-far
 
--- ---- unless there would be a 129th
+-- ---- unless there would be a 129th frame
 
 module _ (slots : List ℕ) (sender before n : ℕ) (output : List ℕ) where
-  -- more than some number that is 128 at least
+  -- The frames are more than `most`, and `most` is at least 128.
   module _ (most : ℕ) (l : most < before + n) (h : 128 ≤ most) where
     more : ltb 128 (before + n) ≡ true
     more = lt-ltb 128 (before + n) (omega arith)

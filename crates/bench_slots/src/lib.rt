@@ -1,4 +1,4 @@
-// The frames that points have sent, each in a slot with the number of its sender.
+// The frames that the points have sent, each kept in a slot with the number of its sender.
 ghost use mathlib.Core.Path.{_≡_};
 ghost use mathlib.Core.Bool.{not};
 ghost use mathlib.Core.List.{_∷_};
@@ -11,10 +11,10 @@ ghost use Rattle.bench_slots.specs.Slots.{Holds, elementOf, keptSlots, p
 
 pub const MOST_FRAMES: usize = 128;
 
-// The sender (1), the receiver address (6), ID (1), Length (1) and at most 255 octets after that.
+// The octets of a slot: sender (1), receiver address (6), ID (1), Length (1) and at most 255 octets after Length.
 pub const SLOT: usize = 264;
 
-// Octets of the frame that begins at a place, by its Length.
+// Returns how many octets the frame at place `at` has, by its Length.
 fn frame_length(output: &[u8], at: usize) -> usize
     requires { ⌜ at + 8 ≤ length (now output) ⌝ }
     ensures { λ r. ⌜ r ≡ 8 + getD (now (output .entry)) (at + 7) 0 ⌝ }
@@ -24,7 +24,7 @@ fn frame_length(output: &[u8], at: usize) -> usize
     8 + length as usize
 }
 
-// Puts one frame into slot k.
+// Writes one frame and the number of its sender into slot k.
 fn keep_frame(slots: &mut [u8], k: usize, sender: u8, frame: &[u8])
     requires { ⌜ length (now slots) ≡ 33792 ⌝ }
     requires { ⌜ k < 128 ⌝ }
@@ -36,7 +36,7 @@ fn keep_frame(slots: &mut [u8], k: usize, sender: u8, frame: &[u8])
     octets::write_octets(slots, at + 1, frame);
 }
 
-// Keeps the n frames at the start of a call's output as frames `first`, `first + 1` and so on.
+// Keeps the n frames at the start of a call's output in the slots from `first` on.
 fn keep_frames(slots: &mut [u8], output: &[u8], sender: u8, first: usize, n: usize)
     requires { ⌜ length (now slots) ≡ 33792 ⌝ }
     requires { ⌜ first + n ≤ 128 ⌝ }
@@ -53,7 +53,8 @@ fn keep_frames(slots: &mut [u8], output: &[u8], sender: u8, first: usize, n: usi
     }
 }
 
-// Keeps them behind those that are there before, unless there would be a 129th: answers whether they are kept.
+// Keeps the n frames of a call after the `before` frames kept so far, and returns true. If there would be a 129th frame, keeps
+// none of the n frames and returns false.
 pub fn keep_emitted(slots: &mut [u8], output: &[u8], sender: u8, before: usize, n: u32) -> bool
     requires { ⌜ length (now slots) ≡ 33792 ⌝ }
     requires { ⌜ before ≤ 128 ⌝ }
@@ -68,6 +69,7 @@ pub fn keep_emitted(slots: &mut [u8], output: &[u8], sender: u8, before: usize, 
     true
 }
 
+// Returns the number of the point that sent frame k.
 pub fn sender_of(slots: &[u8], k: usize) -> u8
     requires { ⌜ length (now slots) ≡ 33792 ⌝ }
     requires { ⌜ k < 128 ⌝ }
@@ -76,7 +78,7 @@ pub fn sender_of(slots: &[u8], k: usize) -> u8
     octets::octet(slots, SLOT * k)
 }
 
-// The element of frame k, without its receiver address.
+// Returns the element of frame k, without the receiver address.
 pub fn element_of(slots: &[u8], k: usize) -> &[u8]
     requires { ⌜ length (now slots) ≡ 33792 ⌝ }
     requires { ⌜ k < 128 ⌝ }

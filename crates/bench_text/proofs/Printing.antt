@@ -15,7 +15,7 @@ use Rattle.bench_rules.specs.Text.{digitsOf, decimal, space, newline, letterE, 
 
 -- ---- digits
 
--- a number of 64 bits has at most 20 digits
+-- A number of 64 bits has at most 20 digits.
 few-digits : (n k : ℕ) → n < 2 ^ 64 → Fewest 10 1 n k → k ≤ 20
 few-digits n k small fewest = by (leb k 20) refl
   where
@@ -32,7 +32,7 @@ few-digits n k small fewest = by (leb k 20) refl
 last-digit : (n : ℕ) → glyph (n % 10) ≡ 48 + n % 10
 last-digit n = let low : n % 10 < 10 = omega arith in rw (lt-ltb (n % 10) 10 low)
 
--- the fewest digits that hold a number are its decimal ones
+-- The fewest digits that can hold a number are its decimal digits.
 digits-are : (most k n : ℕ) → k ≤ most → Fewest 10 1 n k → digits 10 k n ≡ digitsOf most n
 unfolding digitsOf
 digits-are most zero n few fewest = absurd (omega (arith, fewest .0))
@@ -60,7 +60,7 @@ digits-are (suc most) (suc (suc k)) n few fewest =
         let less : suc k - 1 ≡ k = omega arith in
         (omega arith, omega (arith, above), λ _. rw less (omega (arith, below)))
 
--- k digits of n are put at a place
+-- The k digits of n are written at place `at`.
 module _ (at n k : ℕ) (small : n < 2 ^ 64) (fewest : Fewest 10 1 n k) where
   pub digits-room : (text : List ℕ) → at + 20 ≤ length text → (ds : List ℕ) → k ≡ length (take k ds) → at + length (take k ds) ≤ length text
   digits-room text l ds e = omega (arith, few-digits n k small fewest)
@@ -94,7 +94,7 @@ module _ (at mid end : ℕ) (p q : List ℕ) (me : mid ≡ at + length p) (ee : 
   pub then-put : (text t u : List ℕ) → t ≡ overwrite text at p → u ≡ overwrite t mid q → u ≡ overwrite text at (p ++ q)
   then-put text t u te ue = ue ∙ ap₂ (λ (s : List ℕ) (k : ℕ). overwrite s k q) te me ∙ sym (overwrite-append text at p q)
 
--- a line, of three numbers with what stands behind each
+-- A line is three numbers, each with the octet after it.
 module _ (at a b end command answer third : ℕ) where
   abbrev first : List ℕ
   first = decimal command ++ space
@@ -122,7 +122,7 @@ module _ (at a b end command answer third : ℕ) where
         then-put at a end first (second ++ last) ae (then-end a b end second last be ee) text t v te
         (then-put a b end second last be ee t u v ue ve) ∙ ap (overwrite text at) in-three
 
--- E, a space, and a number with the end of the line
+-- A fault is E, a space, and a number with the end of the line.
 module _ (at a b end offset : ℕ) where
   abbrev number : List ℕ
   number = decimal offset ++ newline

@@ -6,10 +6,10 @@ ghost use lib.ListN.{length};
 ghost use Rattle.octets.specs.LittleEndian.{overwrite};
 ghost use Rattle.bench_rules.specs.Text.{decimal, faultText, lineText};
 
-// No line is longer: a command, two numbers of 32 bits or an offset of 64, and what stands between them.
+// No line is longer. A line has a command and two numbers of 32 bits, or E and an offset of 64 bits, with spaces and a newline.
 pub const LONGEST_LINE: usize = 64;
 
-// Each of these puts something at a place of the text, and answers where it ends.
+// Writes one octet at place `at` of the text. This and each function below returns the place after what it has written.
 fn put(text: &mut [u8], at: usize, octet: u8) -> usize
     requires { ⌜ at < length (now text) ⌝ }
     ensures { λ r. ⌜ r ≡ at + 1 ⌝ }
@@ -19,6 +19,7 @@ fn put(text: &mut [u8], at: usize, octet: u8) -> usize
     at + 1
 }
 
+// Writes a number in decimal.
 fn put_decimal(text: &mut [u8], at: usize, n: u64) -> usize
     requires { ⌜ at + 20 ≤ length (now text) ⌝ }
     ensures { λ r. ⌜ (r ≡ at + length (decimal n)) × (r ≤ at + 20) ⌝ }
@@ -30,7 +31,7 @@ fn put_decimal(text: &mut [u8], at: usize, n: u64) -> usize
     at + k
 }
 
-// A number, and the octet behind it.
+// Writes a number in decimal, and the octet after it.
 fn put_number(text: &mut [u8], at: usize, n: u64, octet: u8) -> usize
     requires { ⌜ at + 21 ≤ length (now text) ⌝ }
     ensures { λ r. ⌜ (r ≡ at + length (decimal n ++ (octet ∷ []))) × (r ≤ at + 21) ⌝ }
@@ -40,7 +41,7 @@ fn put_number(text: &mut [u8], at: usize, n: u64, octet: u8) -> usize
     put(text, end, octet)
 }
 
-// A command, its answer or refusal, and what stands third.
+// Writes the line of a command: the command, its answer or refusal, and the third number.
 pub fn put_line(text: &mut [u8], at: usize, command: u8, answer: u32, third: u32) -> usize
     requires { ⌜ at + 64 ≤ length (now text) ⌝ }
     ensures { λ r. ⌜ (r ≡ at + length (lineText command answer third)) × (r ≤ at + 64) ⌝ }
@@ -51,7 +52,7 @@ pub fn put_line(text: &mut [u8], at: usize, command: u8, answer: u32, third: u32
     put_number(text, b, third as u64, b'\n')
 }
 
-// E and the offset of the command at fault.
+// Writes the line of a fault: E and the offset of the command at fault.
 pub fn put_fault(text: &mut [u8], at: usize, offset: u64) -> usize
     requires { ⌜ at + 64 ≤ length (now text) ⌝ }
     ensures { λ r. ⌜ (r ≡ at + length (faultText offset)) × (r ≤ at + 64) ⌝ }

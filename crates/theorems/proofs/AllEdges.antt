@@ -1,4 +1,4 @@
--- P1 to P8, and the errors to shut out: every test passes, computed from the definitions.
+-- Every test of P1 to P8 and of the trainees' errors passes: the definitions compute it.
 use mathlib.Core.Path.{_≡_, refl}
 use mathlib.Core.Bool.{true}
 use Rattle.rules.specs.Lists.{all}

@@ -1,4 +1,4 @@
--- The boxes of a mesh by address: what is found after one of them is replaced.
+-- What the points of a mesh lend, found by address, after one entry of the list is replaced.
 use mathlib.Core.Path.{_≡_, refl, sym, ap, _∙_}
 use mathlib.Core.Bool.{Bool, true, false, cond}
 use mathlib.Core.List.{List, [], _∷_, map, List·Memᴰ, List·Memᴰ·head, List·Memᴰ·tail}
@@ -11,7 +11,7 @@ use Rattle.rules.specs.Exit.{Lent}
 use Rattle.rules.proofs.Branches.{cond-cases}
 use Rattle.theorems.specs.Mesh.{boxOf, withBox}
 
--- the box that is found is that of the point
+-- The table found for the address a has own address a.
 pub box-own : (a : Address) (boxes : List Lent) (l : Lent) → boxOf a boxes ≡ some l → own (l .table) ≡ a
 unfolding boxOf
 box-own a [] l = λ e. absurd (Option·none-ne-some l e)
@@ -19,7 +19,7 @@ box-own a (k ∷ boxes) l =
     cond-cases (λ (o : Option Lent). o ≡ some l → own (l .table) ≡ a) (same (own (k .table)) a)
     (λ q e. ap (λ (x : Lent). own (x .table)) (sym (Option·some-injective k l e)) ∙ same-is (own (k .table)) a q) (λ _. box-own a boxes l)
 
--- and one of the list
+-- What is found for an address is an entry of the list.
 pub box-listed : (a : Address) (boxes : List Lent) (l : Lent) → boxOf a boxes ≡ some l → List·Memᴰ l boxes
 unfolding boxOf
 box-listed a [] l = λ e. absurd (Option·none-ne-some l e)
@@ -27,7 +27,7 @@ box-listed a (k ∷ boxes) l =
     cond-cases (λ (o : Option Lent). o ≡ some l → List·Memᴰ l (k ∷ boxes)) (same (own (k .table)) a)
     (λ _ e. List·Memᴰ·head (sym (Option·some-injective k l e))) (λ _ e. List·Memᴰ·tail (box-listed a boxes l e))
 
--- a box of the same point in its place
+-- k also belongs to the point a, and replaces the entry of a.
 module _ (a : Address) (k : Lent) (is : own (k .table) ≡ a) where
   pub box-same : (boxes : List Lent) (l : Lent) → boxOf a boxes ≡ some l → boxOf a (withBox a k boxes) ≡ some k
   unfolding boxOf withBox
@@ -51,7 +51,7 @@ module _ (a : Address) (k : Lent) (is : own (k .table) ≡ a) where
           rw (differ (own (k .table)) b (λ e. apart (sym is ∙ e)), differ (own (h .table)) b (λ e. apart (sym (same-is (own (h .table)) a q) ∙ e)))
       by false q rest = ap (cond (same (own (h .table)) b) (some h)) rest
 
--- what is alike in a box and in the box that is put in its place is alike in the lists
+-- If f is equal on an entry and on its replacement, then f is equal on the whole lists.
 pub box-alike : {A : Type 0} (f : Lent → A) (a : Address) (k : Lent) (boxes : List Lent) (l : Lent) → boxOf a boxes ≡ some l → f k ≡ f l
     → map f (withBox a k boxes) ≡ map f boxes
 unfolding boxOf withBox

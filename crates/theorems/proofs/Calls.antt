@@ -45,12 +45,12 @@ use Rattle.theorems.proofs.Invariant.{Near, Backed, pathIn, Sound, Fine
 use Rattle.theorems.proofs.Moves.{changed-move, learnt-move, learnt-absent, learnt-stands}
 use Rattle.theorems.proofs.Frames.{AllBacked, replies-backed}
 
--- an element that is received is one of the log, from its sender
+-- A received element is an element of the log, and its transmitter is its sender.
 abbrev pub FromLog : List Sent → Call → Type 0
 FromLog log (receives a octets) = (s : Sent) × List·Memᴰ s log × (s .sender ≡ a .transmitter) × (s .octets ≡ octets)
 FromLog log (makes call) = Unit {0}
 
--- ---- originating: no row is written, and what is sent is the point's own path
+-- ---- originating: no row is written, and the path that is sent is the point's own
 
 module _ (d : Address) (base : ℕ) (log : List Sent) (l : Lent) where
   originates : (h : Head) → h .own ≡ own (l .table) → (e : Element) (flags lifetime : ℕ) → pathOf e ≡ some (ownPath h flags lifetime)
@@ -78,7 +78,7 @@ module _ (d : Address) (base : ℕ) (small : base < 2 ^ 32) (log : List Sent) (l
   abbrev t : List ℕ
   t = l .table
 
-  -- ---- rows that fall, under frames that bring no path
+  -- ---- rows that fall, with frames that carry no path
 
   fallen-sound : (p : Row → Bool) (f : Row → Row) → KeepsRows p f → ((r : Row) → InWindow base r → InWindow base (f r) → Falls base small r (f r))
       → (h : Head) (frames : List Frame) → AllBacked d base (own t) (rowFor (putHead (changeWhere p f t) h) d) frames
@@ -96,7 +96,7 @@ module _ (d : Address) (base : ℕ) (small : base < 2 ^ 32) (log : List Sent) (l
       falls-or-stays : (r : Row) → InWindow base r → InWindow base (changed p f r) → Falls base small r (changed p f r)
       falls-or-stays r near = by-test p f (λ (q : Row). InWindow base q → Falls base small r q) r (λ _. stays refl) (λ _. fall r near)
 
-  -- a break of active rows, whichever
+  -- A break is sound for any test that only active rows pass.
   break-sound : (c : ℕ) (test : Row → Bool) → ((r : Row) → test r ≡ true → active c r ≡ true)
       → Near base (rowFor (brokenOff l c test .lent .table) d) → Sound d base log t (brokenOff l c test)
   unfolding brokenOff errorAt
@@ -107,7 +107,7 @@ module _ (d : Address) (base : ℕ) (small : base < 2 ^ 32) (log : List Sent) (l
   -- ---- an element from the log
 
   module _ (a : Arrival) (s : Sent) (logged : List·Memᴰ s log) (by : s .sender ≡ a .transmitter) where
-    -- steps 1 and 2, whichever of the three elements brings the path
+    -- Steps 1 and 2, for a RANN, a RREQ or a RREP.
     module _ (p : PathInfo) (isSomeAnd : pathIn (s .octets) ≡ some p) (heard : Heard t a p) where
       u : List ℕ
       u = learnt a p t
@@ -131,7 +131,7 @@ module _ (d : Address) (base : ℕ) (small : base < 2 ^ 32) (log : List Sent) (l
       unfolding u onward
       onward-backed = backed-path _ (λ about. inr (learnt-stands d t a p heard base about))
 
-    -- a frame is backed by the row for d after steps 1 and 2
+    -- The frame f is backed by the row for d after steps 1 and 2.
     abbrev BackedAfter : PathInfo → Frame → Type 0
     BackedAfter p f = Backed d base (own (learnt a p t)) (rowFor (learnt a p t) d) (pathOf (f .element))
 

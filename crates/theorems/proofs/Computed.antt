@@ -1,4 +1,4 @@
--- The runs of `Runs.antt`, computed.
+-- The runs of `Runs.antt` pass their tests: the definitions compute it.
 use mathlib.Core.Path.{_≡_, refl}
 use mathlib.Core.Bool.{true}
 use mathlib.Core.List.{_++_}
@@ -10,7 +10,7 @@ use Rattle.theorems.specs.Premise.{beside, held, heldByAll, carried, num
 use Rattle.theorems.specs.WrongRules.{ruledBy}
 use Rattle.theorems.specs.Runs.{way, after, endOf, asDemanded, goesRound, heldIn, linesFrom, lines, agree, worked, wentRound, loops, counterexamples, happenWider, widerFits, leftOut, outside, outsideLoops}
 
--- what unfolds for a run to compute
+-- Collects the definitions that must unfold for a run to compute.
 running : Unit {0}
 unfolding computing start boxOf withBox callOf walkOver pointFits pointsFit ownCallFits actionFits
     sentBy afterCall happen run throughout nextAt met

@@ -1,4 +1,4 @@
--- The paths in the frames that a point emits: each is the point's own, or its row is at least as good.
+-- Each path in a reply is the point's own, or the point's row is at least as good as the path.
 use Prim.Native.Nat.{ℕ}
 use mathlib.Core.Path.{_≡_, refl, sym, ap, _∙_}
 use mathlib.Core.Bool.{true}
@@ -26,13 +26,13 @@ use Rattle.rules.specs.Receive.{pathOf}
 use Rattle.rules.proofs.Emitting.{replies-emitted}
 use Rattle.theorems.proofs.Invariant.{Stands, Backed, backed-path}
 
--- every path in the frames is backed, at the point with this address and this row for d
+-- Every path in the frames is backed, at the point with address self and with row o for d.
 abbrev pub AllBacked : Address → ℕ → Address → Option Row → List Frame → Type 0
 AllBacked d base self o frames = All (λ (f : Frame). Backed d base self o (pathOf (f .element))) frames
 
--- the point of the table u, after steps 1 and 2
+-- u is the table of the point after steps 1 and 2.
 module _ (d : Address) (base : ℕ) (u : List ℕ) where
-  -- a frame is backed by the row for d
+  -- The frame f is backed by the row for d.
   abbrev BackedHere : Frame → Type 0
   BackedHere f = Backed d base (own u) (rowFor u d) (pathOf (f .element))
 
@@ -51,7 +51,7 @@ module _ (d : Address) (base : ℕ) (u : List ℕ) where
         good = level refl (le-refl (r .metric .0));
       }
 
-  -- replies: for oneself, or from a row
+  -- A reply is for the point itself, or it repeats a row.
   pub replies-backed : (a : Arrival) (p : PathInfo) (n : SequenceNumber) (targets : List Target)
       → AllBacked d base (own u) (rowFor u d) (allAnswered u a p n targets .replies)
   replies-backed a p n targets =

@@ -1,8 +1,9 @@
--- The invariant of a mesh towards one destination d, `Inv`, and what it asks of one accepted call, `Fine`.
---     rooted    each valid row leads to d itself, or to a point that has sent a path strictly better than the row
---     backed    each path that was ever sent still stands: its sender is d, or holds a row at least as good
---     absent    d holds no row for itself
--- Nothing here knows the rules of the calls.
+-- The invariant `Inv` of a mesh towards one destination d, and the property `Fine` of an accepted call that keeps the
+-- invariant.
+--     rooted    Each valid row for d leads to d itself, or to a point that has sent a path strictly better than the row.
+--     backed    Each path for d that was ever sent still stands: its sender is d, or holds a row at least as good as the path.
+--     absent    d holds no row for itself.
+-- This file uses nothing of the rules of the calls.
 use Prim.Native.Nat.{ℕ}
 use mathlib.Core.Path.{_≡_, refl, sym, ap, subst, _∙_}
 use mathlib.Core.Bool.{true}
@@ -30,22 +31,22 @@ use Rattle.theorems.proofs.Boxes.{box-own, box-same, box-other}
 
 -- ---- one row, held or not
 
--- a known number in it is within the window
+-- If there is a row and its number is known, the number lies in the window.
 abbrev pub Near : ℕ → Option Row → Type 0
 Near base o = (r : Row) → o ≡ some r → InWindow base r
 
--- it is held, of known number, and at least as good as number n with metric m
+-- There is a row, its number is known, and it is at least as good as number n with metric m.
 pub record Stands (base : ℕ) (o : Option Row) (n : SequenceNumber) (m : ℕ) : Type 0 where
   pub row : Row
   pub found : o ≡ some row
   pub known : eqb (row .known) 1 ≡ true
   pub good : AtLeast base (row .number) (row .metric .0) n m
 
--- the path that the octets of an element bring
+-- Returns the path in the octets of an element, or none for a RERR.
 abbrev pub pathIn : List ℕ → Option PathInfo
 pathIn s = pathOf (readElement s)
 
--- the point a has sent a path for d that is strictly better than number n with metric m
+-- The point a has sent a path for d that is strictly better than number n with metric m.
 pub record HasSent (d : Address) (base : ℕ) (log : List Sent) (a : Address) (n : SequenceNumber) (m : ℕ) : Type 0 where
   pub sent : Sent
   pub logged : List·Memᴰ sent log
@@ -55,30 +56,34 @@ pub record HasSent (d : Address) (base : ℕ) (log : List Sent) (a : Address) (n
   pub about : path .subject ≡ d
   pub better : Above base (path .number) (path .metric .0) n m
 
+-- The next hop of the row r is d, or has sent a path for d that is strictly better than r.
 pub data Leads (d : Address) (base : ℕ) (log : List Sent) (r : Row) : Type 0 where
   home : r .next ≡ d → Leads d base log r
   nearer : HasSent d base log (r .next) (r .number) (r .metric .0) → Leads d base log r
 
+-- If there is a row and it is valid, it leads to d.
 abbrev pub Rooted : Address → ℕ → List Sent → Option Row → Type 0
 Rooted d base log o = (r : Row) → o ≡ some r → eqb (r .status) 1 ≡ true → Leads d base log r
 
--- a path for d, if there is one, is that of the point a itself, or a's row is at least as good
+-- If k is a path for d, then a is d, or the row o of the point a is at least as good as the path.
 abbrev pub Backed : Address → ℕ → Address → Option Row → Option PathInfo → Type 0
 Backed d base a o k = (p : PathInfo) → k ≡ some p → p .subject ≡ d → (a ≡ d) ⊎ Stands base o (p .number) (p .metric .0)
 
 -- ---- one call
 
--- what becomes of a row: what it stood for still stands, and it stays rooted
+-- A call turns the row o into o′. If o is at least as good as some number and metric, o′ is too. If o is rooted, o′ is too.
 pub record Move (d : Address) (base : ℕ) (log : List Sent) (o o′ : Option Row) : Type 0 where
   pub keeps : {n : SequenceNumber} {m : ℕ} → Stands base o n m → Stands base o′ n m
   pub rooted : Rooted d base log o → Rooted d base log o′
 
+-- A call on the table t with effect e moves the row for d as the invariant asks, brings d no row for itself, and emits only
+-- paths that are backed.
 pub record Sound (d : Address) (base : ℕ) (log : List Sent) (t : List ℕ) (e : Effect) : Type 0 where
   pub move : Move d base log (rowFor t d) (rowFor (e .lent .table) d)
   pub absent : own t ≡ d → rowFor t d ≡ none → rowFor (e .lent .table) d ≡ none
   pub backed : All (λ (f : Frame). Backed d base (own t) (rowFor (e .lent .table) d) (pathOf (f .element))) (e .frames)
 
--- the point stays the same, its frames fit, and the call is sound if a known number in the row that it leaves is within the window
+-- A call keeps the own address, and its frames fit. It is sound if a known number in the row that it leaves lies in the window.
 pub record Fine (d : Address) (base : ℕ) (log : List Sent) (t : List ℕ) (e : Effect) : Type 0 where
   pub own : own (e .lent .table) ≡ own t
   pub frames : FramesFit (e .frames)
@@ -108,7 +113,7 @@ rowOf d (some l) = rowFor (l .table) d
 unfoldable pub rowAt : Address → List Lent → Address → Option Row
 rowAt d boxes a = rowOf d (boxOf a boxes)
 
--- a row that is found stands in the table of a point
+-- The row r for d stands in the table of the point a.
 pub record RowAt (d : Address) (boxes : List Lent) (a : Address) (r : Row) : Type 0 where
   pub box : Lent
   pub at : boxOf a boxes ≡ some box
@@ -134,7 +139,7 @@ unfolding All
 all-at P [] h m = absurd (List·Memᴰ·not-nil m)
 all-at P {x} (y ∷ l) h m = ⊎-elim (λ e. rw e (h .0)) (λ k. all-at P l (h .1) k) (List·Memᴰ·cases-cons m)
 
--- the log only grows, so a row that leads on still does
+-- The log only grows, so a row that leads to d still leads to d.
 longer : {d : Address} {base : ℕ} {log : List Sent} (more : List Sent) {r : Row} → Leads d base log r → Leads d base (log ++ more) r
 longer more (home e) = home e
 longer more (nearer k) =
@@ -173,7 +178,8 @@ module _ (d : Address) (base : ℕ) (m : Mesh) (inv : Inv d base m) (a : Address
   unfolding boxes′
   sound = fine .sound (rw row-same at near)
 
-  -- a statement about the rows after the call: it holds at the point of the call, and elsewhere it held before
+  -- If P holds for the row that the call leaves, and held for all rows before the call, then P holds for all rows after the
+  -- call.
   each : (P : Address → Option Row → Type 0) → P a (rowFor (e .lent .table) d) → ((b : Address) → P b (rowAt d (m .boxes) b))
       → (b : Address) → P b (rowAt d boxes′ b)
   each P at elsewhere b =
@@ -190,7 +196,7 @@ module _ (d : Address) (base : ℕ) (m : Mesh) (inv : Inv d base m) (a : Address
       (λ b q. rw (← q) (inv .backed s k))
       (s .sender) refl
 
-  -- what is written is read back, so the element in the log is that of the frame
+  -- Reading the octets in the log gives back the element of the frame.
   frame-backed : (f : Frame) → List·Memᴰ f (e .frames) → BackedNow (record { sender = a; octets = writeElement (f .element) })
   frame-backed f k =
       rw (row-same, ← is-a, read-back (f .element) (all-at FrameFits (e .frames) (fine .frames) k .element))

@@ -1,4 +1,4 @@
--- P1 to P8, demand 3 and what it rests on, and last all theorems.
+-- P1 to P8, demand 3 and the laws behind it, and last all theorems.
 pub mod AllEdges
 pub mod Boxes
 pub mod Invariant

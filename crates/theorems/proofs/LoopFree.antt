@@ -1,4 +1,4 @@
--- Demand 3: whatever calls the points of a mesh make, no walk along valid rows meets a point twice.
+-- Demand 3: within its premise, no walk along valid rows meets a point twice, whatever calls the points of a mesh make.
 use Prim.Native.Nat.{ℕ, zero, suc, _+_, _*_, _^_, _<_}
 use mathlib.Core.Path.{_≡_, refl, sym, subst, _∙_}
 use mathlib.Core.Bool.{Bool, true, false, and-eq-true-iff}
@@ -42,7 +42,7 @@ use Rattle.theorems.proofs.Calls.{FromLog, call-fine}
 abbrev SentFits : Sent → Type 0
 SentFits s = (s .sender .0 < 256 ^ 6) × Octets (s .octets)
 
--- the table of a box is octets
+-- The table that a point lends consists of octets.
 abbrev BoxFits : Lent → Type 0
 BoxFits l = Octets (l .table)
 
@@ -146,7 +146,7 @@ logged [] k s e = absurd (Option·none-ne-some s e)
 logged (x ∷ log) zero s e = List·Memᴰ·head (Option·some-injective s x (sym e))
 logged (x ∷ log) (suc k) s e = List·Memᴰ·tail (logged log k s e)
 
--- the call that an action is: its operands fit, and an element that it brings is one of the log
+-- The operands of the call fit, and an element that it receives is an element of the log.
 record Made (log : List Sent) (call : Call) : Type 0 where
   fit : OperandsFit call
   from : FromLog log call
@@ -183,18 +183,18 @@ made log fits (makes own-call) fit call is =
 made log fits (findsNextHop c d) fit call is = absurd (Option·none-ne-some call is)
 made log fits (walks c from d) fit call is = absurd (Option·none-ne-some call is)
 
--- how long the tables are
+-- Returns the lengths of all tables.
 abbrev pub tableLengths : List Lent → List ℕ
 tableLengths boxes = map (λ (l : Lent). length (l .table)) boxes
 
 module _ (d : Address) (base : ℕ) (small : base < 2 ^ 32) (lengths : List ℕ) where
-  -- the invariant holds, and the tables have these lengths
+  -- The invariant holds, and the tables have these lengths.
   pub record Good (m : Mesh) : Type 0 where
     sane : Sane m
     inv : Inv d base m
     pub long : tableLengths (m .boxes) ≡ lengths
 
-  -- an accepted call of a point, whose operands fit, with an element of the log if it receives one
+  -- A call of the point a, which lends l, keeps the mesh good.
   module _ (m : Mesh) (good : Good m) (within : allWithin d base m ≡ true) (a : Address) (l : Lent) (here : boxOf a (m .boxes) ≡ some l) where
     octets : Octets (l .table)
     octets = box-fits m (good .sane) a l here
@@ -247,7 +247,7 @@ module _ (d : Address) (base : ℕ) (small : base < 2 ^ 32) (lengths : List ℕ)
       runs (happen decision m e) events (fits .1)
       (happens m e (fits .0) good (both .0) (at-first (happen decision m e) events (both .1))) (both .1)
 
--- a list of calls as the demand has it
+-- A list of calls as demand 3 asks for it.
 module _ (d : Address) (base : ℕ) (small : base < 2 ^ 32) (points : List Point) (events : List Event) (fit : all eventFits events ≡ true)
     (within : throughout (happen decision) (allWithin d base) (start points) events ≡ true) where
   pub ends-good : Good d base small (tableLengths (start points .boxes)) (run (happen decision) (start points) events)

@@ -1,4 +1,4 @@
--- What the calls do to the row for d, as the invariant asks it: steps 1 and 2 of receiving, a break, a received error.
+-- Steps 1 and 2 of receiving, a break and a received RERR move the row for d as the invariant asks.
 use Prim.Native.Nat.{ℕ, _^_, _<_}
 use mathlib.Core.Path.{_≡_, refl, sym, ap, subst, _∙_}
 use mathlib.Core.Bool.{true, not, true≢false, and-eq-true-iff}
@@ -51,7 +51,7 @@ module _ {d : Address} {base : ℕ} {log : List Sent} (small : base < 2 ^ 32) wh
 
 -- ---- steps 1 and 2
 
--- the element that brought the path is in the log, from its transmitter
+-- The path p comes from the element s of the log, and the transmitter is the sender of s.
 module _ (d : Address) (base : ℕ) (small : base < 2 ^ 32) (log : List Sent) (t : List ℕ) (a : Arrival) (p : PathInfo) (h : Heard t a p)
     (s : Sent) (logged : List·Memᴰ s log) (by : s .sender ≡ a .transmitter) (isSomeAnd : pathIn (s .octets) ≡ some p) where
   learnt-stands-on : (o′ : Option Row) → Learning d a p (rowFor t d) o′ → Near base (rowFor t d) → Near base o′
@@ -98,13 +98,13 @@ module _ (d : Address) (base : ℕ) (small : base < 2 ^ 32) (log : List Sent) (t
         rooted = learnt-rooted (rowFor t d) (rowFor (learnt a p t) d) (learning t a p h d);
       }
 
--- an address other than the own one
+-- An address that passes `isOther` is not the own address.
 other-not : (self x : Address) → isOther self x ≡ true → x ≡ self → ⊥
 unfolding isOther
 other-not self x e = not-same x self (not-true (same x self) (and-eq-true-iff (individual x) (not (same x self)) .0 e .1))
 
 module _ (d : Address) (t : List ℕ) (a : Arrival) (p : PathInfo) (h : Heard t a p) where
-  -- a point learns no row for itself
+  -- A point learns no row for itself.
   pub learnt-absent : own t ≡ d → rowFor t d ≡ none → rowFor (learnt a p t) d ≡ none
   learnt-absent self before = go (learning t a p h d)
     where
@@ -117,7 +117,7 @@ module _ (d : Address) (t : List ℕ) (a : Arrival) (p : PathInfo) (h : Heard t 
   unfolding subjectRow renewed numbered
   subject-stands base old k = record { row = subjectRow a p old; found = k; known = refl; good = level refl (le-refl (metricHere a p .0)) }
 
-  -- a path goes on with the number and the metric of the row
+  -- After steps 1 and 2, the row of the subject is at least as good as the path that is forwarded.
   pub learnt-stands : (base : ℕ) → p .subject ≡ d → Stands base (rowFor (learnt a p t) d) (p .number) (metricHere a p .0)
   learnt-stands base about = go (learning t a p h d)
     where

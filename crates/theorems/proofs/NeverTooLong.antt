@@ -1,4 +1,5 @@
--- Within the premise no walk answers 42: with as many hops as points it would meet one point more than there are, none twice.
+-- Within the premise of demand 3 no walk answers 42. A walk of as many hops as there are points, none met twice, would meet one
+-- point more than there are.
 use Prim.Native.Nat.{ℕ, zero, suc, _+_, _*_, _/_, _^_, _<_, _≤_}
 use mathlib.Core.Path.{_≡_, refl, sym, ap, ap₂, subst, _∙_}
 use mathlib.Core.Bool.{Bool, true, false, _&&_, _||_, cond}
@@ -35,7 +36,7 @@ use Rattle.theorems.proofs.Invariant.{rowOf}
 use Rattle.theorems.proofs.Pigeonhole.{no-longer}
 use Rattle.theorems.proofs.LoopFree.{tableLengths, ends-good, loop-free}
 
--- ---- lists of one length side by side, cut in pieces of that length
+-- ---- lists of one length side by side, cut into pieces of this length
 
 module _ {A : Type 0} (f : A → List ℕ) (long : ℕ) where
   lengths-added : (l : List A) → All (λ x. length (f x) ≡ long) l → length (flatMap f l) ≡ long * length l
@@ -45,7 +46,7 @@ module _ {A : Type 0} (f : A → List ℕ) (long : ℕ) where
       let e = mul-suc long (length l) in
       omega (arith, length-append (f x) (flatMap f l), h .0, lengths-added l (h .1))
 
-  -- those from piece i on, after the octets of the pieces before
+  -- The pieces from piece i on. `before` holds the octets of the earlier pieces.
   pieces-from : (before : List ℕ) (l : List A) (i : ℕ) → length before ≡ long * i → All (λ x. length (f x) ≡ long) l
       → each (tableAt (before ++ flatMap f l) long) i (length l) ≡ map f l
   unfolding each flatMap All tableAt
@@ -90,8 +91,7 @@ module _ (a : Address) where
       by true rest = refl
       by false rest = rest
 
--- the test of 10 did not apply, so the start is a point
--- ---- a step of the walk along active rows is one of the walk along valid rows
+-- ---- a step of the walk along active rows is a step of the walk along valid rows
 
 active-is-valid : (c : ℕ) (b : Address) (o : Option Row) → activeNext c o ≡ some b → validNext o ≡ some b
 unfolding activeNext active
@@ -107,7 +107,7 @@ module _ (m : Mesh) (c : ℕ) (d : Address) where
   abbrev tables : List (List ℕ)
   tables = tablesOf (m .boxes)
 
-  -- a is a point of the mesh
+  -- a is the address of a point of the mesh.
   abbrev IsPoint : Address → Type 0
   IsPoint a = isSome (boxOf a (m .boxes)) ≡ true
 
@@ -119,7 +119,7 @@ module _ (m : Mesh) (c : ℕ) (d : Address) where
       go none e = e
       go (some l) e = e
 
-  -- a row leads to b: b is its next hop, and the destination or a point
+  -- The next hop o is b, and b is the destination or a point.
   record Led (o : Option Address) (b : Address) : Type 0 where
     next : o ≡ some b
     known : (same b d || isSome (boxOf b (m .boxes))) ≡ true
@@ -133,17 +133,17 @@ module _ (m : Mesh) (c : ℕ) (d : Address) where
       by true q e = subst (λ (y : Address). Led (some x) y) (Option·some-injective x b e) (record { next = refl; known = rw (is-point x (m .boxes)) at q })
       by false q e = absurd (Option·none-ne-some b e)
 
-  -- the destination itself: 0
+  -- A walk that has come to the destination answers 0.
   arrives : (remaining : ℕ) (a : Address) (hops : ℕ) → same a d ≡ true → follow tables c d remaining a hops ≡ arrived hops
   unfolding follow
   arrives zero a hops e = rw e refl
   arrives (suc remaining) a hops e = rw e refl
 
-  -- the answer is 0 or 41
+  -- The answer is 0 or 41.
   abbrev Ends : Walked → Type 0
   Ends w = (w .answer ≡ 0) ⊎ (w .answer ≡ 41)
 
-  -- Else the walk meets one point more than it has hops.
+  -- The answer is 0 or 41, or the walk along valid rows meets one point more than it has hops.
   abbrev EndsOrMeets : ℕ → Address → Walked → Type 0
   EndsOrMeets remaining a w = Ends w ⊎ (length (met m d remaining a) ≡ suc remaining)
 
@@ -168,7 +168,7 @@ module _ (m : Mesh) (c : ℕ) (d : Address) where
       on none e rest = inl (inr refl)
       on (some b) e rest = further b (led _ b e) (same b d) refl rest
 
-  -- all that are met are points
+  -- Every address that a walk meets is the address of a point.
   all-points : (hops : ℕ) (a : Address) → All IsPoint (met m d hops a)
   unfolding met All
   all-points zero a = cond-cases (All IsPoint) (isSome (boxOf a (m .boxes))) (λ e. (e, tt)) (λ _. tt)
@@ -178,10 +178,10 @@ module _ (m : Mesh) (c : ℕ) (d : Address) where
       rest none h = tt
       rest (some b) h = h b
 
-  -- tables of one length, and no walk along valid rows that meets a point twice
+  -- All tables have one length, and no walk along valid rows meets a point twice.
   module _ (long : ℕ) (alike : All (λ (l : Lent). length (l .table) ≡ long) (m .boxes))
       (once : (hops : ℕ) (a : Address) → hasDuplicate (met m d hops a) ≡ false) where
-    -- no more are met than there are points
+    -- A walk meets at most as many points as there are.
     met-fewer : (hops : ℕ) (a : Address) → length (met m d hops a) ≤ length (m .boxes)
     met-fewer hops a =
         let k : List Address = points tables in
@@ -195,6 +195,7 @@ module _ (m : Mesh) (c : ℕ) (d : Address) where
         ⊎-elim (λ ends. ends) (λ long. let few = met-fewer (length (m .boxes)) a in absurd (omega (arith, long, few)))
         (ends-or-meets (length (m .boxes)) a 0 point)
 
+    -- An accepted walk starts at a point, because refusal 10 did not apply.
     walk-ends : (from : Address) (w : Walked) → walkOver m c from d ≡ accepted w → Ends w
     unfolding walkOver walk
     walk-ends from w e =
@@ -209,7 +210,7 @@ module _ (m : Mesh) (c : ℕ) (d : Address) where
 
 -- ---- after a list of calls
 
--- points with equally many rows begin with tables of one length, and calls keep it
+-- Points with equally many rows start with tables of one length, and calls keep the lengths.
 one-length : (long : ℕ) (boxes : List Lent) → All (λ (n : ℕ). n ≡ long) (tableLengths boxes) → All (λ (l : Lent). length (l .table) ≡ long) boxes
 unfolding All
 one-length long [] h = tt

@@ -1,4 +1,4 @@
--- A list without an address twice, each of whose addresses stands in another list, is no longer than that.
+-- If a list has no address twice and a second list contains all its addresses, the first list is at most as long as the second.
 use Prim.Native.Nat.{suc, _≤_}
 use mathlib.Core.Path.{_≡_, refl, ap}
 use mathlib.Core.Bool.{Bool, true, false, _||_, cond}
@@ -12,7 +12,7 @@ use Rattle.table.proofs.WellFormed.{same-is}
 use Rattle.element.specs.Entries.{All}
 use Rattle.element.specs.Lists.{contains, hasDuplicate}
 
--- k without the first a in it
+-- Returns k without the first a in it.
 unfoldable without : Address → List Address → List Address
 without a [] = []
 without a (b ∷ k) = cond (same b a) k (b ∷ without a k)
@@ -28,7 +28,7 @@ module _ (a : Address) where
       by true h rest = refl
       by false h rest = ap suc (rest h)
 
-  -- another address in k is still there
+  -- An address of k other than a is still there.
   still-there : (b : Address) → same b a ≡ false → (k : List Address) → contains k b ≡ true → contains (without a k) b ≡ true
   unfolding contains without
   still-there b apart [] h = h

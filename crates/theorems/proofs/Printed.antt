@@ -1,4 +1,4 @@
--- The worked case of document 01 on the bench, computed.
+-- The bench prints the text of the worked case: the definitions compute it.
 use mathlib.Core.Path.{_≡_, refl}
 use Rattle.rules.proofs.Computing.{computing}
 use Rattle.bench_links.specs.Links.{linked}

@@ -1,4 +1,4 @@
--- The theorems about the rules of document 01: the statements are in `specs/Statements.antt`.
+-- The theorems about the rules of `docs/PROTOCOL.md` and about its bench. `specs/Statements.antt` has the statements.
 use Prim.Native.Nat.{ℕ}
 use mathlib.Core.Path.{_≡_, refl, sym, ap, _∙_}
 use mathlib.Core.List.{List, map, flatMap}

@@ -1,4 +1,4 @@
--- Under the invariant a walk towards d meets no point twice: the rows that it follows get strictly better until it comes to d.
+-- Under the invariant, a walk towards d meets no point twice. The rows that it follows get strictly better until it comes to d.
 use Prim.Native.Nat.{ℕ, zero, suc}
 use mathlib.Core.Path.{_≡_, refl, sym, ap, _∙_}
 use mathlib.Core.Bool.{Bool, true, false, _||_, cond}
@@ -30,7 +30,7 @@ not-contained P a never (b ∷ l) h = by (same b a) refl (not-contained P a neve
     by false e rest = rest
 
 module _ (d : Address) (base : ℕ) (m : Mesh) (inv : Inv d base m) where
-  -- the row for d at the point a is valid, with next hop b
+  -- The row for d at the point a is valid, with next hop b.
   record Hop (a b : Address) : Type 0 where
     row : Row
     found : rowAt d (m .boxes) a ≡ some row
@@ -53,21 +53,21 @@ module _ (d : Address) (base : ℕ) (m : Mesh) (inv : Inv d base m) where
       go none q e = absurd (Option·none-ne-some b e)
       go (some l) q e = through l q (rowFor (l .table) d) refl e
 
-  -- the row for d at the point c is strictly better than the row r
+  -- The row for d at the point c is strictly better than the row r.
   record Beats (r : Row) (c : Address) : Type 0 where
     row : Row
     found : rowAt d (m .boxes) c ≡ some row
     better : Above base (row .number) (row .metric .0) (r .number) (r .metric .0)
 
-  -- c is d, or has a strictly better row than r
+  -- c is d, or has a strictly better row than r.
   abbrev Further : Row → Address → Type 0
   Further r c = (c ≡ d) ⊎ Beats r c
 
-  -- d has no row for itself, so no walk goes on from it
+  -- d has no row for itself, so no walk leads on from d.
   not-from-d : {a b : Address} → Hop a b → a ≡ d → ⊥
   not-from-d {a} h e = Option·none-ne-some (h .row) (sym (inv .absent) ∙ ap (rowAt d (m .boxes)) (sym e) ∙ h .found)
 
-  -- the next hop of a valid row is d, or has a strictly better row
+  -- The next hop of a valid row is d, or has a strictly better row.
   next-further : {a b : Address} (h : Hop a b) → Further (h .row) b
   next-further {a} {b} h = go (inv .rooted a (h .row) (h .found) (h .valid))
     where
@@ -86,7 +86,7 @@ module _ (d : Address) (base : ℕ) (m : Mesh) (inv : Inv d base m) where
       let same-row : near .row ≡ h .row = Option·some-injective (near .row) (h .row) (sym (near .found) ∙ h .found) in
       inr (record { row = far .row; found = far .found; better = at-least-trans (far .better) (rw same-row at (weaken (near .better))) })
 
-  -- every point that the walk meets after the row r is d, or has a strictly better row
+  -- If b is d or has a strictly better row than r, then the same holds for every point that a walk from b meets.
   all-further : (r : Row) (hops : ℕ) (b : Address) → Further r b → All (Further r) (met m d hops b)
   unfolding met All
   all-further r zero b near = cond-cases (All (Further r)) (isSome (boxOf b (m .boxes))) (λ _. (near, tt)) (λ _. tt)
@@ -98,7 +98,7 @@ module _ (d : Address) (base : ℕ) (m : Mesh) (inv : Inv d base m) where
       rest none e ih = tt
       rest (some c) e ih = ih c (further-trans r near (hop b c e) (next-further (hop b c e)))
 
-  -- the point of a row is not among those that come after
+  -- The point of a row is not among the points that the walk meets after it.
   not-again : {a b : Address} (h : Hop a b) → Further (h .row) a → ⊥
   not-again h (inl e) = not-from-d h e
   not-again h (inr k) =

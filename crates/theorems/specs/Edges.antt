@@ -1,5 +1,5 @@
--- The edges P1 to P8 of document 01 as one list of tests of the definitions, and the trainees' errors that it names as another;
--- tables and elements are octets.
+-- Two lists of tests of the definitions (PROTOCOL, 'Edges'): `edges` for P1 to P8, and `shutOut` for the trainees' errors.
+-- Tables and elements are octets.
 use Prim.Native.Nat.{ℕ, _+_, _*_}
 use mathlib.Core.Bool.{Bool, false, _&&_, _||_, not}
 use mathlib.Core.List.{List, [], _∷_, _++_}
@@ -31,25 +31,25 @@ use Rattle.rules.specs.Break.{breakNeighbour}
 
 -- ---- addresses
 
--- this point
+-- The address of this point.
 abbrev point : Address
 point = record { 0 = 2 }
 
--- the transmitter of each element below, and the neighbour that breaks
+-- The transmitter of each element below, and the broken neighbour.
 abbrev transmitter : Address
 transmitter = record { 0 = 4 }
 
--- the originator of each RANN and RREQ below, and the destination that a RERR names
+-- The originator of each RANN and RREQ below, and a destination that RERRs name.
 abbrev originator : Address
 originator = record { 0 = 6 }
 
--- the other points, numbered from 0
+-- Returns the address of another point. The other points are numbered from 0.
 abbrev other : ℕ → Address
 other i = record { 0 = 8 + 2 * i }
 
 -- ---- tables
 
--- the row for d with next hop the transmitter and this status, number and metric; its expiry is 1000
+-- Returns the row for d with this status, known number n and metric. The next hop is the transmitter, and the expiry is 1000.
 abbrev row : ℕ → Address → ℕ → ℕ → Row
 row status d n metric =
     record {
@@ -64,26 +64,26 @@ row status d n metric =
       expiry = 1000;
     }
 
--- a valid row for another point
+-- Returns a valid row for another point.
 abbrev heldFor : ℕ → Row
 heldFor i = row 1 (other i) 1 10
 
--- the table t with these rows from place i on
+-- Returns the table t with these rows from place i on.
 abbrev withRows : List ℕ → ℕ → List Row → List ℕ
 withRows t i [] = t
 withRows t i (r ∷ rs) = withRows (putRow t i r) (i + 1) rs
 
--- the table of this point with this own number and these rows
+-- Returns the table of this point with own number n and these rows.
 abbrev tableWith : ℕ → List Row → List ℕ
 tableWith n rs = withRows (fresh (32 + 32 * length rs) point (record { 0 = n })) 0 rs
 
--- the table with R = 4 of which rows 0 and 2 are held
+-- A table with R = 4 of which rows 0 and 2 are held.
 abbrev scattered : List ℕ
 scattered = tableWith 0 (heldFor 0 ∷ freeRow ∷ heldFor 1 ∷ freeRow ∷ [])
 
 -- ---- elements
 
--- the fields of an element of the originator with this number and metric
+-- Returns the path fields of an element of the originator, with number n and this metric.
 abbrev path : ℕ → ℕ → PathInfo
 path n metric =
     record {
@@ -96,89 +96,91 @@ path n metric =
       metric = record { 0 = metric };
     }
 
--- a RANN with this number and metric
+-- Returns a RANN with number n and this metric.
 abbrev announcement : ℕ → ℕ → List ℕ
 announcement n metric = writeElement (rann (path n metric))
 
--- a RREQ with these destinations
+-- Returns a RREQ with these destinations.
 abbrev request : List Target → List ℕ
 request targets = writeElement (rreq (record { request = record { 0 = 1 }; path = path 1 5 }) targets)
 
--- the destination d with this requested number
+-- Returns the destination d of a RREQ, with requested number n.
 abbrev target : Address → ℕ → Target
 target d n = record { flags = 0; address = d; number = record { 0 = n } }
 
--- a RREQ for n other points
+-- Returns a RREQ for n other points.
 abbrev requestFor : ℕ → List ℕ
 requestFor n = request (each (λ i. target (other i) 0) 0 n)
 
--- the octets of a RREQ with N replaced by n, which follows ID, Length and 25 octets of fields
+-- Returns the octets s of a RREQ with N replaced by n. N follows ID, Length and 25 octets of fields.
 abbrev recounted : ℕ → List ℕ → List ℕ
 recounted n s = set s 27 n
 
--- a RERR that names d with number n
+-- Returns the entry of a RERR that names d with number n.
 abbrev lost : Address → ℕ → LostDestination
 lost d n = record { address = d; number = record { 0 = n } }
 
+-- Returns a RERR with these entries.
 abbrev error : List LostDestination → List ℕ
 error destinations = writeElement (rerr ownError destinations)
 
 -- ---- a call
 
--- receive the element s over a link of this metric, at clock c, and at clock 0
+-- Returns the decision when this point, with table t, receives the element s over a link of this metric at clock c.
 abbrev heardAt : ℕ → List ℕ → ℕ → List ℕ → Decision Effect
 heardAt c t link s = receive (lend t) leastOutput (record { clock = c; transmitter = transmitter; link = record { 0 = link } }) s
 
+-- Returns the decision at clock 0.
 abbrev heard : List ℕ → ℕ → List ℕ → Decision Effect
 heard t link s = heardAt 0 t link s
 
--- and with a fresh table of one row
+-- Returns the decision at clock 0, with a fresh table of one row and over a link of metric 10.
 abbrev heardFirst : List ℕ → Decision Effect
 heardFirst s = heard (fresh 64 point (record { 0 = 0 })) 10 s
 
 -- ---- tests
 
--- octets have this Length, and are not refused by 6, 7 or 8
+-- Reports whether the octets s have this Length and pass refusals 6, 7 and 8.
 abbrev fitting : ℕ → List ℕ → Bool
 fitting long s = eqb (getD s 1 0) long && not (wrongLength s || otherId s || misfit s)
 
--- a call is refused with n
+-- Reports whether a call is refused with n.
 abbrev refusedWith : ℕ → Decision Effect → Bool
 refusedWith n (refused m) = eqb m n
 refusedWith n (accepted e) = false
 
--- a call is accepted, and what it leaves passes this test
+-- Reports whether a call is accepted and its effect passes this test.
 abbrev acceptedWith : (Effect → Bool) → Decision Effect → Bool
 acceptedWith test (refused m) = false
 acceptedWith test (accepted e) = test e
 
--- the originator's row then has this status, number and metric
+-- Reports whether an effect leaves the originator a row with this status, number n and this metric.
 abbrev leavesRow : ℕ → ℕ → ℕ → Effect → Bool
 leavesRow status n metric e =
     isSomeAnd (λ r. eqb (r .status) status && eqb (r .number .0) n && eqb (r .metric .0) metric)
     (rowFor (e .lent .table) originator)
 
--- an element is a reply for d with number n
+-- Reports whether an element is a reply for d with number n.
 abbrev isReplyFor : Address → ℕ → Element → Bool
 isReplyFor d n (rann p) = false
 isReplyFor d n (rreq f targets) = false
 isReplyFor d n (rrep f dependents) = same (f .path .subject) d && eqb (f .path .number .0) n
 isReplyFor d n (rerr f destinations) = false
 
--- the first frame has such a reply
+-- Reports whether the first frame has a reply for d with number n.
 abbrev firstIsReply : Address → ℕ → List Frame → Bool
 firstIsReply d n [] = false
 firstIsReply d n (f ∷ frames) = isReplyFor d n (f .element)
 
--- the first frame has a reply for this point with number n, and the own number is then n
+-- Reports whether the first frame has a reply for this point with number n, and the own number at the end is n.
 abbrev repliesWith : ℕ → Effect → Bool
 repliesWith n e = firstIsReply point n (e .frames) && eqb (number (e .lent .table) .0) n
 
--- row i is then held for the originator, and row j for the transmitter
+-- Reports whether an effect leaves row i held for the originator and row j held for the transmitter.
 abbrev takesRows : ℕ → ℕ → Effect → Bool
 takesRows i j e = holds (e .lent .table) originator i && holds (e .lent .table) transmitter j
 
--- row i is then as it was in t, octet by octet
+-- Reports whether an effect leaves row i as it was in t, octet by octet.
 abbrev keepsRow : List ℕ → ℕ → Effect → Bool
 keepsRow t i e = every (λ k. eqb (getD (e .lent .table) (32 + 32 * i + k) 0) (getD t (32 + 32 * i + k) 0)) 32
 
@@ -186,40 +188,40 @@ keepsRow t i e = every (λ k. eqb (getD (e .lent .table) (32 + 32 * i + k) 0) (g
 
 abbrev pub edges : List Bool
 edges =
-    -- P1: 0 is newer than 4,294,967,295
+    -- P1: 0 is newer than 4,294,967,295.
     newer (record { 0 = 0 }) (record { 0 = 4294967295 })
-    -- P2: 2,147,483,648 and 0 are each older than the other
+    -- P2: 2,147,483,648 and 0 are each older than the other.
     ∷ older (record { 0 = 2147483648 }) (record { 0 = 0 })
     ∷ older (record { 0 = 0 }) (record { 0 = 2147483648 })
-    -- P3: RREQ Lengths 37 and 246 fit; 26 and 257 cannot
+    -- P3: RREQ Lengths 37 and 246 fit; 26 and 257 cannot.
     ∷ fitting 37 (requestFor 1)
     ∷ fitting 246 (requestFor 20)
-    -- each with one N alone
+    -- Length 37 fits with N = 1 alone, and Length 246 with N = 20 alone.
     ∷ every (λ n. eqb n 1 || not (fits Rreq 37 n)) 256
     ∷ every (λ n. eqb n 20 || not (fits Rreq 246 n)) 256
     ∷ refusedWith 8 (heardFirst (recounted 2 (requestFor 1)))
     ∷ refusedWith 8 (heardFirst (recounted 19 (requestFor 20)))
-    -- 26 and 257 with no N; and no octet is the Length of 259 octets
+    -- Lengths 26 and 257 fit with no N. An element of 259 octets is refused (6) whatever its Length octet is.
     ∷ every (λ n. refusedWith 8 (heardFirst (130 ∷ 26 ∷ zeros 25 ++ n ∷ []))) 256
     ∷ every (λ n. not (fits Rreq 257 n)) 256
     ∷ every (λ long. wrongLength (130 ∷ long ∷ zeros 257)) 256
-    -- P4: RERR Length 2 is refused (8), 12 fits
+    -- P4: RERR Length 2 is refused (8), 12 fits.
     ∷ refusedWith 8 (heard (tableWith 0 (row 1 originator 9 40 ∷ [])) 10 (132 ∷ 2 ∷ 0 ∷ 0 ∷ []))
     ∷ fitting 12 (error (lost originator 9 ∷ []))
     ∷ acceptedWith (leavesRow 2 9 40) (heard (tableWith 0 (row 1 originator 9 40 ∷ [])) 10 (error (lost originator 9 ∷ [])))
-    -- P5: row number 9, metric 40; element 9, metric 25: link 15 is refused (25), link 14 gives 39
+    -- P5: row number 9, metric 40; element 9, metric 25: link 15 is refused (25), link 14 gives 39.
     ∷ refusedWith 25 (heard (tableWith 0 (row 1 originator 9 40 ∷ freeRow ∷ [])) 15 (announcement 9 25))
     ∷ acceptedWith (leavesRow 1 9 39) (heard (tableWith 0 (row 1 originator 9 40 ∷ freeRow ∷ [])) 14 (announcement 9 25))
-    -- P5 where that row isn't active
+    -- P5 with an invalidated row.
     ∷ refusedWith 25 (heard (tableWith 0 (row 2 originator 9 40 ∷ freeRow ∷ [])) 15 (announcement 9 25))
     ∷ acceptedWith (leavesRow 1 9 39) (heard (tableWith 0 (row 2 originator 9 40 ∷ freeRow ∷ [])) 14 (announcement 9 25))
-    -- P6: break on number 4,294,967,295, metric 30: number 0, metric 4,294,967,295
+    -- P6: break on number 4,294,967,295, metric 30: number 0, metric 4,294,967,295.
     ∷ acceptedWith (leavesRow 2 0 4294967295)
     (breakNeighbour (lend (tableWith 0 (row 1 originator 4294967295 30 ∷ []))) leastOutput 0 transmitter)
-    -- P7: own 12, requested 40: reply 41; requested 5: 13
+    -- P7: own 12, requested 40: reply 41; requested 5: 13.
     ∷ acceptedWith (repliesWith 41) (heard (tableWith 12 (freeRow ∷ freeRow ∷ [])) 10 (request (target point 40 ∷ [])))
     ∷ acceptedWith (repliesWith 13) (heard (tableWith 12 (freeRow ∷ freeRow ∷ [])) 10 (request (target point 5 ∷ [])))
-    -- P8: R = 4, rows 0 and 2 held, two needed: 1 and 3 taken, and those held stay as they are; rows 0, 1, 2 held: 27
+    -- P8: R = 4, rows 0 and 2 held, two needed: 1 and 3 taken, and 0 and 2 stay as they are; rows 0, 1, 2 held: 27.
     ∷ acceptedWith (takesRows 1 3) (heard scattered 10 (announcement 9 25))
     ∷ acceptedWith (λ e. keepsRow scattered 0 e && keepsRow scattered 2 e) (heard scattered 10 (announcement 9 25))
     ∷ refusedWith 27 (heard (tableWith 0 (heldFor 0 ∷ heldFor 1 ∷ heldFor 2 ∷ freeRow ∷ [])) 10 (announcement 9 25))
@@ -227,7 +229,7 @@ edges =
 
 -- ---- trainees' errors to shut out
 
--- the row for another point, by way of another next hop than the transmitter
+-- Returns a valid row for another point, with a next hop other than the transmitter.
 abbrev elsewhere : ℕ → Row
 elsewhere i =
     record {
@@ -242,7 +244,8 @@ elsewhere i =
       expiry = 1000;
     }
 
--- the originator's row is lost and goes on alone, and that of the other point stays
+-- Reports whether an effect invalidates the originator's row, leaves the row of the other point valid, and has one frame with
+-- one entry.
 abbrev losesOne : Effect → Bool
 losesOne e =
     leavesRow 2 9 40 e && isSomeAnd (λ r. eqb (r .status) 1) (rowFor (e .lent .table) (other 0))
@@ -250,25 +253,27 @@ losesOne e =
 
 abbrev pub shutOut : List Bool
 shutOut =
-    -- comparing numbers unsigned: in refusal 25, 4,294,967,295 is older than 0, and 0 is taken after it
+    -- Comparing numbers unsigned, in refusal 25: 4,294,967,295 is refused after 0, and 0 is accepted after 4,294,967,295.
     refusedWith 25 (heard (tableWith 0 (row 1 originator 0 40 ∷ freeRow ∷ [])) 1 (announcement 4294967295 5))
     ∷ acceptedWith (leavesRow 1 0 6) (heard (tableWith 0 (row 1 originator 4294967295 40 ∷ freeRow ∷ [])) 1 (announcement 0 5))
-    -- in a reply for oneself: of own number 4,294,967,295, requested 0, it has 1
+    -- Comparing numbers unsigned, in a reply for the own address: own 4,294,967,295, requested 0: reply 1.
     ∷ acceptedWith (repliesWith 1) (heard (tableWith 4294967295 (freeRow ∷ freeRow ∷ [])) 10 (request (target point 0 ∷ [])))
-    -- in an intermediate reply: a row with 0 answers where 4,294,967,295 is requested
+    -- Comparing numbers unsigned, in an intermediate reply: a row with number 0 answers if 4,294,967,295 is requested.
     ∷ acceptedWith (λ e. firstIsReply (other 0) 0 (e .frames))
     (heard (tableWith 0 (row 1 (other 0) 0 10 ∷ freeRow ∷ freeRow ∷ [])) 10 (request (target (other 0) 4294967295 ∷ [])))
-    -- in an error: a row takes 0 after 4,294,967,295, and the largest metric; not the other way round
+    -- Comparing numbers unsigned, in a RERR: a row with 4,294,967,295 takes 0 and metric 4,294,967,295. A row with 0 does not
+    -- take 4,294,967,295, and keeps its metric.
     ∷ acceptedWith (leavesRow 2 0 4294967295)
     (heard (tableWith 0 (row 1 originator 4294967295 40 ∷ [])) 10 (error (lost originator 0 ∷ [])))
     ∷ acceptedWith (leavesRow 2 0 40)
     (heard (tableWith 0 (row 1 originator 0 40 ∷ [])) 10 (error (lost originator 4294967295 ∷ [])))
-    -- an equal number into an inactive row at a worse metric: refused, whether the row is invalidated or expired
+    -- An equal number into an inactive row at a worse metric: refused (25), whether the row is invalidated or expired.
     ∷ refusedWith 25 (heard (tableWith 0 (row 2 originator 9 40 ∷ freeRow ∷ [])) 36 (announcement 9 5))
     ∷ refusedWith 25 (heardAt 1000 (tableWith 0 (row 1 originator 9 40 ∷ freeRow ∷ [])) 36 (announcement 9 5))
-    -- matching an error by destination only: a row by way of another next hop is no match
+    -- Matching an error by destination only: a row with another next hop is no match (26).
     ∷ refusedWith 26 (heard (tableWith 0 (elsewhere 0 ∷ [])) 10 (error (lost (other 0) 9 ∷ [])))
-    -- nor beside one that is: it stays, and does not go on
+    -- A row with another next hop is no match either if the RERR also names a match. The row stays, and its entry is not
+    -- forwarded.
     ∷ acceptedWith losesOne
     (heard (tableWith 0 (row 1 originator 9 40 ∷ elsewhere 0 ∷ [])) 10 (error (lost (other 0) 9 ∷ lost originator 9 ∷ [])))
     ∷ []

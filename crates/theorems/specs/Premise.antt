@@ -1,4 +1,4 @@
--- The premise of demand 3: the numbers that are held or carried for a destination, and the window in which they lie.
+-- The premise of demand 3: all numbers held or carried for a destination lie in one window.
 use Prim.Native.Nat.{ℕ, _^_}
 use mathlib.Core.Bool.{Bool, cond}
 use mathlib.Core.List.{List, [], _∷_, _++_, flatMap}
@@ -20,54 +20,57 @@ use Rattle.rules.specs.Lists.{all}
 use Rattle.rules.specs.Exit.{Lent}
 use Rattle.theorems.specs.Mesh.{Sent, Mesh}
 
--- a number, if it stands beside the address d
+-- Returns the number n, which stands with the address a, if a is d. Otherwise returns nothing.
 unfoldable pub beside : Address → Address → SequenceNumber → List SequenceNumber
 beside d a n = cond (same a d) (n ∷ []) []
 
--- the number of a row, if it is known
+-- Returns the number of a row if the row is there and its number is known.
 abbrev pub knownIn : Option Row → List SequenceNumber
 knownIn none = []
 knownIn (some r) = cond (eqb (r .known) 1) (r .number ∷ []) []
 
--- held for d in the table t: the own number, if t is d's table, and the known number of the row for d, valid or not
+-- Returns the numbers held for d in the table t: the own number if t is the table of d, and the number of the row for d, valid
+-- or not, if it is known.
 unfoldable pub held : Address → List ℕ → List SequenceNumber
 held d t = beside d (own t) (number t) ++ knownIn (rowFor t d)
 
--- held for d in the tables of these boxes
+-- Returns the numbers held for d in the tables of all points.
 unfoldable pub heldByAll : Address → List Lent → List SequenceNumber
 heldByAll d boxes = flatMap (λ (l : Lent). held d (l .table)) boxes
 
--- of a RANN or RREQ the originator's number, of a RREP the destination's
+-- Returns the number of a path if its subject is d. The subject is the originator of a RANN or RREQ, or the destination of a
+-- RREP.
 abbrev pub pathNumber : Address → PathInfo → List SequenceNumber
 pathNumber d p = beside d (p .subject) (p .number)
 
--- of a RREQ's destination
+-- Returns the number with a destination of a RREQ if the destination is d.
 abbrev pub targetNumber : Address → Target → List SequenceNumber
 targetNumber d q = beside d (q .address) (q .number)
 
--- of a RREP's source or dependent
+-- Returns the number with the source or a dependent of a RREP if its address is d.
 abbrev pub entryNumber : Address → NumberedAddress → List SequenceNumber
 entryNumber d m = beside d (m .address) (m .number)
 
--- of a RERR's destination
+-- Returns the number with a destination of a RERR if the destination is d.
 abbrev pub lostNumber : Address → LostDestination → List SequenceNumber
 lostNumber d m = beside d (m .address) (m .number)
 
--- all numbers that an element carries beside the address d
+-- Returns all numbers that an element carries with the address d.
 unfoldable pub carried : Address → Element → List SequenceNumber
 carried d (rann p) = pathNumber d p
 carried d (rreq f targets) = pathNumber d (f .path) ++ flatMap (targetNumber d) targets
 carried d (rrep f dependents) = pathNumber d (f .path) ++ entryNumber d (f .source) ++ flatMap (entryNumber d) dependents
 carried d (rerr f destinations) = flatMap (lostNumber d) destinations
 
--- all numbers for d, held in a table or carried in an element sent so far
+-- Returns all numbers for d that a table holds or that an element sent so far carries.
 unfoldable pub numbersFor : Address → Mesh → List SequenceNumber
 numbersFor d m = heldByAll d (m .boxes) ++ flatMap (λ (s : Sent). carried d (readElement (s .octets))) (m .log)
 
--- n is one of the 2^31 consecutive numbers from base on, counted round zero: n - base, wrapped to 32 bits, is below 2^31
+-- Reports whether n lies in the window that starts at base: the 2^31 consecutive numbers from base on, where 0 follows
+-- 4,294,967,295. In other words, n - base, wrapped to 32 bits, is below 2^31.
 unfoldable pub isWithin : ℕ → SequenceNumber → Bool
 isWithin base n = ltb (wrapped (n .0) base) (2 ^ 31)
 
--- all numbers for d are among these
+-- Reports whether all numbers for d lie in the window that starts at base.
 unfoldable pub allWithin : Address → ℕ → Mesh → Bool
 allWithin d base m = all (isWithin base) (numbersFor d m)

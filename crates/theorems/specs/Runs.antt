@@ -1,14 +1,18 @@
--- Runs as data, and what is shown of them by computation: two as demand 3 asks that find their ways, and lists that loop: five
--- under wrong rules, two with a call that the demand leaves out, and one outside the premise. In comments a row for D is written
--- number/metric via next hop, 'largest' is 4,294,967,295, and elements are named by their place in the log. What is defined here:
+-- Runs as data, and tests of them that compute. Two runs have everything that demand 3 asks for and find their way. Eight runs
+-- loop: five under wrong rules, two with a call that demand 3 leaves out, and one outside the premise of demand 3. What is
+-- defined here:
 --   _gets_over_at_, _asks-for_lasting_, ..        events, in words
 --   Run                                           points, events and a destination
---   way, endOf, asDemanded, goesRound             its walk and last mesh, what the demand asks of it, whether it then loops
---   lines                                         the bench's lines for it
---   workedCase, worked; roundZero, wentRound      the two that find their ways, and the tests that they pass
---   Counterexample, loops, counterexamples        those under wrong rules
---   WiderEvent, happenWider, leftOut              those with a forget or a second fresh table
---   outside, outsideLoops                         the one outside the premise
+--   way, endOf, asDemanded, goesRound             the walk of a run; its last mesh; what demand 3 asks for; whether the run loops
+--   lines                                         the answers to the events of a run, as in the bench's lines
+--   workedCase, worked; roundZero, wentRound      the two runs that find their way, each with its tests
+--   Counterexample, loops, counterexamples        the runs that loop under wrong rules
+--   WiderEvent, happenWider, leftOut              the runs with a forget or a second fresh table
+--   outside, outsideLoops                         the run outside the premise
+--
+-- Comments in the runs name elements by their place in the log: 'A forwards 1' says that the element that A forwards is element
+-- 1. 'A 1/5 via D' says that the row of A for D now has number 1, metric 5 and next hop D. 'largest' is the metric
+-- 4,294,967,295.
 use Prim.Native.Nat.{ℕ, _+_, _-_, _*_, _^_}
 use mathlib.Core.Bool.{Bool, true, false, _&&_}
 use mathlib.Core.List.{List, [], _∷_, _++_, map}
@@ -55,7 +59,7 @@ use Rattle.theorems.specs.WrongRules.{comparesPlainly, takesEqualReplies
 
 -- ---- points and events
 
--- the address 2,0,0,0,0,i + 1
+-- Returns the address 2,0,0,0,0,i + 1.
 abbrev pub point : ℕ → Address
 point i = record { 0 = 2 + (i + 1) * 2 ^ 40 }
 
@@ -74,52 +78,52 @@ D = point 3
 abbrev pub E : Address
 E = point 4
 
--- a point with so many rows, that starts with the number n
+-- Returns the point with address a that starts with own number n and this many rows.
 abbrev pub pointWith : ℕ → ℕ → Address → Point
 pointWith rows n a = record { address = a; number = record { 0 = n }; rows = rows }
 
--- the point p makes a call, with an output of 1,560 octets
+-- The point p makes a call with an output of 1,560 octets.
 abbrev pub does : Address → Action → Event
 does p action = record { point = p; room = leastOutput; action = action }
 
--- p receives the element at this place of the log, over a link of this metric, at this clock
+-- p receives the element at this place of the log, over a link of this metric, at clock c.
 infix 70 _gets_over_at_
 abbrev pub _gets_over_at_ : Address → ℕ → ℕ → ℕ → Event
 _gets_over_at_ p place link c = does p (delivers place c (record { 0 = link }))
 
--- p asks for q with flags 1 and this lifetime
+-- p asks for q with flags 1 and this lifetime.
 infix 70 _asks-for_lasting_
 abbrev pub _asks-for_lasting_ : Address → Address → ℕ → Event
 _asks-for_lasting_ p q lifetime = does p (makes (asks lifetime (1 ∷ numberOctets 6 (q .0))))
 
--- p announces itself, with lifetime 1000
+-- p announces itself with flags 0 and lifetime 1000.
 infix 70 _announces-itself
 abbrev pub _announces-itself : Address → Event
 _announces-itself p = does p (makes (announces 0 1000))
 
--- p sends a root request with these flags and lifetime 1000
+-- p sends a root request with these flags and lifetime 1000.
 infix 70 _requests-as-root_
 abbrev pub _requests-as-root_ : Address → ℕ → Event
 _requests-as-root_ p flags = does p (makes (requestsAsRoot flags 1000))
 
--- p reports at clock 0 that its neighbour q is broken
+-- p reports at clock 0 that its neighbour q is broken.
 infix 70 _loses_
 abbrev pub _loses_ : Address → Address → Event
 _loses_ p q = does p (makes (breaks 0 q))
 
--- p finds its next hop to q, at clock 0
+-- p finds its next hop to q at clock 0.
 infix 70 _seeks_
 abbrev pub _seeks_ : Address → Address → Event
 _seeks_ p q = does p (findsNextHop 0 q)
 
--- a walk from p to q over the tables of all points, at clock 0
+-- p walks from itself to q over the tables of all points, at clock 0.
 infix 70 _walks-to_
 abbrev pub _walks-to_ : Address → Address → Event
 _walks-to_ p q = does p (walks 0 p q)
 
--- ---- a run, and what is to be seen of it
+-- ---- a run, and tests of a run
 
--- points and events, a destination with the base of its window, and where a walk towards it starts
+-- Points, a list of events, a destination with the base of its window, and the start of a walk towards the destination.
 pub record Run (K : Type 0) : Type 0 where
   pub points : List Point
   pub events : List K
@@ -127,7 +131,7 @@ pub record Run (K : Type 0) : Type 0 where
   pub base : ℕ
   pub from : Address
 
--- A, B, C, D and E, each with 3 rows, of which D starts with the number n and the others with 0, and a walk from A to D
+-- Returns a run of A, B, C, D and E, each with 3 rows, and a walk from A to D. D starts with own number n, the others with 0.
 abbrev pub towardsD : {K : Type 0} → (n base : ℕ) → List K → Run K
 towardsD n base events =
     record {
@@ -138,34 +142,38 @@ towardsD n base events =
       from = A;
     }
 
--- the points that the walk of demand 3 meets in a mesh, in as many hops as there are points
+-- Returns the points that the walk of demand 3 meets in the mesh m, in at most as many hops as there are points.
 unfoldable pub way : {K : Type 0} → Run K → Mesh → List Address
 way r m = met m (r .destination) (length (r .points)) (r .from)
 
--- a run by events that change a mesh like this
+-- `happens` returns the mesh after one event.
 module _ {K : Type 0} (happens : Mesh → K → Mesh) where
-  -- the mesh after the first k events, and after all
+  -- Returns the mesh after the first k events of a run.
   unfoldable pub after : ℕ → Run K → Mesh
   after k r = run happens (start (r .points)) (take k (r .events))
 
+  -- Returns the mesh after all events of a run.
   unfoldable pub endOf : Run K → Mesh
   endOf r = run happens (start (r .points)) (r .events)
 
-  -- all that demand 3 asks: of the points, of the operands by the test `fits`, and its premise for the destination
+  -- Reports whether a run has everything that demand 3 asks for: its points fit, its events pass the test `fits`, and the
+  -- premise holds for its destination.
   unfoldable pub asDemanded : (K → Bool) → Run K → Bool
   asDemanded fits r =
       pointsFit (r .points) && all fits (r .events)
       && ltb (r .base) (2 ^ 32) && throughout happens (allWithin (r .destination) (r .base)) (start (r .points)) (r .events)
 
-  -- the run is as demanded, and its walk meets a point twice
+  -- Reports whether a run has everything that demand 3 asks for and its walk meets a point twice.
   unfoldable pub goesRound : (K → Bool) → Run K → Bool
   goesRound fits r = asDemanded fits r && hasDuplicate (way r (endOf r))
 
--- the numbers for the destination that the tables of a mesh hold
+-- Returns the numbers that the tables of the mesh m hold for the destination of a run.
 unfoldable pub heldIn : Run Event → Mesh → List ℕ
 heldIn r m = map (λ (n : SequenceNumber). n .0) (heldByAll (r .destination) (m .boxes))
 
--- ---- the lines of the bench: for each event its answer, and beside it the frames emitted, the next hop, or the hops of a walk
+-- ---- answers, as in the lines of the bench
+
+-- An event gives two numbers: first the answer, and then the number of frames emitted, the next hop, or the hops of a walk.
 
 abbrev pub callLine : Decision Effect → List ℕ
 callLine o = let x : Exit = atExit (lend []) [] o in x .answer ∷ x .frames ∷ []
@@ -178,12 +186,12 @@ abbrev pub walkLine : Decision Walked → List ℕ
 walkLine o = let w : Walked = walkedAtExit o in w .answer ∷ w .hops ∷ []
 
 module _ (rules : Rules) where
-  -- 0 and 0 where nothing stands at the place of the log
+  -- Returns the two numbers of a delivery. They are 0 and 0 if the log has no element at the place.
   abbrev pub deliveryLine : Lent → ℕ → Option Call → List ℕ
   deliveryLine l room none = 0 ∷ 0 ∷ []
   deliveryLine l room (some call) = callLine (rules l room call)
 
-  -- and where there is no point of that address
+  -- Returns the two numbers of an action. They are 0 and 0 if there is no point with the address.
   abbrev pub lineAt : Mesh → ℕ → Option Lent → Action → List ℕ
   lineAt m room none action = 0 ∷ 0 ∷ []
   lineAt m room (some l) (delivers place c link) = deliveryLine l room (callOf (m .log) (delivers place c link))
@@ -199,16 +207,16 @@ module _ (rules : Rules) where
   unfoldable pub lines : Run Event → List ℕ
   lines r = linesFrom (start (r .points)) (r .events)
 
--- two lists have the same entries in the same order
+-- Reports whether two lists have equal entries in the same order.
 unfoldable pub agree : {A : Type 0} → (A → A → Bool) → List A → List A → Bool
 agree eq [] [] = true
 agree eq [] (y ∷ ys) = false
 agree eq (x ∷ xs) [] = false
 agree eq (x ∷ xs) (y ∷ ys) = eq x y && agree eq xs ys
 
--- ---- the worked case of document 01
+-- ---- the worked case (PROTOCOL, 'Worked case')
 
--- R = 16, links 0-1 at 10 and 1-2 at 20
+-- Three points with R = 16. The link of points 0 and 1 has metric 10, and the link of points 1 and 2 has metric 20.
 abbrev pub workedCase : (from destination : Address) → Run Event
 workedCase from destination =
     record {
@@ -236,36 +244,38 @@ back = workedCase (point 2) (point 0)
 unfoldable pub worked : Rules → List Bool
 worked rules =
     let m : Mesh = endOf (happen rules) there in
-    -- the run is as demanded for the one that is asked for and for the one that asks
+    -- The run has everything that demand 3 asks for, with either end as the destination.
     asDemanded (happen rules) eventFits there
     ∷ asDemanded (happen rules) eventFits back
-    -- the lines of the bench for the calls: `4 0 1`, three times `6 0 1`, `6 0 0`, `8 0 2` and `6 25 0`
+    -- The bench's lines for these calls are `4 0 1`, three times `6 0 1`, `6 0 0`, `8 0 2` and `6 25 0`.
     ∷ agree eqb (lines rules there) (0 ∷ 1 ∷ 0 ∷ 1 ∷ 0 ∷ 1 ∷ 0 ∷ 1 ∷ 0 ∷ 0 ∷ 0 ∷ 2 ∷ 25 ∷ 0 ∷ [])
-    -- the walks of demand 3, there and back
+    -- The walks of demand 3 meet all three points, there and back.
     ∷ agree same (way there m) (point 0 ∷ point 1 ∷ point 2 ∷ [])
     ∷ agree same (way back m) (point 2 ∷ point 1 ∷ point 0 ∷ [])
     ∷ []
 
--- ---- a run in which numbers go round zero
+-- ---- a run in which numbers pass zero
 
 abbrev pub roundZero : Run Event
 roundZero =
     towardsD (2 ^ 32 - 2) (2 ^ 32 - 6)
-    -- D sends element 0 with 4,294,967,295; B 4294967295/5 via D, element 1; A 4294967295/10 via B, element 2
+    -- D sends 0 with number 4,294,967,295. B 4294967295/5 via D, and B forwards 1. A 4294967295/10 via B, and A forwards 2.
     (D announces-itself
     ∷ B gets 0 over 5 at 0
     ∷ A gets 1 over 5 at 0
-    -- B 0/largest, invalidated, newer than D's own number; the error is element 3; A 0/largest, invalidated, element 4
+    -- B 0/largest, invalidated, with a newer number than D's own. The RERR is element 3.
+    -- A 0/largest, invalidated, and A forwards 4.
     ∷ B loses D
     ∷ A gets 3 over 5 at 0
     ∷ A seeks D
-    -- D sends element 5 with 0; B 0/7 via D, element 6; A's late element 2 is refused, as 4,294,967,295 is older than 0
+    -- D sends 5 with number 0. B 0/7 via D, and B forwards 6.
+    -- B refuses A's late element 2, because 4,294,967,295 is older than 0.
     ∷ D requests-as-root 0
     ∷ B gets 5 over 7 at 0
     ∷ B gets 2 over 1 at 0
-    -- A 0/12 via B, element 7
+    -- A 0/12 via B, and A forwards 7.
     ∷ A gets 6 over 5 at 0
-    -- D sends element 8 with 1; B 1/5 via D, element 9; A 1/10 via B
+    -- D sends 8 with number 1. B 1/5 via D, and B forwards 9. A 1/10 via B.
     ∷ D announces-itself
     ∷ B gets 8 over 5 at 0
     ∷ A gets 9 over 5 at 0
@@ -277,21 +287,22 @@ unfoldable pub wentRound : Rules → List Bool
 wentRound rules =
     let m : Mesh = endOf (happen rules) roundZero in
     asDemanded (happen rules) eventFits roundZero
-    -- Each element is sent or taken with one frame, but the late element 2, which B refuses. A finds no next hop while its row is
-    -- invalidated, and in the end B; the walk has two hops.
+    -- B refuses the late element 2 (25). Every other call that sends or receives emits one frame. A finds no next hop (28)
+    -- while its row is invalidated, and finds B at the end. The walk has two hops.
     ∷ agree eqb (lines rules roundZero)
     (0 ∷ 1 ∷ 0 ∷ 1 ∷ 0 ∷ 1 ∷ 0 ∷ 1 ∷ 0 ∷ 1 ∷ 28 ∷ 0
     ∷ 0 ∷ 1 ∷ 0 ∷ 1 ∷ 25 ∷ 0 ∷ 0 ∷ 1 ∷ 0 ∷ 1 ∷ 0 ∷ 1 ∷ 0 ∷ 1 ∷ 0 ∷ B .0 ∷ 0 ∷ 2 ∷ [])
-    -- what A, B and D hold after four events, after nine, and in the end
+    -- The numbers for D that A, B and D hold after four events, after nine events, and at the end.
     ∷ agree eqb (heldIn roundZero (after (happen rules) 4 roundZero)) (4_294_967_295 ∷ 0 ∷ 4_294_967_295 ∷ [])
     ∷ agree eqb (heldIn roundZero (after (happen rules) 9 roundZero)) (0 ∷ 0 ∷ 0 ∷ [])
     ∷ agree eqb (heldIn roundZero m) (1 ∷ 1 ∷ 1 ∷ [])
-    -- the walk of demand 3
+    -- The walk of demand 3 meets A, B and D.
     ∷ agree same (way roundZero m) (A ∷ B ∷ D ∷ [])
     ∷ []
 
 -- ---- loops under wrong rules
 
+-- Wrong rules, and a run that loops under them.
 pub record Counterexample : Type 0 where
   pub rules : Rules
   pub list : Run Event
@@ -299,95 +310,95 @@ pub record Counterexample : Type 0 where
 abbrev pub loops : Counterexample → Bool
 loops x = goesRound (happen (x .rules)) eventFits (x .list)
 
--- Numbers compared as plain numbers.
+-- Refusal 25 compares numbers as plain numbers.
 abbrev pub plainNumbers : Counterexample
 plainNumbers =
     record {
       rules = comparesPlainly;
       list = towardsD (2 ^ 32 - 2) (2 ^ 32 - 6)
-          -- D sends element 0 with 4,294,967,295
+          -- D sends 0 with number 4,294,967,295.
           (D requests-as-root 0
-          -- A 4294967295/2 via D, element 1
+          -- A 4294967295/2 via D, and A forwards 1.
           ∷ A gets 0 over 2 at 0
-          -- A 0/largest, invalidated; the error is element 2
+          -- A 0/largest, invalidated. The RERR is element 2.
           ∷ A loses D
-          -- B 4294967295/4 via A, element 3
+          -- B 4294967295/4 via A, and B forwards 3.
           ∷ B gets 1 over 2 at 0
-          -- 4,294,967,295 counts as newer than 0: A 4294967295/6 via B
+          -- 4,294,967,295 wrongly counts as newer than 0: A 4294967295/6 via B.
           ∷ A gets 3 over 2 at 0
           ∷ []);
     }
 
--- A reply with an equal number that needs no better metric.
+-- Refusal 25 lets a RREP with an equal number pass at any metric.
 abbrev pub equalReply : Counterexample
 equalReply =
     record {
       rules = takesEqualReplies;
       list = towardsD 0 0
-          -- E sends element 0, with reply wanted
+          -- E sends 0, a root request with reply wanted.
           (E requests-as-root 4
-          -- A replies with element 1 and sends on element 2, B replies with 3 and sends on 4, D replies with 5 and sends on 6
+          -- A replies with 1 and forwards 2. B replies with 3 and forwards 4. D replies with 5, with number 1, and forwards 6.
           ∷ A gets 0 over 1 at 0
           ∷ B gets 2 over 1 at 0
           ∷ D gets 4 over 1 at 0
-          -- D's reply at A: 1/1 via D, goes on as element 7
+          -- A receives D's reply: A 1/1 via D, and A forwards 7.
           ∷ A gets 5 over 1 at 0
-          -- at B: 1/2 via A, goes on as element 8
+          -- B 1/2 via A, and B forwards 8.
           ∷ B gets 7 over 1 at 0
-          -- again at A: 1/3 via B
+          -- A receives the reply again: A 1/3 via B.
           ∷ A gets 8 over 1 at 0
           ∷ []);
     }
 
--- An equal number taken into an inactive row at a worse metric.
+-- Refusal 25 lets an equal number pass at any metric if the row is inactive.
 abbrev pub equalIfInactive : Counterexample
 equalIfInactive =
     record {
       rules = takesEqualIfInactive;
       list = towardsD 0 0
-          -- D sends element 0 with 1, of lifetime 1
+          -- D sends 0 with number 1 and lifetime 1.
           (D asks-for E lasting 1
-          -- A 1/6 via D until clock 10, element 1
+          -- A 1/6 via D, with expiry 10, and A forwards 1.
           ∷ A gets 0 over 6 at 9
-          -- B 1/14 via A, element 2
+          -- B 1/14 via A, and B forwards 2.
           ∷ B gets 1 over 8 at 1
-          -- A's row has expired: A 1/19 via B
+          -- The row of A has expired: A 1/19 via B.
           ∷ A gets 2 over 5 at 11
           ∷ []);
     }
 
--- A broken row that is dropped.
+-- A break frees the rows that it should invalidate.
 abbrev pub dropped : Counterexample
 dropped =
     record {
       rules = dropsBroken;
       list = towardsD 0 0
-          -- D sends element 0 with 1
+          -- D sends 0 with number 1.
           (D announces-itself
-          -- A 1/5 via D, element 1; B 1/10 via A, element 2
+          -- A 1/5 via D, and A forwards 1. B 1/10 via A, and B forwards 2.
           ∷ A gets 0 over 5 at 0
           ∷ B gets 1 over 5 at 0
-          -- A's row is gone; the error is element 3
+          -- The row of A is free. The RERR is element 3.
           ∷ A loses D
-          -- A 1/11 via B
+          -- A 1/11 via B.
           ∷ A gets 2 over 1 at 0
           ∷ []);
     }
 
--- A break that does not step the number.
+-- A break does not step the numbers of the rows that it invalidates.
 abbrev pub unstepped : Counterexample
 unstepped =
     record {
       rules = keepsNumber;
       list = towardsD 0 0
-          -- D sends element 0 with 1
+          -- D sends 0 with number 1.
           (D announces-itself
-          -- A 1/2 via D, element 1; B 1/5 via A, element 2
+          -- A 1/2 via D, and A forwards 1. B 1/5 via A, and B forwards 2.
           ∷ A gets 0 over 2 at 0
           ∷ B gets 1 over 3 at 0
-          -- A 1/largest, invalidated; the error is element 3
+          -- A 1/largest, invalidated. The RERR is element 3.
           ∷ A loses D
-          -- A 1/8 via B
+          -- A 1/8 via B.
           ∷ A gets 2 over 3 at 0
           ∷ []);
     }
@@ -395,44 +406,47 @@ unstepped =
 unfoldable pub counterexamples : List Counterexample
 counterexamples = plainNumbers ∷ equalReply ∷ equalIfInactive ∷ dropped ∷ unstepped ∷ []
 
--- ---- loops under the rules, with a call that the demand leaves out
+-- ---- loops under the rules, with a call that demand 3 leaves out
 
--- a call of the demand's list; or a point forgets a destination; or it makes its table fresh once more, with this number
+-- `listed` is a call that demand 3 allows. `forgets`: a point forgets a destination. `startsAnew`: a point makes its table
+-- fresh again, with this own number.
 pub data WiderEvent : Type 0 where
   listed : Event → WiderEvent
   forgets : (point destination : Address) → WiderEvent
   startsAnew : (point : Address) → SequenceNumber → WiderEvent
 
--- the mesh after the point a, with this box, has called fresh or forget on its table
+-- Returns the mesh after the point a, which lends l, has called fresh or forget on its table, given the decision on the call.
 abbrev pub afterTableCall : Mesh → Address → Lent → Decision (List ℕ) → Mesh
 afterTableCall m a l (refused n) = m
 afterTableCall m a l (accepted t) = record { boxes = withBox a (withTable t l) (m .boxes); log = m .log }
 
+-- Returns the mesh after the point a has called fresh or forget. The mesh stays as it was if there is no such point.
 abbrev pub tableCalled : Mesh → Address → (List ℕ → Decision (List ℕ)) → Option Lent → Mesh
 tableCalled m a call none = m
 tableCalled m a call (some l) = afterTableCall m a l (call (l .table))
 
+-- Returns the mesh after one event under the rules.
 unfoldable pub happenWider : Mesh → WiderEvent → Mesh
 happenWider m (listed e) = happen decision m e
 happenWider m (forgets a d) = tableCalled m a (λ t. forget t d) (boxOf a (m .boxes))
 happenWider m (startsAnew a n) = tableCalled m a (λ t. makeFresh t a n) (boxOf a (m .boxes))
 
--- a number has four octets
+-- Reports whether the operands of an event fit. The own number of a fresh table has four octets.
 unfoldable pub widerFits : WiderEvent → Bool
 widerFits (listed e) = eventFits e
 widerFits (forgets a d) = true
 widerFits (startsAnew a n) = ltb (n .0) (256 ^ 4)
 
--- A loses its row for D, by this call
+-- Returns a run in which A loses its row for D through the call `loss`.
 abbrev pub losingItsRow : WiderEvent → Run WiderEvent
 losingItsRow loss =
     towardsD 0 0
-    -- D sends element 0 with 1; A 1/5 via D, element 1; B 1/10 via A, element 2
+    -- D sends 0 with number 1. A 1/5 via D, and A forwards 1. B 1/10 via A, and B forwards 2.
     (listed (D announces-itself)
     ∷ listed (A gets 0 over 5 at 0)
     ∷ listed (B gets 1 over 5 at 0)
     ∷ loss
-    -- A 1/11 via B
+    -- A 1/11 via B.
     ∷ listed (A gets 2 over 1 at 0)
     ∷ [])
 
@@ -441,23 +455,24 @@ leftOut = losingItsRow (forgets A D) ∷ losingItsRow (startsAnew A (record { 0 
 
 -- ---- a loop under the rules, outside the premise
 
--- No window has 1, 3 and 2,147,483,650.
+-- No window holds 1, 3 and 2,147,483,650.
 abbrev pub outside : Run Event
 outside =
     towardsD (2 ^ 31 + 1) 0
-    -- D sends element 0 with 2,147,483,650; A has it via D, element 1; B via A, element 2
+    -- D sends 0 with number 2,147,483,650. A 2147483650/1 via D, and A forwards 1. B 2147483650/2 via A, and B forwards 2.
     (D announces-itself
     ∷ A gets 0 over 1 at 0
     ∷ B gets 1 over 1 at 0
-    -- C knows no number and asks with 0, element 3; D takes 0 as newer and replies with 1, element 4; A learns 1
+    -- C knows no number for D and asks with number 0, element 3. For D, 0 is newer than 2,147,483,650, so D replies with number
+    -- 1, element 4. A 1/1 via D.
     ∷ C asks-for D lasting 1000
     ∷ D gets 3 over 1 at 0
     ∷ A gets 4 over 1 at 0
-    -- D announces 2 and 3, elements 5 and 6; A learns 3
+    -- D announces numbers 2 and 3, elements 5 and 6. A 3/1 via D.
     ∷ D announces-itself
     ∷ D announces-itself
     ∷ A gets 6 over 1 at 0
-    -- B's late element 2: 2,147,483,650 is newer than 3 again, and A has it via B
+    -- A receives B's late element 2, and 2,147,483,650 is newer than 3: A 2147483650/3 via B.
     ∷ A gets 2 over 1 at 0
     ∷ [])
 

@@ -1,10 +1,29 @@
--- What is proved of the rules of document 01, and of its bench: each statement is a type here, and `proofs/Theorems.antt` has its
--- proof under the name that is given beside it.
+-- Everything that is proved about the rules of `docs/PROTOCOL.md` and about its bench. Each statement is a type in this file.
+-- The comment above a statement says it in words. The comment begins with the name of the theorem in `proofs/Theorems.antt`
+-- that proves the statement.
 --
--- How to read: `(x : T) → P` is 'for every x: P', `P → Q` 'if P then Q', `×` 'and', `⊎` 'or', `≡` 'equals'; `x ∷ l` is a list
--- that begins with x, `l ++ k` one list after another; `cond b x y` is x if b holds, else y; `r .f` is the field f of r, and
--- `a .0` the number that an address, a sequence number or a metric is. A `List ℕ` is a list of octets; a `Lent` is what a point
--- lends to a call, and its field `table` the point's table.
+-- How to read the types:
+--   (x : T) → P         for every x of type T, P holds
+--   P → Q               if P holds, then Q holds
+--   P × Q               P and Q hold
+--   P ⊎ Q               P or Q holds
+--   x ≡ y               x equals y
+--   λ x. e              the function that takes x to e
+--   l ++ k              the list l followed by the list k
+--   all test l ≡ true   every entry of the list l passes the test
+--   All (λ x. P) l      P holds for every entry x of the list l
+--   r .f                the field f of r
+--   a .0                the plain number of an address, a sequence number or a metric
+--
+-- Words in the types:
+--   List ℕ                     a list of numbers, for octets
+--   Octets s                   every number in the list s is below 256
+--   Lent                       what a point lends to a call; the field `table` is the table of the point
+--   Call                       a receive, ask, announce, root request or break, with its operands
+--   OperandsFit call           C's types can hold the operands of the call
+--   decision l room call       what the rules decide on a call that is lent l and an output of `room` octets
+--   accepted e                 the call is accepted; its effect e is the `Lent` that it leaves and the frames that it emits
+--   atExit l output decision   answer, frames and octets reported, and all lent octets, when the call has ended
 use Prim.Native.Nat.{ℕ, _+_, _^_, _<_, _≤_}
 use mathlib.Core.Path.{_≡_}
 use mathlib.Core.Bool.{true, false}
@@ -46,47 +65,56 @@ use Rattle.theorems.specs.Runs.{
   outsideLoops,
 }
 
--- ---- P1 to P8 (`p1-to-p8`): every test in the list passes
+-- ---- edges
 
+-- `p1-to-p8`: Every test in the list `edges` passes. The list holds the tests of P1 to P8 (PROTOCOL, 'Edges').
 abbrev pub EdgesHold : Type 0
 EdgesHold = all (λ b. b) edges ≡ true
 
--- The trainees' errors that document 01 names are shut out (`errors-shut-out`): every test in the list passes.
+-- `errors-shut-out`: Every test in the list `shutOut` passes. The list holds the tests that shut out the three trainees' errors
+-- (PROTOCOL, 'Edges').
 abbrev pub ErrorsShutOut : Type 0
 ErrorsShutOut = all (λ b. b) shutOut ≡ true
 
--- ---- stays a table (`stays-a-table`, `fresh-is-a-table`, `forget-stays-a-table`)
+-- ---- stays a table
 
--- Whatever octets a call finds as its table: if it is accepted, it leaves octets that pass refusal 21, as many as before.
--- (The five calls that write table and output; then a fresh table, and forgetting a destination.)
+-- `stays-a-table`: If a receive, ask, announce, root request or break is accepted, it leaves a table of octets that passes
+-- refusal 21 and is as long as before. This holds for any octets as the table, for any length of the output, and for all
+-- operands that fit.
 abbrev pub StaysTable : Type 0
 StaysTable =
     (l : Lent) → Octets (l .table) → (room : ℕ) (call : Call) → OperandsFit call
     → (e : Effect) → decision l room call ≡ accepted e
     → Octets (e .lent .table) × (isTable (e .lent .table) ≡ true) × (length (e .lent .table) ≡ length (l .table))
 
+-- `fresh-is-a-table`: If the call for a fresh table is accepted, it leaves a table of octets that passes refusal 21 and is as
+-- long as the buffer was. This holds whatever the buffer held, for every own address of six octets and every number of four.
 abbrev pub FreshIsTable : Type 0
 FreshIsTable =
     (t u : List ℕ) (own : Address) (number : SequenceNumber) → own .0 < 256 ^ 6 → number .0 < 256 ^ 4
     → makeFresh t own number ≡ accepted u → Octets u × (isTable u ≡ true) × (length u ≡ length t)
 
+-- `forget-stays-a-table`: If a forget is accepted, it leaves a table of octets that passes refusal 21 and is as long as before.
+-- This holds for any octets as the table and for any destination.
 abbrev pub ForgetStaysTable : Type 0
 ForgetStaysTable =
     (t u : List ℕ) (d : Address) → Octets t → forget t d ≡ accepted u → Octets u × (isTable u ≡ true) × (length u ≡ length t)
 
--- ---- has room (`has-room`)
+-- ---- has room
 
--- The frames of an accepted call take at most 1,560 octets, so that an output that passes refusal 2 has room for them.
+-- `has-room`: The frames of an accepted call take at most 1,560 octets. Every output that passes refusal 2 therefore has room
+-- for all frames of the call.
 abbrev pub HasRoom : Type 0
 HasRoom =
     (l : Lent) → Octets (l .table) → (room : ℕ) (call : Call) → OperandsFit call
     → (e : Effect) → decision l room call ≡ accepted e
     → length (frameOctets (e .frames)) ≤ leastOutput
 
--- ---- frames in the output (`frames-in-output`, `reads-back`)
+-- ---- frames in the output
 
--- Whatever output an accepted call was lent: the frames that are cut from it by their Length octets alone, as many as the call
--- reports, are read as the receivers and elements that the rules say; one after another they are the octets that it reports.
+-- `frames-in-output`: Take the output that any accepted call leaves. Cut as many frames from its start as the call reports, by
+-- the Length octets alone. Read as receiver addresses and elements, the cut frames are exactly the frames of the call's effect,
+-- in order. Joined one after another, the cut frames are the first octets of the output, as many as the call reports.
 abbrev pub FramesInOutput : Type 0
 FramesInOutput =
     (l : Lent) → Octets (l .table) → (output : List ℕ) (call : Call) → OperandsFit call
@@ -94,36 +122,42 @@ FramesInOutput =
     → (x : Exit) → atExit l output (decision l (length output) call) ≡ x
     → (map readFrame (framesAt x) ≡ e .frames) × (flatMap (λ (s : List ℕ). s) (framesAt x) ≡ take (x .octets) (x .output))
 
--- octets that pass refusals 6, 7 and 8
+-- The octets s pass refusals 6, 7 and 8.
 pub record ReadsAsElement (s : List ℕ) : Type 0 where
   pub passes-6 : wrongLength s ≡ false
   pub passes-7 : otherId s ≡ false
   pub passes-8 : misfit s ≡ false
 
--- What a point emits, another point reads back: each frame in the output of any call, without its receiver, passes 6, 7 and 8.
+-- `reads-back`: Take the output that any call leaves, accepted or refused. Cut as many frames from its start as the call
+-- reports, by the Length octets alone. Each cut frame, without its receiver address, passes refusals 6, 7 and 8.
 abbrev pub ReadsBack : Type 0
 ReadsBack =
     (l : Lent) → Octets (l .table) → (output : List ℕ) (call : Call) → OperandsFit call
     → (x : Exit) → atExit l output (decision l (length output) call) ≡ x
     → All (λ (s : List ℕ). ReadsAsElement (elementIn s)) (framesAt x)
 
--- ---- walks (`hops-at-most`)
+-- ---- walks
 
--- A walk that is answered, with 0, 41 or 42, counts at most as many hops as there are points.
+-- `hops-at-most`: An accepted walk, whether it answers 0, 41 or 42, counts at most as many hops as there are points.
 abbrev pub HopsAtMost : Type 0
 HopsAtMost = (s : List ℕ) (count c : ℕ) (from d : Address) (w : Walked) → walk s count c from d ≡ accepted w → w .hops ≤ count
 
--- ---- loop free, demand 3 (`loop-free`)
+-- ---- loop free: demand 3
 
--- For any set of points with fresh tables and different addresses,
--- and any list of their calls, next hops and walks among them, with elements delivered late, repeated, reordered or lost,
--- whether refused or not:
--- if, from first to last, all numbers held or carried for a destination d lie within 2^31 consecutive ones counted round zero,
--- then the walk along valid rows for d, from any point a and however long, meets no point twice.
+-- `loop-free`:
+-- Take any points with fresh tables of 1 to 128 rows, with individual addresses of which no two are equal, and any own numbers.
+-- Take any list of calls of the points: receive, ask, announce, root request, break, next hop and walk, accepted or refused.
+-- The calls may have any operands that C's types can hold. A receive brings any element sent so far, from its sender.
+-- Elements may therefore come late, repeatedly, in any order or never.
+-- Take any destination d and any window of 2^31 consecutive numbers, where 0 follows 4,294,967,295.
+-- If, before the first call and after each call, all numbers held or carried for d lie in the window,
+-- then, after the last call, the walk along valid rows for d, from any start and with any number of hops, meets no point twice.
 --
--- (The proof does not use what is said of the points: a call on octets that are no table is refused, and of two points with
--- one address the second would never be called or met. Of the numbers it uses only those in rows: that these lie so is enough.
--- Forget and a second fresh table are not among the calls: with either there are loops, see `NeedsExclusions`.)
+-- The proof uses less than the statement asks for. It does not use `pointsFit`, because a call on octets that are no table is
+-- refused, and because the second of two points with equal addresses would never be called or met. Of the numbers held or
+-- carried, it uses only the numbers in rows.
+--
+-- Forget and a second fresh table are not among the calls. With either of them there are loops, see `NeedsExclusions`.
 abbrev pub LoopFree : Type 0
 LoopFree =
     (points : List Point) → pointsFit points ≡ true → (events : List Event) → all eventFits events ≡ true
@@ -131,10 +165,11 @@ LoopFree =
     → throughout (happen decision) (allWithin d base) (start points) events ≡ true
     → (a : Address) (hops : ℕ) → hasDuplicate (met (run (happen decision) (start points) events) d hops a) ≡ false
 
--- ---- never too long (`never-too-long`)
+-- ---- never too long
 
--- Where all that `LoopFree` asks holds, 42 never comes: document 01's walk over the tables of all points towards d, at any clock
--- and from any start, answers 0 or 41 if it is accepted. (A walk takes tables of one length: all points have as many rows.)
+-- `never-too-long`: Suppose that everything that `LoopFree` asks for holds, and that all points have equally many rows, because
+-- a walk takes tables of one length. After the last call, take any walk (PROTOCOL, 'Walk') over the tables of all points
+-- towards d, at any clock and from any start. If the walk is accepted, it answers 0 or 41, never 42.
 abbrev pub NeverTooLong : Type 0
 NeverTooLong =
     (points : List Point) → pointsFit points ≡ true → (events : List Event) → all eventFits events ≡ true
@@ -144,56 +179,70 @@ NeverTooLong =
     → (c : ℕ) (from : Address) (w : Walked) → walkOver (run (happen decision) (start points) events) c from d ≡ accepted w
     → (w .answer ≡ 0) ⊎ (w .answer ≡ 41)
 
--- ---- not vacuous (`not-vacuous`)
+-- ---- not vacuous
 
--- The worked case of document 01, run on the rules with its walk, is all that `LoopFree` asks for, answers as the bench prints,
--- and ends with routes there and back. A second run, in which numbers pass from 4,294,967,295 to 0, is all that `LoopFree` asks
--- for and finds its route.
+-- `not-vacuous`: Two runs under the rules pass all their tests (`worked` and `wentRound` in `Runs.antt`).
+-- The first run is the worked case (PROTOCOL, 'Worked case') with its walk. It has everything that `LoopFree` asks for, both
+-- with point 2 and with point 0 as the destination. Its calls answer as the bench prints. At its end valid rows lead from point
+-- 0 over point 1 to point 2, and back.
+-- In the second run numbers pass from 4,294,967,295 to 0. It has everything that `LoopFree` asks for. Its calls answer as its
+-- tests list, and the tables hold the numbers that its tests list. At its end valid rows lead from A over B to D.
 abbrev pub NotVacuous : Type 0
 NotVacuous = all (λ b. b) (worked decision ++ wentRound decision) ≡ true
 
--- ---- sharp (`sharp`, `else-the-rules`, `needs-its-exclusions`, `needs-its-premise`)
+-- ---- sharp
 
--- Five wrong rules (`WrongRules.antt`), each with a list of calls that is all that `LoopFree` asks for and ends with a walk that
--- meets a point twice: numbers compared as plain numbers, the reply of 11-06-1778 that takes an equal number with a worse metric,
--- an equal number into an inactive row at a worse metric, a broken row dropped, a break that does not step the number.
+-- `sharp`: Each of five wrong rules (`WrongRules.antt`) brings a loop. For each there is a list of calls (`Runs.antt`) that has
+-- everything that `LoopFree` asks for. Under the wrong rule, the walk along valid rows after the last call meets a point twice.
+-- The wrong rules are:
+--   - Refusal 25 compares numbers as plain numbers.
+--   - Refusal 25 lets a RREP with an equal number pass at any metric, as the draft does (PROTOCOL, 'Departures from the draft').
+--   - Refusal 25 lets an equal number pass at any metric if the row is inactive.
+--   - A break frees the rows that it should invalidate.
+--   - A break does not step the numbers of the rows that it invalidates.
 --
--- (For other errors no list is given: an error matched by destination only; an error with a newer number or a break that leaves
--- the metric; a break that hits expired rows too. That no row gets worse by these, and so none loops, is argued here and not
--- proved. Demand 3 does not exclude them. `edges` and `shutOut` exclude all but the last; code that is proved equal to the rules,
--- and tests, exclude all.)
+-- Four other errors have no list of calls: a RERR matched by destination only; a RERR with a newer number that leaves the
+-- metric of the row; a break that leaves the metric of the row; a break that also invalidates expired rows. None of the four
+-- makes a row worse, so none brings a loop, and demand 3 does not exclude them. This is an argument, not a proof. `edges` and
+-- `shutOut` exclude the first three errors. The proof that the code equals the rules excludes all four, and so do the tests.
 abbrev pub Sharp : Type 0
 Sharp = all loops counterexamples ≡ true
 
--- Put together the same way, but with the rules' own test of refusal 25 and their own change of a broken row, they are the rules:
--- so each differs from them in the one sentence that it changes (`else-the-rules`).
+-- `else-the-rules`: `ruledBy`, `receivingBy` and `breakingBy` build the wrong rules: they replace the rules' test of refusal 25
+-- or the rules' change of a row that breaks. Given the rules' own test and the rules' own change, they decide every call as the
+-- rules do. Each wrong rule therefore differs from the rules only in the test or the change that it replaces.
 abbrev pub ElseTheRules : Type 0
 ElseTheRules =
     (l : Lent) (room : ℕ) (call : Call)
     → ruledBy (receivingBy (λ e. isStaleFor)) (breakingBy broken) l room call ≡ decision l room call
 
--- Two lists have, beside calls of the demand, a call that it leaves out: a point forgets a destination, or makes its table fresh
--- a second time. Else each is all that `LoopFree` asks for; and under the rules themselves its walk meets a point twice.
+-- `needs-its-exclusions`: Two lists of calls each have one call that `LoopFree` leaves out: in one list a point forgets a
+-- destination, in the other a point makes its table fresh a second time. Otherwise each list has everything that `LoopFree`
+-- asks for. Under the rules themselves, the walk along valid rows after the last call of each list meets a point twice.
 abbrev pub NeedsExclusions : Type 0
 NeedsExclusions = all (goesRound happenWider widerFits) leftOut ≡ true
 
--- One list of calls, by points and with operands as `LoopFree` asks, loops under the rules themselves; so no base has all its
--- numbers in its window.
+-- `needs-its-premise`: One list of calls has points and operands as `LoopFree` asks for. Under the rules themselves, the walk
+-- along valid rows after its last call meets a point twice. In no window of 2^31 consecutive numbers do all numbers held or
+-- carried for its destination lie from first to last.
 abbrev pub NeedsPremise : Type 0
 NeedsPremise =
     (pointsFit (outside .points) ≡ true) × (all eventFits (outside .events) ≡ true) × (outsideLoops ≡ true)
     × ((base : ℕ) → base < 2 ^ 32
     → throughout (happen decision) (allWithin (outside .destination) base) (start (outside .points)) (outside .events) ≡ false)
 
--- ---- the bench (`obeys-in-parts`, `prints-the-worked-case`)
+-- ---- the bench
 
--- Obeying the octets x and then y is obeying x ++ y, where x ends between commands: all of x is obeyed, and the bench goes on.
+-- `obeys-in-parts`: Suppose that no fault ends the bench while it obeys the octets x, and that its offset grows by the length
+-- of x, which means that x ends between two commands. Then obeying x ++ y gives the same result as obeying y from where x has
+-- left the bench.
 abbrev pub ObeysInParts : Type 0
 ObeysInParts =
     (text : List ℕ) (b : Standing) (x y text′ : List ℕ) (b′ : Standing)
     → obeyAll (going text b) x ≡ going text′ b′ → b′ .offset ≡ b .offset + length x
     → obeyAll (going text b) (x ++ y) ≡ obeyAll (going text′ b′) y
 
--- For the octets of the worked case of document 01 the bench, from its start, prints the text that document 01 gives.
+-- `prints-the-worked-case`: Given the octets of the worked case (PROTOCOL, 'Worked case') as its whole input, the bench prints
+-- the text of the worked case.
 abbrev pub PrintsWorkedCase : Type 0
 PrintsWorkedCase = textFor workedInput ≡ workedText

@@ -1,35 +1,35 @@
--- The worked case of document 01 as octets: what the bench reads, and what it prints.
+-- PROTOCOL, 'Worked case', as octets: the input of the bench, and the text that it prints.
 use Prim.Native.Nat.{ℕ, _+_}
 use mathlib.Core.List.{List, [], _∷_, _++_, flatMap}
 use Rattle.octets.specs.LittleEndian.{numberOctets}
 
 -- ---- the commands of the case
 
--- the address 2,0,0,0,0,i
+-- Returns the octets of the address 2,0,0,0,0,i.
 abbrev address : ℕ → List ℕ
 address i = 2 ∷ 0 ∷ 0 ∷ 0 ∷ 0 ∷ i ∷ []
 
--- 1 point, number 0
+-- Command 1, point, with number 0.
 abbrev point : ℕ → List ℕ
 point i = (1 ∷ address i) ++ numberOctets 4 0
 
--- 3 link
+-- Command 3, link.
 abbrev link : ℕ → ℕ → ℕ → List ℕ
 link p q metric = (3 ∷ p ∷ q ∷ []) ++ numberOctets 4 metric
 
--- 4 ask with flags 1 and lifetime 1000
+-- Command 4, ask, with flags 1 and lifetime 1000.
 abbrev ask : ℕ → ℕ → List ℕ
 ask p i = (4 ∷ p ∷ 1 ∷ address i) ++ numberOctets 4 1000
 
--- 6 deliver
+-- Command 6, deliver.
 abbrev deliver : ℕ → ℕ → List ℕ
 deliver k p = (6 ∷ numberOctets 2 k) ++ (p ∷ [])
 
--- 8 walk
+-- Command 8, walk.
 abbrev walk : ℕ → ℕ → List ℕ
 walk p q = 8 ∷ p ∷ q ∷ []
 
--- one after another
+-- Returns the parts one after another.
 abbrev joined : List (List ℕ) → List ℕ
 joined parts = flatMap (λ (s : List ℕ). s) parts
 
@@ -52,7 +52,7 @@ workedInput =
 
 -- ---- the lines
 
--- a line of three numbers of one digit
+-- Returns a line of three numbers of one digit each.
 abbrev digits : ℕ → ℕ → ℕ → List ℕ
 digits a b c = (48 + a) ∷ 32 ∷ (48 + b) ∷ 32 ∷ (48 + c) ∷ 10 ∷ []
 

@@ -1,5 +1,6 @@
--- These are NOT the rules. Each changes one sentence of document 01 (the first and the third as its trainees do), put together
--- from the rules' own pieces, only to show by lists of calls (`Runs.antt`) that demand 3 excludes it.
+-- These are NOT the rules. Each wrong rule changes one sentence of `docs/PROTOCOL.md` and is otherwise put together from the
+-- rules' own parts. The wrong rules serve only to show, by lists of calls (`Runs.antt`), that demand 3 excludes them. The first
+-- and the third are errors of trainees (PROTOCOL, 'Edges').
 use Prim.Native.Nat.{ℕ}
 use mathlib.Core.Bool.{Bool, true, false, not, _&&_, cond}
 use mathlib.Core.List.{List, map}
@@ -22,7 +23,7 @@ use Rattle.theorems.specs.Mesh.{Rules}
 
 -- ---- the rules with one thing changed
 
--- the check of this number gets another test; the others stay
+-- Returns a ruling in which the check number n has another test. The other checks and the effect stay.
 abbrev pub withCheck : {A : Type 0} → ℕ → Bool → Ruling A → Ruling A
 withCheck n test r =
     record {
@@ -30,11 +31,11 @@ withCheck n test r =
       otherwise = r .otherwise;
     }
 
--- another effect where no check applies
+-- Returns a ruling with another effect. The checks stay.
 abbrev pub withEffect : {A : Type 0} → A → Ruling A → Ruling A
 withEffect a r = record { checks = r .checks; otherwise = a }
 
--- other rulings for receive and break
+-- Returns the rules with other rulings for receive and break.
 unfoldable pub ruledBy :
     (Lent → ℕ → Arrival → List ℕ → Ruling Effect) → (Lent → ℕ → ℕ → Address → Ruling Effect) → Rules
 ruledBy receive break l room (receives a s) = decide (receive l room a s)
@@ -43,17 +44,18 @@ ruledBy receive break l room (makes (announces flags lifetime)) = decision l roo
 ruledBy receive break l room (makes (requestsAsRoot flags lifetime)) = decision l room (makes (requestsAsRoot flags lifetime))
 ruledBy receive break l room (makes (breaks c neighbour)) = decide (break l room c neighbour)
 
--- refusal 25 by another test of the element and the row
+-- Returns the ruling of receive in which refusal 25 uses another test of the element and the row.
 abbrev pub receivingBy : (Element → Arrival → PathInfo → Row → Bool) → Lent → ℕ → Arrival → List ℕ → Ruling Effect
 receivingBy stale l room a s =
     let e : Element = readElement s in
     withCheck 25 (isSomeAnd (λ p. isSomeAnd (stale e a p) (rowFor (l .table) (p .subject))) (pathOf e)) (receiving l room a s)
 
+-- Returns the rules with another test for refusal 25.
 abbrev pub with25 : (Element → Arrival → PathInfo → Row → Bool) → Rules
 with25 stale = ruledBy (receivingBy stale) breaking
 
--- A break that makes something else of the active rows through the neighbour. The errors that it sends stay as they are: they
--- carry the stepped numbers.
+-- Returns the ruling of a break that changes the active rows through the neighbour by f. The RERRs stay as they are under the
+-- rules: they carry the stepped numbers.
 abbrev pub breakingBy : (Row → Row) → Lent → ℕ → ℕ → Address → Ruling Effect
 breakingBy f l room c neighbour =
     let t : List ℕ = l .table in
@@ -62,40 +64,43 @@ breakingBy f l room c neighbour =
     (record { lent = withTable (underHead t (number t) c u) l; frames = brokenOff l c (isThrough c neighbour) .frames })
     (breaking l room c neighbour)
 
+-- Returns the rules with another change of the rows that break.
 abbrev pub withBroken : (Row → Row) → Rules
 withBroken f = ruledBy receiving (breakingBy f)
 
 -- ---- wrong in refusal 25
 
+-- Reports whether a path and a row have equal numbers.
 abbrev pub sameNumber : PathInfo → Row → Bool
 sameNumber p r = eqb (p .number .0) (r .number .0)
 
+-- Reports whether an element is a RREP.
 abbrev pub isReply : Element → Bool
 isReply (rann p) = false
 isReply (rreq f targets) = false
 isReply (rrep f dependents) = true
 isReply (rerr f destinations) = false
 
--- numbers are compared as plain numbers, in refusal 25 alone
+-- Refusal 25 compares numbers as plain numbers. The other rules stay.
 abbrev pub comparesPlainly : Rules
 comparesPlainly =
     with25
     (λ e a p r. cond (sameNumber p r) (isStaleFor a p r) (eqb (r .known) 1 && ltb (p .number .0) (r .number .0)))
 
--- 11-06-1778: a reply with an equal number needs no better metric
+-- Refusal 25 lets a RREP with an equal number pass at any metric, as the draft does (PROTOCOL, 'Departures from the draft').
 abbrev pub takesEqualReplies : Rules
 takesEqualReplies = with25 (λ e a p r. isStaleFor a p r && not (isReply e && sameNumber p r))
 
--- an equal number is taken into an inactive row at a worse metric
+-- Refusal 25 lets an equal number pass at any metric if the row is inactive.
 abbrev pub takesEqualIfInactive : Rules
 takesEqualIfInactive = with25 (λ e a p r. isStaleFor a p r && not (not (active (a .clock) r) && sameNumber p r))
 
 -- ---- wrong in a break
 
--- a broken row is dropped
+-- A break frees the rows that it should invalidate.
 abbrev pub dropsBroken : Rules
 dropsBroken = withBroken (λ r. freeRow)
 
--- a break does not step the number
+-- A break does not step the numbers of the rows that it invalidates.
 abbrev pub keepsNumber : Rules
 keepsNumber = withBroken (λ r. cond (eqb (r .known) 1) (raised (r .number) (invalidated r)) (invalidated r))

@@ -1,1 +1,1 @@
-// The theorems about the rules of document 01, stated in specs/Statements.antt. No code.
+// The theorems about the rules of `docs/PROTOCOL.md`, stated in `specs/Statements.antt`. This crate has no code.

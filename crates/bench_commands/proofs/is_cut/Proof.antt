@@ -1,4 +1,4 @@
--- `bench_commands::is_cut` meets its contract: nothing is there, or less than the command has.
+-- `bench_commands::is_cut` meets its contract: there is no octet, or the length decides.
 use borrow.Author.Needs.{needs}
 use Rattle.bench_commands.proofs.CommandOctets.{cut-nothing, cut-short}
 use Rattle.bench_commands.proofs.is_cut.Statement.{statement}

@@ -1,4 +1,4 @@
--- `bench_commands::length_of` meets its contract: an entry of the list, or beyond it.
+-- `bench_commands::length_of` meets its contract: the command is an index of the list, or beyond it.
 use borrow.Author.Needs.{needs}
 use Rattle.bench_commands.proofs.CommandOctets.{no-command}
 use Rattle.bench_commands.proofs.length_of.Statement.{statement}

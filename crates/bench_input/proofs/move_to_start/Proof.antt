@@ -1,4 +1,4 @@
--- `bench_input::move_to_start` meets its contract: each octet is read before its place is written.
+-- `bench_input::move_to_start` meets its contract: it reads each octet before it writes the octet's place.
 use Prim.Native.Nat.{_-_, _≤_}
 use borrow.Author.Needs.{needs}
 use Rattle.bench_input.proofs.Refilling.{Moved, moved-none, moved-more, moved-all}

@@ -1,4 +1,4 @@
--- `bench_input::read_from` meets its contract: what stands before the place stays.
+-- `bench_input::read_from` meets its contract: the octets before the place stay.
 use borrow.Author.Needs.{needs}
 use Rattle.bench_input.proofs.Refilling.{before-stays}
 use Rattle.bench_input.proofs.read_from.Statement.{statement}

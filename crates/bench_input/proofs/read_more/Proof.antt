@@ -1,4 +1,4 @@
--- `bench_input::read_more` meets its contract: what is left is moved, and some octets may come behind it.
+-- `bench_input::read_more` meets its contract: the unread octets are moved, and more octets may come after them.
 use borrow.Author.Needs.{needs}
 use Rattle.bench_input.proofs.Refilling.{more-read, none-came}
 use Rattle.bench_input.proofs.read_more.Statement.{statement}

@@ -1,4 +1,4 @@
--- `bench_input::refill` meets its contract: all stays as it is, or more is read.
+-- `bench_input::refill` meets its contract: everything stays as it is, or more octets are read.
 use borrow.Author.Needs.{needs}
 use Rattle.bench_input.proofs.Refilling.{nothing-more, last-stays, whole-yet, last-read}
 use Rattle.bench_input.proofs.refill.Statement.{statement}

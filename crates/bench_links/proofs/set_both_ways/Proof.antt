@@ -1,4 +1,4 @@
--- `bench_links::set_both_ways` meets its contract: one way, and the other.
+-- `bench_links::set_both_ways` meets its contract: it sets the metric one way, and then the other way.
 use borrow.Author.Needs.{needs}
 use Rattle.bench_links.specs.Links.{linked}
 use Rattle.bench_links.proofs.set_both_ways.Statement.{statement}

@@ -1,4 +1,4 @@
--- `bench_slots::element_of` meets its contract: the octets that Length counts, and the two before them.
+-- `bench_slots::element_of` meets its contract: it returns ID, Length, and the octets that Length counts.
 use borrow.Author.Needs.{needs}
 use Rattle.bench_slots.proofs.Slots.{element-read}
 use Rattle.bench_slots.proofs.element_of.Statement.{statement}

@@ -1,4 +1,4 @@
--- `bench_slots::keep_emitted` meets its contract: kept, or too many.
+-- `bench_slots::keep_emitted` meets its contract: it keeps the frames, or there are too many.
 use borrow.Author.Needs.{needs}
 use Rattle.bench_slots.proofs.Slots.{too-many-told, too-many-kept, few-told, few-kept}
 use Rattle.bench_slots.proofs.keep_emitted.Statement.{statement}

@@ -1,4 +1,4 @@
--- `bench_slots::keep_frame` meets its contract: sender and frame side by side.
+-- `bench_slots::keep_frame` meets its contract: it writes the sender, and the frame next to it.
 use borrow.Author.Needs.{needs}
 use Rattle.bench_slots.proofs.Slots.{frame-kept, room-behind, length-behind}
 use Rattle.bench_slots.proofs.keep_frame.Statement.{statement}

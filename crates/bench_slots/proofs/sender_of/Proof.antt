@@ -1,4 +1,4 @@
--- `bench_slots::sender_of` meets its contract: the first octet of the slot.
+-- `bench_slots::sender_of` meets its contract: it returns the first octet of the slot.
 use borrow.Author.Needs.{needs}
 use Rattle.bench_slots.proofs.Slots.{sender-read}
 use Rattle.bench_slots.proofs.sender_of.Statement.{statement}

@@ -1,4 +1,4 @@
--- `bench_text::put` meets its contract: one octet.
+-- `bench_text::put` meets its contract: it writes one octet.
 use borrow.Author.Needs.{needs}
 use Rattle.bench_text.proofs.Printing.{octet-put}
 use Rattle.bench_text.proofs.put.Statement.{statement}

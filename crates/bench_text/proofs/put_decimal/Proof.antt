@@ -1,4 +1,4 @@
--- `bench_text::put_decimal` meets its contract: the digits of the number, at most 20.
+-- `bench_text::put_decimal` meets its contract: it writes the digits of the number, at most 20.
 use borrow.Author.Needs.{needs}
 use Rattle.bench_text.proofs.Printing.{digits-length, digits-end, digits-room, digits-fit, digits-put}
 use Rattle.bench_text.proofs.put_decimal.Statement.{statement}

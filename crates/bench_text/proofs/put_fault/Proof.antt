@@ -1,4 +1,4 @@
--- `bench_text::put_fault` meets its contract: E, a space, the offset and the end of the line.
+-- `bench_text::put_fault` meets its contract: it writes E, a space, the offset and the end of the line.
 use borrow.Author.Needs.{needs}
 use Rattle.bench_text.proofs.Printing.{fault-end, fault-put}
 use Rattle.bench_text.proofs.put_fault.Statement.{statement}

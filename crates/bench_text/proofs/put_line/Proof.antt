@@ -1,4 +1,4 @@
--- `bench_text::put_line` meets its contract: three numbers, with what stands behind each.
+-- `bench_text::put_line` meets its contract: it writes three numbers, each with the octet after it.
 use borrow.Author.Needs.{needs}
 use Rattle.bench_text.proofs.Printing.{line-end, line-put}
 use Rattle.bench_text.proofs.put_line.Statement.{statement}

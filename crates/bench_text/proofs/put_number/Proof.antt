@@ -1,4 +1,4 @@
--- `bench_text::put_number` meets its contract: the digits, and the octet behind them.
+-- `bench_text::put_number` meets its contract: it writes the digits, and the octet after them.
 use borrow.Author.Needs.{needs}
 use Rattle.bench_text.proofs.Printing.{then-end, then-put}
 use Rattle.bench_text.proofs.put_number.Statement.{statement}

@@ -1,4 +1,4 @@
--- `bench_points::links::link_points` meets its contract: an index of no point, or set both ways.
+-- `bench_points::links::link_points` meets its contract: an index is no point, or the metric is set both ways.
 use borrow.Author.Needs.{needs}
 use Rattle.bench_points.proofs.Silent.{first-unknown, second-unknown, both-linked}
 use Rattle.bench_points.proofs.links.link_points.Statement.{statement}

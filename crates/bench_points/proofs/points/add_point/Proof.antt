@@ -1,4 +1,4 @@
--- `bench_points::points::add_point` meets its contract: a 17th point, refused, or added.
+-- `bench_points::points::add_point` meets its contract: the point is a 17th one, is refused, or is added.
 use borrow.Author.Needs.{needs}
 use Rattle.bench_points.proofs.Silent.{seventeenth, not-added, point-added}
 use Rattle.bench_points.proofs.points.add_point.Statement.{statement}

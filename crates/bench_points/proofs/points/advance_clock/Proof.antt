@@ -1,4 +1,4 @@
--- `bench_points::points::advance_clock` meets its contract: too late, or advanced.
+-- `bench_points::points::advance_clock` meets its contract: the clock would be too late, or it is advanced.
 use borrow.Author.Needs.{needs}
 use Rattle.bench_points.proofs.Silent.{too-late, advanced}
 use Rattle.bench_points.proofs.points.advance_clock.Statement.{statement}

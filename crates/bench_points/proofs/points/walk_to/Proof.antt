@@ -1,4 +1,4 @@
--- `bench_points::points::walk_to` meets its contract: an index of no point, or the walk.
+-- `bench_points::points::walk_to` meets its contract: an index is no point, or the walk is done.
 use borrow.Author.Needs.{needs}
 use Rattle.bench_points.proofs.Silent.{start-unknown, end-unknown, points-long, walked}
 use Rattle.bench_points.proofs.points.walk_to.Statement.{statement}
