@@ -1,4 +1,5 @@
--- Ask: its items looked through, its destinations written, and what it leaves, as the code asks it.
+-- Laws of an ask, as the proofs of its functions need them: the search through its items, its destinations as they are
+-- written, and the exit.
 use Prim.Native.Nat.{ℕ, _+_, _-_, _*_, _/_, _%_, _<_, _≤_}
 use mathlib.Core.Path.{_≡_, refl, sym, ap, _∙_}
 use mathlib.Core.Bool.{Bool, true, _&&_, and-eq-true-iff}
@@ -39,7 +40,7 @@ use Rattle.calls.specs.Answers.{answerTo, exitOf}
 use Rattle.calls.proofs.Checks.{table-sized, output-long, answer-passed, passed-first, refusal, acceptance}
 use Rattle.originate.proofs.Originated.{request-finished, requested-exit}
 
--- ---- the flags of its items, of which g says whether some are above 3
+-- ---- the flags of its items; g says whether some flags are above 3
 
 module _ (s : List ℕ) (n i : ℕ) (g : Bool) (l : i < n) (x : Item) (xe : x ≡ itemAt s i) where
   pub high-found : 3 < x .flags → any hasHighFlags (each (itemAt s) i (n - i)) ≡ g → true ≡ g
@@ -64,7 +65,7 @@ module _ (t : List ℕ) (d : Address) (f : Found) (fe : f ≡ findRow t d) where
     unfolding knownNumber
     number-known k = rw (row-at t d f fe i at-i r re, eq-eqb (r .known) 1 k)
 
--- ---- its destinations one by one, by what is left to write: g is the whole
+-- ---- its destinations one by one, by what is left to write; g is the whole
 
 abbrev pub askedOctets : List ℕ → Item → List ℕ
 askedOctets t x = targetOctets (askedFor t x)
@@ -87,7 +88,7 @@ module _ (t s : List ℕ) (n : ℕ) where
       entries-more (askedOctets t) (itemAt s) n out u g i at at′ l (ue ∙ ap (λ (z : Target). overwrite out at (targetOctets z)) same-target)
       (ae ∙ ap (λ (k : ℕ). at + k) (sym (target-length (askedFor t (itemAt s i)))))
 
--- ---- what it leaves
+-- ---- the exit
 
 asked-many : (t s : List ℕ) → length s / 7 ≡ length (map (askedFor t) (itemsIn s))
 asked-many t s = sym (length-map (itemsIn s) (askedFor t) ∙ each-length (itemAt s) 0 (length s / 7))
@@ -106,13 +107,13 @@ module _ (t s output u v : List ℕ) (octets : ℕ) (size : octets ≡ 34 + 11 *
   asked-exit lifetime h₀ h e₀ he ve ue =
       requested-exit t output u v 0 lifetime h₀ h e₀ he ue (map (askedFor t) (itemsIn s)) (length s / 7) (asked-many t s) ve octets size
 
--- ---- decided by the check
+-- ---- from the answer of the check
 
--- the own address by the head that was read
+-- The own address is read from the head.
 pub own-named : (t : List ℕ) (h : Head) → h ≡ headAt t → (l : List Address) (b : Bool) → b ≡ contains l (h .own) → (v : Bool) → b ≡ v → contains l (own t) ≡ v
 own-named t h he l b be v bv = ap (λ (k : Head). contains l (k .own)) (sym he) ∙ sym be ∙ bv
 
--- those of the items stand between others
+-- If the checks of the items pass, the checks after them decide.
 pub items-passed : (s : List ℕ) (a : Answer) → a ≡ answerTo (itemChecks s) → (checks : List Check) → a ≡ Accepted → (r : Answer) → r ≡ answerTo checks
     → r ≡ answerTo (itemChecks s ++ checks)
 items-passed s = passed-first (itemChecks s)
@@ -130,7 +131,7 @@ module _ (t output s : List ℕ) (lifetime : ℕ) (a : Answer) (ae : a ≡ answe
     unfolding asking
     ask-output-long = output-long t output _ a ae ok
 
-    -- 1 to 20 items
+    -- An accepted ask has 1 to 20 items.
     items-fit : ((eqb (length s % 7) 0 && leb 7 (length s)) ≡ true) × (leb (length s) 140 ≡ true)
     unfolding itemsFit listed
     items-fit =

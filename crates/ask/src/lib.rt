@@ -1,4 +1,4 @@
-// Ask: a RREQ of one's own for 1 to 20 destinations.
+// Ask: the point sends a RREQ of its own for 1 to 20 destinations.
 use calls::Answer;
 use calls::Emitted;
 use calls::Outcome;
@@ -41,7 +41,7 @@ ghost use Rattle.rules.specs.Originate.{
 };
 ghost use Rattle.calls.specs.Answers.{answerTo, exitOf};
 
-// 7 octets an item, 1 to 20 items.
+// Reports whether the octets are 1 to 20 items of 7 octets each.
 fn is_item_list(items: &[u8]) -> bool
     ensures { λ r. ⌜ r ≡ itemsFit (now (items .entry)) ⌝ }
 {
@@ -62,7 +62,7 @@ fn has_high_flags(items: &[u8]) -> bool
     false
 }
 
-// The refusals of an ask for its items alone.
+// Checks the items alone: refusals 8 to 10.
 fn check_items(items: &[u8]) -> Answer
     ensures { λ r. ⌜ r ≡ answerTo (itemChecks (now (items .entry))) ⌝ }
 {
@@ -103,7 +103,7 @@ fn check(table: &[u8], output: &[u8], lifetime: u32, items: &[u8]) -> Answer
     Answer::Accepted
 }
 
-// The number of the destination's row, whether or not that is active, if it is known; else 0.
+// Returns the known number of the destination's row, active or not, and 0 if there is no known number.
 fn known_number(table: &[u8], destination: Address) -> SequenceNumber
     requires { ⌜ Sized (now table) ⌝ }
     ensures { λ r. ⌜ r ≡ knownNumber (rowFor (now (table .entry)) destination) ⌝ }
@@ -131,7 +131,7 @@ fn asked_for(table: &[u8], item: Item) -> Target
     }
 }
 
-// The destinations of the items from place at on; answers the place after them.
+// Writes a destination for each item, starting at place `at`. Returns the place after them.
 fn write_targets(output: &mut [u8], at: usize, table: &[u8], items: &[u8]) -> usize
     requires { ⌜ Sized (now table) ⌝ }
     requires { ⌜ at + 11 * (length (now items) / 7) ≤ length (now output) ⌝ }
@@ -150,7 +150,7 @@ fn write_targets(output: &mut [u8], at: usize, table: &[u8], items: &[u8]) -> us
     place
 }
 
-// The frame of an ask, as the point with this head sends it; answers the place after it.
+// Writes the frame of an ask that the point with this head sends. Returns the place after the frame.
 fn write_request(output: &mut [u8], head: Head, lifetime: u32, table: &[u8], items: &[u8]) -> usize
     requires { ⌜ Sized (now table) ⌝ }
     requires { ⌜ leastOutput ≤ length (now output) ⌝ }
@@ -166,7 +166,7 @@ fn write_request(output: &mut [u8], head: Head, lifetime: u32, table: &[u8], ite
     write_targets(output, list, table, items)
 }
 
-// The table and the frame of an ask that is not refused.
+// Writes the table and the frame of an accepted ask.
 fn send(table: &mut [u8], output: &mut [u8], lifetime: u32, items: &[u8]) -> Outcome
     requires { ⌜ Sized (now table) ⌝ }
     requires { ⌜ leastOutput ≤ length (now output) ⌝ }

@@ -1,4 +1,4 @@
-// The bench: obeys the commands on standard input.
+// Runs the bench, which obeys the commands on standard input.
 fn main() {
     bench_run::run();
 }

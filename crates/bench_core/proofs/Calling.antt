@@ -1,4 +1,4 @@
--- The commands that make a point call.
+-- Laws of the commands that make a point call.
 use Prim.Native.Nat.{ℕ, _+_, _-_, _*_, _^_, _<_, _≤_}
 use mathlib.Core.Path.{_≡_, refl, sym, subst, _∙_}
 use mathlib.Core.List.{List, _∷_}
@@ -37,7 +37,7 @@ use Rattle.bench_core.proofs.Settling.{kept-soundly, call-holds, call-s
 item-octets : (flags : ℕ) (destination : Address) → flags < 256 → Octets (flags ∷ numberOctets 6 (destination .0))
 item-octets flags destination small = octets-cons flags (numberOctets 6 (destination .0)) small (octets-of-number 6 (destination .0))
 
--- the frames that a call has left in its output are whole
+-- The frames that a call leaves in its output are whole.
 module _ (s : State) (tables slots : List ℕ) (m : Memory s tables slots) (o : Outcome) (u output t output₀ : List ℕ) (n : ℕ) where
   holds : (call : Call) → OperandsFit call → exitOf o (lend u) output ≡ atExit (lend t) output₀ (decision (lend t) n call)
       → (p : ℕ) → p < s .points → t ≡ tableAt tables 544 p → output₀ ≡ zeros 1560 → n ≡ 1560 → HoldsFrames o output
@@ -84,7 +84,7 @@ module _ (s : State) (tables slots : List ℕ) (p : ℕ) where
     announce-fault lifetime = called-fault _
 
   module _ (m : Memory s tables slots) (o : Outcome) (u output t output₀ : List ℕ) (n : ℕ) where
-    -- what the call of a point was lent, and how it ended
+    -- States what a call of point p was lent, and how it ended.
     record Ended (call : Call) : Type 0 where
       exit : exitOf o (lend u) output ≡ atExit (lend t) output₀ (decision (lend t) n call)
       table : t ≡ tableAt tables 544 p

@@ -1,4 +1,4 @@
--- Commands by their octets.
+-- Laws of the commands by their octets.
 use Prim.Native.Nat.{ℕ, _<_, _≤_}
 use mathlib.Core.Path.{_≡_, sym, ap, subst, _∙_}
 use mathlib.Core.List.{List}
@@ -25,11 +25,11 @@ first-read s c e = omega arith
 
 -- ---- operands
 
--- the operands of command k are there
+-- The octets of command k are there.
 pub enough : (k c n : ℕ) → c ≡ k → lengthOf c ≤ n → lengthOf k ≤ n
 enough k c n e l = rw (← e) l
 
--- ---- with operands as they were read
+-- ---- with operands as they are read
 
 module _ (r : Done) (st : State) where
   pub adds-read : (x n x′ n′ : ℕ) (t t′ : List ℕ) → x ≡ x′ → n ≡ n′ → Adds r st (record { 0 = x }) (record { 0 = n }) t t′
@@ -47,7 +47,7 @@ module _ (r : Done) (st : State) where
 
 -- ---- each command, by what its function leaves
 
--- a command k that makes a point call
+-- Command k, which makes a point call, has the result of its function.
 pub obeyed-call : (k c : ℕ) → c ≡ k → (b : Bench) (links : List (List ℕ)) (s : List ℕ) (x d : Came) → x ≡ d → obeyed b links s k ≡ leavingLinks links d
     → leavingLinks links x ≡ obeyed b links s c
 obeyed-call k c e b links s x d xe ke = rw (e, ke, xe)
@@ -102,7 +102,7 @@ module _ (st : State) (tables slots : List ℕ) (links : List (List ℕ)) (s : L
       unfolding command
       command-obeyed l x xe = rw (← ce, ← ne, ne-eqb n 0 nz, le-ltb (length s) n l) xe
 
--- what remains of the memory
+-- After a line the functions know the memory again.
 module _ (st : State) (tables slots : List ℕ) (m : Memory st tables slots) (links : List (List ℕ)) (s : List ℕ) (octets : Octets s) (c : ℕ) where
   pub memory-remains : (r : Done) (tables′ slots′ : List ℕ) (links′ : List (List ℕ))
       → record { done = doneIn r tables′ slots′; links = links′ } ≡ obeyed (benchOf st tables slots) links s c

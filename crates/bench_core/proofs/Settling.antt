@@ -1,4 +1,4 @@
--- What becomes of a call that may emit frames: its table and its frames are kept.
+-- Laws of what the bench keeps after a call that may emit frames: the table and the frames.
 use Prim.Native.Nat.{ℕ, _+_, _-_, _*_, _<_, _≤_}
 use mathlib.Core.Path.{_≡_, refl, sym, ap, ap₂, subst, _∙_}
 use mathlib.Core.Bool.{Bool, true, false, not, cond}
@@ -108,7 +108,7 @@ module _ (s : State) (tables slots : List ℕ) (m : Memory s tables slots) (p : 
   abbrev t : List ℕ
   t = tableAt tables 544 p
 
-  -- what stands after a call that ended so
+  -- Returns the result of a call with the exit x.
   abbrev settledAt : Exit → Came
   settledAt x =
       cond (ltb 128 (s .frames + x .frames)) fault
@@ -126,7 +126,7 @@ module _ (s : State) (tables slots : List ℕ) (m : Memory s tables slots) (p : 
       by true xe = rw (re, xe)
       by false xe = rw (re, se, xe)
 
-  -- the frames before it do not reach beyond their slots
+  -- No frame that was kept before reaches beyond its slot.
   short-before : ShortBelow slots (s .frames)
   short-before i l = kept-soundly s tables slots m i l .short
 

@@ -1,4 +1,4 @@
--- Memory that is all zero is that of a bench without points and frames.
+-- Memory that is all zero is the memory of a bench without points and frames.
 use Prim.Native.Nat.{ℕ}
 use lib.ListN.{length-replicate}
 use native.Mathlib.Omega.{arith}

@@ -1,4 +1,4 @@
-// Which command it is, and whether all its operands are there.
+// Finds out which command comes first, and whether all its operands are there.
 use crate::operands;
 use bench_points::Done;
 use bench_points::State;
@@ -49,7 +49,7 @@ fn obey(
     Done::Fault
 }
 
-// The command at the start of the input.
+// Obeys the command at the start of the input. An unknown command or a cut operand is a fault.
 pub fn obey_first(
     input: &[u8],
     s: State,

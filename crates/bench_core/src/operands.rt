@@ -1,4 +1,4 @@
-// The commands by their octets: each reads its operands, which are known to be there.
+// Obeys each command by its octets. The caller must know that all operands are there.
 use crate::traffic;
 use bench_points::Done;
 use bench_points::State;

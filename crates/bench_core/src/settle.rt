@@ -1,4 +1,4 @@
-// What becomes of the frames that a call of a point has emitted.
+// Keeps the frames that a call of a point has emitted.
 use bench_points::Done;
 use bench_points::State;
 use calls::Outcome;
@@ -8,7 +8,7 @@ ghost use lib.ListN.{length};
 ghost use Rattle.bench_slots.specs.Slots.{Holds, keptSlots};
 ghost use Rattle.bench_core.specs.InCode.{HoldsFrames, keptAs, settledAs, settledSlots};
 
-// Keeps the n frames of an accepted call, unless there would be a 129th.
+// Keeps the n frames of an accepted call. A 129th frame is a fault.
 fn keep_emitted(s: State, sender: u8, n: u32, output: &[u8], slots: &mut [u8]) -> Done
     requires { ⌜ length (now slots) ≡ 33792 ⌝ }
     requires { ⌜ s .frames ≤ 128 ⌝ }

@@ -22,7 +22,7 @@ ghost use Rattle.bench_slots.specs.Slots.{elementOf};
 ghost use Rattle.bench_points.specs.InCode.{benchOf, doneIn};
 ghost use Rattle.bench_core.specs.InCode.{Memory};
 
-// An item of an ask is flags and address.
+// Returns the item of an ask: flags and address.
 fn item_of(flags: u8, destination: Address) -> [u8; 7]
     ensures { λ r. ⌜ r ≡ flags ∷ numberOctets 6 (destination .0) ⌝ }
 {
@@ -69,7 +69,7 @@ pub fn announce_self(s: State, p: u8, lifetime: u32, tables: &mut [u8], slots: &
     settle::settle(s, p, outcome, &output, slots)
 }
 
-// How a frame comes in from its sender: over the link between the two points.
+// Returns how a frame arrives from its sender: over the link between the two points.
 fn arrival_from(tables: &[u8], links: &[[u32; 16]; 16], clock: u64, sender: u8, p: u8) -> Arrival
     requires { ⌜ length (now tables) ≡ 8704 ⌝ }
     requires { ⌜ (sender < 16) × (p < 16) ⌝ }
@@ -82,7 +82,7 @@ fn arrival_from(tables: &[u8], links: &[[u32; 16]; 16], clock: u64, sender: u8, 
     }
 }
 
-// Point p receives the element of frame k.
+// Lets point p receive the element of frame k.
 fn hand_over(
     s: State,
     k: usize,
@@ -109,7 +109,7 @@ fn hand_over(
     settle::settle(s, p, outcome, &output, slots)
 }
 
-// Frame k from its sender to point p, whoever its receiver is.
+// Delivers frame k from its sender to point p, whatever the receiver address of the frame is.
 pub fn deliver_frame(
     s: State,
     k: u16,
@@ -133,7 +133,7 @@ pub fn deliver_frame(
     hand_over(s, k as usize, p, arrival, tables, slots)
 }
 
-// The neighbour is another point, or the point itself, which is refused.
+// Lets point p report point q as a broken neighbour. If q is p itself, the call is refused.
 pub fn break_off(s: State, p: u8, q: u8, tables: &mut [u8], slots: &mut [u8]) -> Done
     requires { ⌜ Memory s (now tables) (now slots) ⌝ }
     ensures { λ r. ⌜ doneIn r (now (tables .exit)) (now (slots .exit))

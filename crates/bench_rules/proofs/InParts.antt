@@ -1,4 +1,4 @@
--- An input that is obeyed in parts: what a part comes to, and how the run goes on behind it.
+-- Laws of an input that is obeyed in parts: the course of a part, and how the run goes on behind it.
 use Prim.Native.Nat.{ℕ, zero, suc, _+_, _-_, _*_, _<_, _≤_}
 use mathlib.Core.Path.{_≡_, refl, sym, ap, ap₂, subst, _∙_}
 use mathlib.Core.Bool.{Bool, true, false, _||_, cond}
@@ -17,13 +17,13 @@ use Rattle.bench_rules.specs.Text.{lineText, faultText}
 use Rattle.bench_rules.specs.Run.{Standing, Course, going, ended, afterCommand, obeyFirst, behind, obeyUntil, never, obeyAll}
 use Rattle.bench_rules.proofs.Sound.{whole-command}
 
--- ---- a command has only its own octets
+-- ---- a command reads only its own octets
 
 cond-alike : {A : Type 0} (b : Bool) {x y x′ y′ : A} → (b ≡ true → x ≡ x′) → (b ≡ false → y ≡ y′) → cond b x y ≡ cond b x′ y′
 cond-alike true h k = h refl
 cond-alike false h k = k refl
 
--- a test that was not passed where the octets end, or another
+-- If neither `length s` is 0 nor the other test holds, there are octets left.
 empty-test : (s : List ℕ) (other : Bool) → (eqb (length s) 0 || other) ≡ false → 0 < length s
 empty-test [] other e = clash cc
 empty-test (o ∷ s) other e = omega arith
@@ -39,7 +39,7 @@ number-before (suc n) s y at l =
     ap₂ (λ (b x : ℕ). b + 256 * x) (List·getD-append s y 0 at (omega arith)) (number-before n s y (suc at) (omega arith))
 
 module _ (b : Bench) (links : List (List ℕ)) (s y : List ℕ) where
-  -- command k has its operands in the octets that it has
+  -- If s has all octets of command c, it has all octets of an equal command k.
   operands : (k c : ℕ) → eqb c k ≡ true → lengthOf c ≤ length s → lengthOf k ≤ length s
   operands k c e l = rw (← eqb-true c k e) l
 
@@ -72,7 +72,7 @@ module _ (b : Bench) (links : List (List ℕ)) (s y : List ℕ) where
 
 -- ---- the first command, with any text before it and any octets behind it
 
--- it prints a line, and has some octets, which are all there
+-- States that the command prints a line, and that it has some octets, which are all there.
 record Prints (text : List ℕ) (x : Standing) (s text′ : List ℕ) (x′ : Standing) : Type 0 where
   some : 0 < lengthOf (numberAt 1 s 0)
   whole : lengthOf (numberAt 1 s 0) ≤ length s
@@ -107,7 +107,7 @@ module _ (text : List ℕ) (x : Standing) (s : List ℕ) where
                     rw (command-alike (x .bench) (x .links) s y (all-there .0) (all-there .1), first-octet (x .bench) (x .links) s y (all-there .0) (all-there .1), e, q, append-assoc before text (lineText c answer third));
               }
 
--- ---- how many commands are allowed plays no part, if there may be as many as octets
+-- ---- the bound on the number of commands plays no part, if it is at least the number of octets
 
 module _ (pauses : (text s : List ℕ) → Bool) where
   pub ended-stays : (n : ℕ) (text s : List ℕ) → obeyUntil pauses n (ended text) s ≡ ended text
@@ -126,7 +126,7 @@ module _ (pauses : (text s : List ℕ) → Bool) where
   paused-stays zero text x s e = refl
   paused-stays (suc n) text x s e = rw (e, or-true (eqb (length s) 0))
 
-  -- behind the first command, if it is so of whatever is shorter
+  -- Two bounds agree behind the first command, if they agree for everything shorter.
   module _ (text : List ℕ) (x : Standing) (s : List ℕ) (n m : ℕ) where
     behind-agrees : ((c : Course) → length (behind s) ≤ n → length (behind s) ≤ m → obeyUntil pauses n c (behind s) ≡ obeyUntil pauses m c (behind s))
         → (0 < lengthOf (numberAt 1 s 0) → (length (behind s) ≤ n) × (length (behind s) ≤ m))
@@ -145,7 +145,7 @@ module _ (pauses : (text s : List ℕ) → Bool) where
       behind-agrees text x s n m (λ c. enough n m c (behind s)) (λ some. (omega (arith, l, fewer, some), omega (arith, k, fewer, some)))
       (obeyFirst text x s) (first-is text x s))
 
-  -- one command more
+  -- To obey s is to obey its first command, and then the octets behind it.
   pub obeyed-more : (text : List ℕ) (x : Standing) (s : List ℕ) → 0 < length s → pauses text s ≡ false
       → obeyUntil pauses (length s) (going text x) s ≡ obeyUntil pauses (length (behind s)) (obeyFirst text x s) (behind s)
   unfolding obeyUntil
@@ -163,14 +163,16 @@ module _ (pauses : (text s : List ℕ) → Bool) where
 
 -- ---- a part of the input, with any text before it and any octets behind it
 
--- from x the octets s bring the bench to x′: whatever comes behind them, going on from x′ with those that are left is the whole run
+-- States that the octets s bring the bench from x to x′. Whatever octets come behind s, the whole run is to go on from x′ with
+-- the octets of s that are left and with those behind.
 pub record Leads (text : List ℕ) (x : Standing) (s text′ : List ℕ) (x′ : Standing) : Type 0 where
   pub later : x .offset ≤ x′ .offset
   pub inside : x′ .offset ≤ x .offset + length s
   pub goes-on : (before y : List ℕ)
       → obeyAll (going (before ++ text) x) (s ++ y) ≡ obeyAll (going (before ++ text′) x′) (drop (x′ .offset - x .offset) s ++ y)
 
--- and where a fault has ended it, the whole run ends so
+-- States that the octets s bring the bench from x to this course, or that the whole run ends as this course does if a fault
+-- has ended it.
 abbrev pub ComesTo : List ℕ → Standing → List ℕ → Course → Type 0
 ComesTo text x s (going text′ x′) = Leads text x s text′ x′
 ComesTo text x s (ended text′) = (before : List ℕ) → obeyAll (going (before ++ text) x) s ≡ ended (before ++ text′)
@@ -184,7 +186,7 @@ module _ (text : List ℕ) (x : Standing) (s : List ℕ) (text₁ : List ℕ) (x
   abbrev long : ℕ
   long = lengthOf (numberAt 1 s 0)
 
-  -- the first command, and then all behind it
+  -- The run obeys the first command, and then everything behind it.
   step : (before y : List ℕ) → obeyAll (going (before ++ text) x) (s ++ y) ≡ obeyAll (going (before ++ text₁) x₁) (behind s ++ y)
   step before y =
       let some : 0 < length (s ++ y) = omega (arith, first .some, first .whole, length-append s y) in
@@ -226,7 +228,7 @@ module _ (pauses : (text s : List ℕ) → Bool) where
           ∙ ended-stays never (length (behind s)) (before ++ text′) (behind s))
       of some (going text₁ x₁) first ih = leads-further text x s text₁ x₁ first (obeyUntil pauses n (going text₁ x₁) (behind s)) (ih text₁ x₁)
 
--- where all octets of x are obeyed, and the bench goes on, obeying y then is obeying x ++ y
+-- If the bench obeys all octets of x and goes on, then to obey y after x is to obey x ++ y.
 pub obeyed-in-parts : (text : List ℕ) (b : Standing) (x y text′ : List ℕ) (b′ : Standing) → obeyAll (going text b) x ≡ going text′ b′
     → b′ .offset ≡ b .offset + length x → obeyAll (going text b) (x ++ y) ≡ obeyAll (going text′ b′) y
 obeyed-in-parts text b x y text′ b′ is all-used =

@@ -1,4 +1,4 @@
--- A command leaves a sound bench sound; and a command that prints a line has all its octets.
+-- A command leaves a sound bench sound, and a command that prints a line has all its octets.
 use Prim.Native.Nat.{ℕ, zero, suc, _+_, _*_, _^_, _<_, _≤_}
 use mathlib.Core.Path.{_≡_, refl, subst}
 use mathlib.Core.Bool.{Bool, true, false, _&&_, _||_, cond}
@@ -35,7 +35,7 @@ use Rattle.bench_rules.specs.Bench.{KeptFrame, Bench, Done, fault, line,
 use Rattle.bench_rules.specs.Commands.{added, addPoint, advance, link, askFor, announceSelf, handedOver, deliver, breakOff, walkTo}
 use Rattle.bench_rules.specs.Interpreter.{lengthOf, leavingLinks, obeyed, command}
 
--- of what a command comes to
+-- States that the bench after a command is sound.
 abbrev pub Stays : Done → Type 0
 Stays fault = Unit {0}
 Stays (line answer third b) = Sound b
@@ -64,7 +64,7 @@ fresh-is-octets t u own number is = subst Octets (passed (makingFresh t own numb
 
 -- ---- frames
 
--- those that a point's call emits
+-- The frames that a call of a point emits are kept soundly.
 emitted-sound : (points p : ℕ) → p < points → (frames : List Frame) → FramesFit frames → All (KeptSoundly points) (keptFrom p frames)
 emitted-sound points p l frames fit =
     all-map (KeptSoundly points) FrameFits _
@@ -77,7 +77,7 @@ emitted-sound points p l frames fit =
     })
     frames fit
 
--- the frame at a place
+-- A frame that is found among sound frames is sound.
 pub found-sound : (points : ℕ) (frames : List KeptFrame) → All (KeptSoundly points) frames → (k : ℕ) (f : KeptFrame) → getElem? frames k ≡ some f
     → KeptSoundly points f
 unfolding All
@@ -196,7 +196,7 @@ module _ (b : Bench) (h : Sound b) where
     command-sound = cond-cases Fine cut (λ _. tt) (λ _. obeyed-sound (numberAt 1 s 0))
 
 module _ (b : Bench) (links : List (List ℕ)) (s : List ℕ) where
-  -- a command that prints a line has all its octets
+  -- A command that prints a line has all its octets.
   pub whole-command : (answer third : ℕ) (b′ : Bench) → command b links s .done ≡ line answer third b′
       → (0 < lengthOf (numberAt 1 s 0)) × (lengthOf (numberAt 1 s 0) ≤ length s)
   unfolding command

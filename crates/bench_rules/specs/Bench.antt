@@ -1,4 +1,4 @@
--- What the bench holds, and what a command comes to.
+-- What the bench holds, and the result of a command.
 use Prim.Native.Nat.{ℕ, _*_, _<_, _≤_}
 use mathlib.Core.Bool.{Bool, cond}
 use mathlib.Core.List.{List, _++_, map}
@@ -15,31 +15,33 @@ use Rattle.rules.specs.Exit.{Frame, lend, Effect, leastOutput}
 use Rattle.rules.specs.Calls.{Call, decision}
 use Rattle.rules.specs.Walk.{tableAt}
 
--- what is kept of a frame: the number of its sender, and the octets of its element
+-- Holds what the bench keeps of a frame: the number of its sender, and the octets of its element.
 pub record KeptFrame : Type 0 where
   pub sender : ℕ
   pub element : List ℕ
 
--- tables of 16 rows side by side, and how many are points; the frames kept; the clock
+-- Holds the tables of 16 rows side by side, how many of them are points, the frames kept and the clock.
 pub record Bench : Type 0 where
   pub tables : List ℕ
   pub points : ℕ
   pub frames : List KeptFrame
   pub clock : ℕ
 
--- a command prints a line, its answer and what stands third, and goes on; or it is at fault, and the bench ends
+-- The result of a command. After a `fault` the bench ends. After a `line` the bench prints the answer and the third number,
+-- and goes on.
 pub data Done : Type 0 where
   fault : Done
   line : (answer third : ℕ) → Bench → Done
 
--- with the link metrics after it, which stand by themselves: only the link command changes them
+-- Holds the result of a command with the link metrics after it. The links stand apart because only the link command changes
+-- them.
 pub record WithLinks : Type 0 where
   pub done : Done
   pub links : List (List ℕ)
 
 -- ---- points, numbered from 0
 
--- 32 octets and 16 rows of 32
+-- Returns the table of point p: 32 octets and 16 rows of 32.
 abbrev pub tableOfPoint : Bench → ℕ → List ℕ
 tableOfPoint b p = tableAt (b .tables) 544 p
 
@@ -49,17 +51,17 @@ addressOfPoint b p = addressOf (tableOfPoint b p)
 abbrev pub isPoint : Bench → ℕ → Bool
 isPoint b p = ltb p (b .points)
 
--- the tables with u as that of point p
+-- Returns the tables with u as the table of point p.
 unfoldable pub withTableAt : List ℕ → ℕ → List ℕ → List ℕ
 withTableAt tables p u = take (544 * p) tables ++ (u ++ drop 544 (drop (544 * p) tables))
 
 -- ---- a call of point p that may emit frames
 
--- the frames that p emits, as they are kept
+-- Returns the frames that p emits, as the bench keeps them.
 abbrev pub keptFrom : ℕ → List Frame → List KeptFrame
 keptFrom p frames = map (λ (f : Frame). record { sender = p; element = writeElement (f .element) }) frames
 
--- A refusal changes nothing. An acceptance leaves its table, and its frames after those kept before; a 129th frame is a fault.
+-- A refusal changes nothing. An acceptance leaves its table, and its frames after those kept before. A 129th frame is a fault.
 unfoldable pub settled : Bench → ℕ → Decision Effect → Done
 settled b p (refused n) = line n 0 b
 settled b p (accepted e) =
@@ -73,13 +75,13 @@ settled b p (accepted e) =
       clock = b .clock;
     }))
 
--- Point p calls, and lends its table and an output of the least length; where p is no point, that is a fault.
+-- Point p calls, and lends its table and an output of the least length. It is a fault if there is no point p.
 unfoldable pub called : Bench → ℕ → Call → Done
 called b p call = cond (isPoint b p) (settled b p (decision (lend (tableOfPoint b p)) leastOutput call)) fault
 
--- ---- what holds of a bench at any time
+-- ---- what holds for a bench at any time
 
--- a frame of one of so many points; the octets of an element are at most 257, as Length is an octet
+-- States that a point sent the frame, and that its element has at most 257 octets, because Length is an octet.
 pub record KeptSoundly (points : ℕ) (f : KeptFrame) : Type 0 where
   pub sender : f .sender < points
   pub octets : Octets (f .element)

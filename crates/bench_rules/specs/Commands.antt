@@ -1,5 +1,5 @@
--- The eight commands, in the order of document 01, by their operands. An index of no point or frame, a 17th point, a 129th frame
--- and a clock above 2^48 - 1 are faults.
+-- The eight commands by their operands, in the order of PROTOCOL, 'Bench'. An index of no point or frame, a 17th point, a
+-- 129th frame and a clock above 2^48 - 1 are faults.
 use Prim.Native.Nat.{ℕ, _+_, _*_}
 use mathlib.Core.Bool.{_&&_, cond}
 use mathlib.Core.List.{List, _∷_}
@@ -30,7 +30,7 @@ use Rattle.bench_rules.specs.Bench.{
   called,
 }
 
--- 1 point. If refused, it is not added.
+-- 1 point. If it is refused, it is not added.
 abbrev pub added : Bench → Decision (List ℕ) → Done
 added b (refused n) = line n 0 b
 added b (accepted u) =
@@ -57,13 +57,13 @@ advance b by =
       clock = b .clock + by;
     }))
 
--- 3 link: a metric for both ways; 0 is no link
+-- 3 link. The metric is for both ways, and 0 is no link.
 unfoldable pub link : Bench → List (List ℕ) → ℕ → ℕ → ℕ → WithLinks
 link b links p q metric =
     cond (isPoint b p && isPoint b q) (record { done = line 0 0 b; links = linked links p q metric })
     (record { done = fault; links = links })
 
--- 4 ask for one destination: its item is flags and address
+-- 4 ask, for one destination. Its item is flags and address.
 unfoldable pub askFor : Bench → ℕ → (flags : ℕ) → Address → (lifetime : ℕ) → Done
 askFor b p flags destination lifetime = called b p (makes (asks lifetime (flags ∷ numberOctets 6 (destination .0))))
 
@@ -71,7 +71,7 @@ askFor b p flags destination lifetime = called b p (makes (asks lifetime (flags 
 unfoldable pub announceSelf : Bench → ℕ → (lifetime : ℕ) → Done
 announceSelf b p lifetime = called b p (makes (announces 0 lifetime))
 
--- 6 deliver a frame: from its sender, over the link between the two, whoever its receiver is
+-- 6 deliver a frame. It arrives from its sender, over the link between the two points, whatever its receiver address is.
 abbrev pub arrivalFrom : (tables : List ℕ) → List (List ℕ) → (clock sender p : ℕ) → Arrival
 arrivalFrom tables links clock sender p =
     record { clock = clock; transmitter = addressOf (tableAt tables 544 sender); link = record { 0 = metricOf links sender p } }
@@ -83,11 +83,11 @@ handedOver b links p (some f) = called b p (receives (arrivalFrom (b .tables) li
 unfoldable pub deliver : Bench → List (List ℕ) → (k p : ℕ) → Done
 deliver b links k p = handedOver b links p (getElem? (b .frames) k)
 
--- 7 break: the neighbour is a point
+-- 7 break. The neighbour must be a point.
 unfoldable pub breakOff : Bench → (p q : ℕ) → Done
 breakOff b p q = cond (isPoint b q) (called b p (makes (breaks (b .clock) (addressOfPoint b q)))) fault
 
--- 8 walk over the points, from one to another
+-- 8 walk over the points, from p to q.
 abbrev pub walkedLine : Bench → Walked → Done
 walkedLine b w = line (w .answer) (w .hops) b
 

@@ -4,7 +4,7 @@ use mathlib.Core.Bool.{cond}
 use mathlib.Core.List.{List, [], _∷_, _++_}
 use lib.Dec.{ltb}
 
--- texts of one character
+-- Texts of one character.
 abbrev pub space : List ℕ
 space = 32 ∷ []
 
@@ -17,19 +17,19 @@ letterE = 69 ∷ []
 abbrev pub digit : ℕ → List ℕ
 digit d = (48 + d) ∷ []
 
--- n in decimal, without zeros in front, where it has at most so many digits
+-- Returns n in decimal, without leading zeros, where n has at most `most` digits.
 unfoldable pub digitsOf : (most : ℕ) → ℕ → List ℕ
 digitsOf zero n = []
 digitsOf (suc most) n = cond (ltb n 10) [] (digitsOf most (n / 10)) ++ digit (n % 10)
 
--- a number of 64 bits has at most 20
+-- A number of 64 bits has at most 20 digits.
 abbrev pub decimal : ℕ → List ℕ
 decimal n = digitsOf 20 n
 
--- a line per command: command, answer or refusal, then what stands third
+-- Returns the line of a command: the command, the answer or refusal, and the third number.
 unfoldable pub lineText : (command answer third : ℕ) → List ℕ
 lineText command answer third = decimal command ++ space ++ decimal answer ++ space ++ decimal third ++ newline
 
--- E and the command's octet offset
+-- Returns the line of a fault: E and the command's octet offset.
 unfoldable pub faultText : (offset : ℕ) → List ℕ
 faultText offset = letterE ++ space ++ decimal offset ++ newline

@@ -1,1 +1,1 @@
-// What the bench does, as definitions: see specs/. No code.
+// This crate has no code. Its definitions in specs/ say what the bench does.

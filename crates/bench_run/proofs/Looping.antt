@@ -1,4 +1,4 @@
--- The commands of a block, one after another: what is left to obey makes the whole.
+-- Laws of the commands of a block, one after another: the course so far and what is left to obey make the whole.
 use Prim.Native.Nat.{ℕ, _+_, _-_, _<_, _≤_}
 use mathlib.Core.Path.{_≡_, refl, sym, ap, _∙_}
 use mathlib.Core.Bool.{Bool, true, false, not, _&&_}
@@ -17,11 +17,11 @@ use Rattle.bench_core.specs.InCode.{Memory}
 use Rattle.bench_run.specs.declared.block.Progress.{Progress}
 use Rattle.bench_run.specs.Blocks.{stateOf, standing, courseOf, pausesIn, Stands, Uses}
 
--- going on with the rest of the block comes to the course g
+-- States that g is the course of going on with the rest of the block.
 pub record Remaining (last : Bool) (room offset : ℕ) (block : List ℕ) (g : Course) (p : Progress) (tables slots : List ℕ) (links : List (List ℕ)) (text : List ℕ) : Type 0 where
   pub comes : obeyUntil (pausesIn last room) (length (drop (p .used) block)) (courseOf p offset tables slots links text) (drop (p .used) block) ≡ g
 
--- at first
+-- At first all of the block is left.
 pub none-obeyed : (last : Bool) (room offset : ℕ) (block : List ℕ) (s : State) (tables slots : List ℕ) (links : List (List ℕ)) (text : List ℕ)
     → Remaining last room offset block (obeyUntil (pausesIn last room) (length block) (going [] (standing s offset tables slots links)) block)
     (record { used = 0; written = 0; ended = false; points = s .points; frames = s .frames; clock = s .clock }) tables slots links text
@@ -31,7 +31,7 @@ pub first-stands : (s : State) (n : ℕ) (tables slots text : List ℕ) → Memo
     → Stands (record { used = 0; written = 0; ended = false; points = s .points; frames = s .frames; clock = s .clock }) n tables slots text
 first-stands s n tables slots text m = record { used = omega arith; written = omega arith; over = λ q. clash cc; memory = λ _. m }
 
--- while something is left of the block: a fault would have used all
+-- While octets of the block are left, the bench has not ended, because a fault would have used them all.
 module _ (p : Progress) (n : ℕ) (tables slots text : List ℕ) (st : Stands p n tables slots text) (l : p .used < n) where
   not-ended : p .ended ≡ false
   not-ended = by (p .ended) refl
@@ -51,7 +51,7 @@ module _ (last : Bool) (room offset : ℕ) (block : List ℕ) (g : Course) (p : 
   abbrev course : Course
   course = courseOf p offset tables slots links text
 
-  -- at the end of the block
+  -- At the end of the block the course is g.
   pub block-over : length block ≤ p .used → course ≡ g
   block-over l =
       sym (over-stays (pausesIn last room) (length rest) course rest (omega (arith, l, length-drop (p .used) block))) ∙ i .comes
@@ -71,19 +71,19 @@ module _ (last : Bool) (room offset : ℕ) (block : List ℕ) (g : Course) (p : 
         is-going ∙ sym (paused-stays (pausesIn last room) (length rest) (take (p .written) text) (standing (stateOf p) (offset + p .used) tables slots links) rest e)
         ∙ ap (λ (c : Course). obeyUntil (pausesIn last room) (length rest) c rest) (sym is-going) ∙ i .comes
 
-    -- a command that is cut
+    -- The block pauses before a command that is cut.
     module _ (part : List ℕ) (cut : Bool) (ce : cut ≡ isCut part) (pe : part ≡ rest) where
       pub cut-pauses : (not last && cut) ≡ true → course ≡ g
       unfolding pausesIn
       cut-pauses e = paused (rw (← pe, ← ce, e))
 
       module _ (whole : (not last && cut) ≡ false) where
-        -- a line that may have no room
+        -- The block pauses where a line may have no room.
         pub room-pauses : length text - p .written < 64 → course ≡ g
         unfolding pausesIn
         room-pauses few = paused (rw (← pe, ← ce, whole, printed, ← re, lt-ltb (length text - p .written) 64 few))
 
-        -- one command more
+        -- After one more command, what is left still makes the whole.
         pub one-obeyed : 64 ≤ length text - p .written → (r : Progress) (tables′ slots′ : List ℕ) (links′ : List (List ℕ)) (text′ : List ℕ)
             → courseOf r offset tables′ slots′ links′ text′
             ≡ obeyFirst (take (p .written) text) (standing (stateOf p) (offset + p .used) tables slots links) rest

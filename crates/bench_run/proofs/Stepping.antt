@@ -1,4 +1,4 @@
--- One command of a block: its line or the fault, and what is left.
+-- Laws of one command of a block: its line or fault, and what is left.
 use Prim.Native.Nat.{ℕ, _+_, _-_, _<_, _≤_}
 use mathlib.Core.Path.{_≡_, sym, ap, subst, _∙_}
 use mathlib.Core.Bool.{true, false}
@@ -22,7 +22,7 @@ use Rattle.bench_core.specs.InCode.{Memory, Remains}
 use Rattle.bench_run.specs.declared.block.Progress.{Progress}
 use Rattle.bench_run.specs.Blocks.{stateOf, standing, courseOf, Stands, Uses}
 
--- the text up to what is put behind it
+-- The text up to the end of p, which is put at place `at`, is the text up to `at` and then p.
 front-put : (text : List ℕ) (at : ℕ) (p : List ℕ) → at + length p ≤ length text → take (at + length p) (overwrite text at p) ≡ take at text ++ p
 unfolding overwrite
 front-put text at p l =
@@ -30,7 +30,7 @@ front-put text at p l =
     ∙ take-at (take at text ++ p) (drop (at + length p) text) (at + length p)
     (length-append (take at text) p ∙ ap (λ (k : ℕ). k + length p) (length-take-le at text (omega (arith, l))))
 
--- the progress of a line, and of a fault
+-- Return the progress after a line, and after a fault.
 abbrev lineFrom : Progress → (c : ℕ) → Printed → Progress
 lineFrom p c x =
     record {
@@ -53,7 +53,7 @@ faultFrom p n offset =
       clock = p .clock;
     }
 
--- as they are printed
+-- `print_line` returns the progress `lineFrom`, and `print_fault` the progress `faultFrom`.
 module _ (p : Progress) (rest : List ℕ) (x : Printed) (c n : ℕ) (ce : c ≡ numberAt 1 rest 0) (ne : n ≡ lengthOf c) where
   pub octets-fit : lengthOf (numberAt 1 rest 0) ≤ length rest → p .used + length rest < 18446744073709551616 → p .used + n < 18446744073709551616
   octets-fit l m = let k : n ≡ lengthOf (numberAt 1 rest 0) = ne ∙ ap lengthOf ce in omega (arith, l, m, k)
@@ -71,11 +71,11 @@ pub fault-printed : (p : Progress) (n offset end : ℕ) → end ≡ p .written +
     → record { used = n; written = end; ended = true; points = p .points; frames = p .frames; clock = p .clock } ≡ faultFrom p n offset
 fault-printed p n offset end ee = rw ee
 
--- a part up to the end of a block
+-- The part from place k to the end of s is all that lies behind k.
 pub to-the-end : (s : List ℕ) (k : ℕ) → take (length s - k) (drop k s) ≡ drop k s
 to-the-end s k = take-all (length s - k) (drop k s) (omega (arith, length-drop k s))
 
--- the command at the start of these octets came to d, which is a line
+-- The command at the start of `rest` has the result d, which is a line.
 module _ (s : State) (tables slots : List ℕ) (links : List (List ℕ)) (rest : List ℕ) (d : Done) (tables′ slots′ : List ℕ) (links′ : List (List ℕ))
     (e : record { done = doneIn d tables′ slots′; links = links′ } ≡ command (benchOf s tables slots) links rest) (x : Printed) (de : d ≡ Line x) where
   came-whole : (0 < lengthOf (numberAt 1 rest 0)) × (lengthOf (numberAt 1 rest 0) ≤ length rest)
@@ -87,7 +87,7 @@ module _ (s : State) (tables slots : List ℕ) (links : List (List ℕ)) (rest :
   pub all-octets : lengthOf (numberAt 1 rest 0) ≤ length rest
   all-octets = came-whole .1
 
--- the command at the start of the rest of a block came to d
+-- The command at the start of the rest of a block has the result d.
 module _ (p : Progress) (tables slots : List ℕ) (links : List (List ℕ)) (block rest : List ℕ) (d : Done) (tables′ slots′ : List ℕ) (links′ : List (List ℕ))
     (e : record { done = doneIn d tables′ slots′; links = links′ } ≡ command (benchOf (stateOf p) tables slots) links rest) (se : rest ≡ drop (p .used) block)
     (text text′ : List ℕ) (room : p .written + 64 ≤ length text) (long : length text′ ≡ length text) (r : Progress) (short : r .written ≤ p .written + 64) where

@@ -1,4 +1,4 @@
--- Turns: what a block leaves is where its input has led the bench.
+-- Laws of turns: after a block the bench stands where its input has led it.
 use Prim.Native.Nat.{ℕ, _+_, _-_, _*_, _≤_}
 use mathlib.Core.Path.{_≡_, refl, sym, ap, ap₂, subst, _∙_}
 use mathlib.Core.Bool.{Bool, true, false, _&&_, _||_, cond}
@@ -48,7 +48,7 @@ module _ (c : Cursor) (ce : c ≡ record { from = 0; filled = 0; last = false; o
 
 -- ---- a turn
 
--- more is read behind what is left
+-- More octets may be read behind those that are left.
 more-reached : (x : Standing) (l l′ : List ℕ) → Reached x l → Extends l l′ → Reached x l′
 more-reached x l l′ r m =
     record {
@@ -59,7 +59,7 @@ more-reached x l l′ r m =
           ∙ ap (obeyAll (going (r .printed) x)) (sym (append-assoc l (m .more) more) ∙ ap (λ (s : List ℕ). s ++ more) (sym (m .is)));
     }
 
--- and obeyed
+-- After a part is obeyed, the bench stands where the input has led it.
 part-reached : (x : Standing) (l text : List ℕ) (x′ : Standing) → Reached x l → Leads [] x l text x′ → Reached x′ (drop (x′ .offset - x .offset) l)
 part-reached x l text x′ r leads =
     record {
@@ -69,7 +69,7 @@ part-reached x l text x′ r leads =
           r .goes-on more ∙ ap (λ (t : List ℕ). obeyAll (going t x) (l ++ more)) (sym (append-nil (r .printed))) ∙ leads .goes-on (r .printed) more;
     }
 
--- what is left is where it was, and more may stand behind it
+-- After a refill the octets that were left stand first, and more may stand behind them.
 pub refilled : (c : Cursor) (s : State) (buffer tables slots : List ℕ) (links : List (List ℕ)) → Ready c s buffer tables slots links
     → (c′ : Cursor) (buffer′ : List ℕ) → Unread c′ buffer′ → c′ .offset ≡ c .offset → Extends (left c buffer) (left c′ buffer′)
     → Ready c′ s buffer′ tables slots links
@@ -80,7 +80,7 @@ refilled c s buffer tables slots links ready c′ buffer′ unread oe more =
       reached = rw oe (more-reached (standing s (c .offset) tables slots links) (left c buffer) (left c′ buffer′) (ready .reached) more);
     }
 
--- a block is obeyed
+-- After a block is obeyed, the next turn finds what it needs, unless the bench has ended.
 module _ (c : Cursor) (s : State) (buffer tables slots : List ℕ) (links : List (List ℕ)) (ready : Ready c s buffer tables slots links)
     (last : Bool) (room : ℕ) (p : Progress) (tables′ slots′ : List ℕ) (links′ : List (List ℕ)) (text′ : List ℕ)
     (pe : courseOf p (c .offset) tables′ slots′ links′ text′
@@ -138,7 +138,7 @@ same-past o a b = by (eqb a b) refl
     by true e = eq-eqb (o + a) (o + b) (ap (λ (n : ℕ). o + n) (eqb-true a b e))
     by false e = ne-eqb (o + a) (o + b) (λ q. eqb-false a b e (omega (arith, q)))
 
--- a block is obeyed
+-- After a block is obeyed, the turn leaves what `Turned` states.
 pub block-turned : (c : Cursor) (s : State) (buffer tables slots : List ℕ) (links : List (List ℕ)) → Ready c s buffer tables slots links → (room : ℕ)
     (p : Progress) (tables′ slots′ : List ℕ) (links′ : List (List ℕ)) (text′ : List ℕ)
     → courseOf p (c .offset) tables′ slots′ links′ text′ ≡ blockCourse (c .last) room (standing s (c .offset) tables slots links) (left c buffer)
@@ -167,7 +167,7 @@ block-turned c s buffer tables slots links ready room p tables′ slots′ links
     goes true e k = clash cc
     goes false e k = refl
 
--- after more was read
+-- `Turned` holds after more octets were read too.
 pub read-and-turned : (t : Turn) (room : ℕ) (s : State) (c : Cursor) (tables slots : List ℕ) (links : List (List ℕ)) (l : List ℕ)
     (unread : Cursor) (buffer tables′ slots′ : List ℕ) (links′ : List (List ℕ))
     → Turned t room (standing s (unread .offset) tables slots links) unread buffer tables′ slots′ links′ → unread .offset ≡ c .offset

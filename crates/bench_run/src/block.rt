@@ -1,4 +1,4 @@
-// The commands of a block, one after another, and the lines that they print.
+// Obeys the commands of a block, one after another, and writes the lines that they print.
 use bench_core::interpreter;
 use bench_points::Done;
 use bench_points::Printed;
@@ -16,8 +16,8 @@ ghost use Rattle.bench_rules.specs.Text.{faultText, lineText};
 ghost use Rattle.bench_core.specs.InCode.{Memory};
 ghost use Rattle.bench_run.specs.Blocks.{Stands, Uses, courseOf, pausesIn, standing, stateOf};
 
-// How far the commands have come: octets of the block used, octets of the text written, whether the bench has ended, and what it
-// holds.
+// Holds how far the commands have come: octets of the block used, octets of the text written, whether the bench has ended, and
+// the numbers that the bench holds.
 pub struct Progress {
     pub used: usize,
     pub written: usize,
@@ -27,7 +27,7 @@ pub struct Progress {
     pub clock: u64,
 }
 
-// After a command that was obeyed: its octets, all at the start of the rest, are used.
+// Writes the line of a command that was obeyed. All octets of the command are at the start of `rest`, and they are now used.
 fn print_line(p: Progress, rest: &[u8], x: Printed, text: &mut [u8]) -> Progress
     requires { ⌜ (0 < length (now rest)) × (lengthOf (numberAt 1 (now rest) 0) ≤ length (now rest)) ⌝ }
     requires { ⌜ (p .used + length (now rest) < 18446744073709551616) × (p .written + 64 ≤ length (now text)) ⌝ }
@@ -56,7 +56,8 @@ fn print_line(p: Progress, rest: &[u8], x: Printed, text: &mut [u8]) -> Progress
     }
 }
 
-// After a fault in a block of n octets, at this offset of the input: nothing behind it is obeyed.
+// Writes the line of a fault at this offset of the input. All n octets of the block count as used, because nothing behind a
+// fault is obeyed.
 fn print_fault(p: Progress, n: usize, offset: u64, text: &mut [u8]) -> Progress
     requires { ⌜ p .written + 64 ≤ length (now text) ⌝ }
     ensures { λ r. ⌜ r ≡ record {
@@ -81,7 +82,7 @@ fn print_fault(p: Progress, n: usize, offset: u64, text: &mut [u8]) -> Progress
     }
 }
 
-// One command of the block, which begins at this offset of the input.
+// Obeys one command of the block. The block begins at this offset of the input.
 fn step(
     block: &[u8],
     offset: u64,
@@ -114,7 +115,7 @@ fn step(
     }
 }
 
-// All whole commands of a block, as long as the text has room; of the last block the one that is cut too.
+// Obeys all whole commands of a block, as long as the text has room. In the last block it also obeys the command that is cut.
 pub fn obey_block(
     block: &[u8],
     last: bool,
@@ -155,7 +156,7 @@ pub fn obey_block(
     p
 }
 
-// Sends the first n octets of the text.
+// Prints the first n octets of the text.
 pub fn print(text: &[u8], n: usize)
     requires { ⌜ n ≤ length (now text) ⌝ }
 {

@@ -1,4 +1,4 @@
-// The bench on standard input and output.
+// Runs the bench on standard input and output.
 mod block;
 mod turn;
 
@@ -7,11 +7,11 @@ use bench_core::TABLES;
 use bench_points::State;
 use turn::Turn;
 
-// A loop has to end, and nothing says that the input does: no run has so many turns. The offset, which grows by at most 65,536 in
-// a turn, stays below 2^63.
+// Bounds the turns, because the loop must end and the input might not. No real run has this many turns. The offset grows by at
+// most 65,536 in a turn, and therefore never exceeds 2^63.
 const MOST_TURNS: u64 = 140_737_488_355_328;
 
-// Obeys the commands on standard input, and prints a line for each.
+// Obeys the commands on standard input and prints a line for each.
 pub fn run() {
     let mut tables = [0u8; TABLES];
     let mut slots = [0u8; SLOTS];

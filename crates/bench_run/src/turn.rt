@@ -1,4 +1,4 @@
-// A turn of the bench: more of the input is read where a command is not all there, and whole commands are obeyed.
+// A turn of the bench: it reads more of the input if the next command is not all there, and obeys whole commands.
 use crate::block;
 use bench_input::Cursor;
 use bench_points::State;
@@ -8,14 +8,14 @@ ghost use Rattle.bench_input.specs.Reading.{left};
 ghost use Rattle.bench_run.specs.Blocks.{standing};
 ghost use Rattle.bench_run.specs.Turns.{GoesOn, ReadAndTurned, Ready, Turned};
 
-// Whether the bench has ended, which octets are still to be obeyed, and what it holds beside its memory.
+// Holds whether the bench has ended, which octets are still to be obeyed, and the numbers that the bench holds.
 pub struct Turn {
     pub ended: bool,
     pub cursor: Cursor,
     pub state: State,
 }
 
-// Obeys what has been read, and prints its lines at once. The bench ends at a fault, or with the last of the input.
+// Obeys what has been read, and prints its lines at once. The bench ends at a fault, or with the last octet of the input.
 fn obey_unread(
     c: Cursor,
     s: State,

@@ -1,4 +1,4 @@
--- Break: the rows that are lost, and what it leaves, as the code asks it.
+-- Laws of a break, as the proofs of its functions need them: the rows that break, and the exit.
 use Prim.Native.Nat.{ℕ, zero, suc, _+_, _-_, _<_, _≤_}
 use mathlib.Core.Path.{_≡_, refl, sym, ap, ap₂, _∙_}
 use mathlib.Core.Bool.{Bool, true, false, not, cond}
@@ -39,7 +39,7 @@ use Rattle.rules.proofs.Rulings.{listed}
 use Rattle.calls.proofs.Checks.{table-sized, output-long, refusal, acceptance, accepted-exit}
 use Rattle.calls.proofs.Neighbours.{same-number}
 
--- ---- a row that is lost
+-- ---- a row that breaks
 
 module _ (r down : Row) (de : down ≡ invalidated r) where
   pub broken-unknown : (r .known ≡ 1 → ⊥) → down ≡ broken r
@@ -64,7 +64,7 @@ module _ (test : Row → Bool) (t : List ℕ) (i : ℕ) (r : Row) (re : r ≡ ro
     unfolding brokenEntry
     none-lost = rw (tested ∙ not-true b stays)
 
-    -- its entry after what was reported before
+    -- The entry of the row follows the destinations reported before.
     pub none-reported : (before : Reported) → before .full ≡ filledBy (before .lost)
         → before ≡ reportedAfter before (brokenEntry test (rowAt t i))
     unfolding reportedAfter begunAfter
@@ -95,15 +95,16 @@ module _ (test : Row → Bool) (t : List ℕ) (i : ℕ) (r : Row) (re : r ≡ ro
 
 -- ---- the report, one row after another
 
--- the entries of rows from i on, of the n first rows of t; and of all these
+-- `lostFrom` returns the entries of the rows from i on, among the first n rows of t. `allLost` returns the entries of all n
+-- rows.
 abbrev lostFrom : (Row → Bool) → List ℕ → ℕ → ℕ → List LostDestination
 lostFrom test t n i = flatMap (brokenEntry test) (each (rowAt t) i (n - i))
 
 abbrev allLost : (Row → Bool) → List ℕ → ℕ → List LostDestination
 allLost test t n = flatMap (brokenEntry test) (each (rowAt t) 0 n)
 
--- What stands before row i of the n first rows of t, from place at of the output on: with what is left to report, the count and
--- the output come to the whole.
+-- States what stands in the output from place `at` on, before row i of the first n rows of t. With what is left to report, the
+-- count and the output make the whole.
 module _ (test : Row → Bool) (t : List ℕ) (n : ℕ) (out₀ : List ℕ) (at : ℕ) where
   pub record Reporting (i : ℕ) (so-far : Reported) (out : List ℕ) : Type 0 where
     pub below : i ≤ n
@@ -126,7 +127,7 @@ module _ (test : Row → Bool) (t : List ℕ) (n : ℕ) (out₀ : List ℕ) (at 
 
   module _ (i : ℕ) (so-far : Reported) (out : List ℕ) (stands : Reporting i so-far out) where
     module _ (l : i < n) where
-      -- there is room for row i and its entry
+      -- There is room for row i and its entry.
       pub reporting-row : place n ≤ length t → place i + rowOctets ≤ length t
       reporting-row fits = omega arith
 
@@ -212,7 +213,7 @@ module _ (test : Row → Bool) (t : List ℕ) (n : ℕ) (ne : n ≡ rows t) (at 
       ∙ closes 6 all (omega (arith, le, lost-few l)) output at
       ∙ ap (λ (m : List LostDestination). overwrite output at (frameOctets (errorsFor m))) lost-are
 
--- ---- no row is lost, and no row changes
+-- ---- if no row breaks, no row changes
 
 module _ (test : Row → Bool) (t : List ℕ) where
   entry-none : (r : Row) → length (brokenEntry test r) ≡ 0 → test r ≡ false
@@ -223,7 +224,7 @@ module _ (test : Row → Bool) (t : List ℕ) where
       by true x e = absurd (omega arith)
       by false x e = refl
 
-  -- so far and in the n rows from i on
+  -- The first i rows and the n rows after them stay as they are.
   rows-stay : (i n : ℕ) → t ≡ changeBelow test broken i t → length (flatMap (brokenEntry test) (each (rowAt t) i n)) ≡ 0
       → t ≡ changeBelow test broken (i + n) t
   unfolding each flatMap
@@ -245,7 +246,7 @@ module _ (test : Row → Bool) (t : List ℕ) where
       let all : t ≡ changeBelow test broken (0 + rows t) t = rows-stay 0 (rows t) (below-start test broken t) (sym le ∙ z) in
       below-all test broken t t (0 + rows t) all (zero-add (rows t))
 
--- ---- what it leaves
+-- ---- the exit
 
 module _ (entries : List LostDestination) (r : Reported) (e : r ≡ reportedFrom 0 entries) where
   pub reported-many : r .lost ≡ length entries
@@ -270,7 +271,7 @@ broken-exit t output w u v c test h he r re few we ve ue e ee =
     (ap lend (same-number t c h he w (changeWhere test broken t) u we ue)) ve
     (ee ∙ ap₂ (λ (m n : ℕ). record { frames = m; octets = n }) frames octets)
 
--- ---- decided by the check
+-- ---- from the answer of the check
 
 module _ (t output : List ℕ) (c : ℕ) (neighbour : Address) (a : Answer) (ae : a ≡ answerTo (breaking (lend t) (length output) c neighbour .checks)) where
   module _ (ok : a ≡ Accepted) where

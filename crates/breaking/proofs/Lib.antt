@@ -1,3 +1,3 @@
--- The laws of a break.
+-- Laws of a break.
 pub mod Reported
 pub mod Broken

@@ -1,4 +1,4 @@
--- The errors of a break: written one destination after another, and closed, they are the frames that the rules say.
+-- The errors of a break, written one destination after another and closed, are the frames of the rules.
 use Prim.Native.Nat.{ℕ, zero, suc, _+_, _-_, _*_, _/_, _%_, _<_, _≤_}
 use mathlib.Core.Path.{_≡_, refl, sym, ap, ap₂, _∙_}
 use mathlib.Core.Bool.{Bool, true, false, cond}
@@ -26,7 +26,7 @@ use Rattle.rules.specs.Errors.{ownError, errorAt, errorsTaken, errorsFor}
 use Rattle.breaking.specs.Reports.{octetsFor, errorStart, begunBefore, begunAfter, filledBy, begunFor, reportedAfter, closed}
 use Rattle.breaking.specs.declared.errors.Reported.{Reported}
 
--- ---- as the functions ask it
+-- ---- as the proofs of the functions need it
 
 start-long : (n : ℕ) → length (errorStart n) ≡ 10
 unfolding errorStart
@@ -58,7 +58,7 @@ same-reported a b l p f =
     ap₂ (λ (k q : ℕ). record { lost = k; place = q; full = a .full }) l p
     ∙ ap (λ (m : ℕ). record { lost = b .lost; place = b .place; full = m }) f
 
--- before the next, nothing is begun or a RERR is
+-- Before the next destination, either a RERR is begun or nothing is.
 module _ (b : Reported) (fe : b .full ≡ filledBy (b .lost)) where
   module _ (apart : b .lost ≡ b .full → ⊥) where
     inside : b .lost % 25 ≡ 0 → ⊥
@@ -88,7 +88,7 @@ module _ (b : Reported) (fe : b .full ≡ filledBy (b .lost)) where
     pub next-starts : (s t : List ℕ) (at : ℕ) → t ≡ overwrite s at (errorStart 25) → t ≡ overwrite s at (begunBefore (b .lost))
     next-starts s t at te = rw (before-one (b .lost) filled) te
 
-  -- the last RERR has its count or gets it
+  -- The last RERR has its count, or gets it.
   module _ (s : List ℕ) (at : ℕ) where
     pub close-none : b .lost ≡ b .full → s ≡ closed s at (b .lost)
     unfolding closed
@@ -119,7 +119,7 @@ begun-append k (x ∷ l) l′ =
     ∙ ap (λ (m : List ℕ). begunBefore k ++ m) (sym (append-assoc (lostOctets x) (begunAfter (suc k) l) (begunAfter (k + suc (length l)) l′)))
     ∙ sym (append-assoc (begunBefore k) (lostOctets x ++ begunAfter (suc k) l) (begunAfter (k + suc (length l)) l′))
 
--- they take ten octets each, and ten more where a RERR is begun
+-- Each destination takes ten octets, and each RERR that is begun takes ten more.
 pub begun-length : (k : ℕ) (l : List LostDestination) → octetsFor k + length (begunAfter k l) ≡ octetsFor (k + length l)
 unfolding begunAfter
 begun-length k [] = omega arith
@@ -133,7 +133,7 @@ begun-length k (x ∷ l) =
       begun-length (suc k) l,
     )
 
--- one destination after those before, where a RERR is begun for it
+-- One destination follows those before, after a RERR is begun for it if one must be.
 module _ (b g : Reported) (ge : g ≡ begunFor b) where
   begun-place : g .place ≡ b .place + length (begunBefore (b .lost))
   unfolding begunFor
@@ -158,7 +158,7 @@ module _ (b g : Reported) (ge : g ≡ begunFor b) where
       ∙ sym (overwrite-append s (b .place) (begunBefore (b .lost)) (lostOctets x))
       ∙ ap (λ (l : List ℕ). overwrite s (b .place) (begunBefore (b .lost) ++ l)) (sym (append-nil (lostOctets x)))
 
--- after 25 more it goes on as before
+-- After 25 more destinations the octets are as before.
 begun-shift : (k : ℕ) (l : List LostDestination) → begunAfter (k + 25) l ≡ begunAfter k l
 unfolding begunAfter begunBefore
 begun-shift k [] = refl
@@ -168,7 +168,7 @@ begun-shift k (x ∷ l) =
     ap₂ (λ (r : ℕ) (m : List ℕ). cond (eqb r 0) (errorStart 25) [] ++ (lostOctets x ++ m)) again
     (ap (λ (j : ℕ). begunAfter j l) next ∙ begun-shift (suc k) l)
 
--- inside a RERR nothing is begun
+-- Inside a RERR nothing is begun.
 begun-inside : (k : ℕ) (l : List LostDestination) → 1 ≤ k → k + length l ≤ 25 → begunAfter k l ≡ flatMap lostOctets l
 unfolding begunAfter flatMap
 begun-inside k [] one few = refl
@@ -181,7 +181,7 @@ begun-first [] one few = absurd (omega arith)
 begun-first (x ∷ l) one few =
     begun-cons 0 x l ∙ ap₂ (λ (b m : List ℕ). b ++ (lostOctets x ++ m)) (before-one 0 refl) (begun-inside 1 l (omega arith) (omega arith))
 
--- ---- the frames that the rules say
+-- ---- the frames of the rules
 
 error-parts : (l : List LostDestination) → writeFrame allOnes (rerr ownError l) ≡ errorStart (length l) ++ flatMap lostOctets l
 unfolding errorStart
@@ -199,7 +199,7 @@ unfolding each
 errors-later entries i zero = refl
 errors-later entries i (suc n) = ap₂ _∷_ (error-later entries i) (errors-later entries (suc i) n)
 
--- the first 25, and those for the rest
+-- The errors are the RERR for the first 25 entries, and then the errors for the rest.
 errors-next : (entries : List LostDestination) → 1 ≤ length entries → errorsFor entries ≡ errorAt entries 0 ∷ errorsFor (drop 25 entries)
 unfolding errorsFor each
 errors-next entries one =
@@ -219,7 +219,8 @@ unfolding frameOctets flatMap errorAt
 errors-octets entries one =
     ap frameOctets (errors-next entries one) ∙ ap (λ (l : List ℕ). l ++ frameOctets (errorsFor (drop 25 entries))) (error-parts (take 25 entries))
 
--- what holds of no entries, and of some where it holds of those after the first 25, holds of all
+-- A property holds for all entries if it holds for none, and if it holds for any list whenever it holds for the entries after
+-- the first 25.
 by-25 : (P : List LostDestination → Type 0) → P [] → ((l : List LostDestination) → 1 ≤ length l → P (drop 25 l) → P l)
     → (n : ℕ) (l : List LostDestination) → length l ≤ 25 * n → P l
 by-25 P none more zero l few = empty l (omega arith)
@@ -259,12 +260,12 @@ errors-long =
           rest,
         )
 
--- ---- closed, they are those frames
+-- ---- once closed, the octets are the frames of the rules
 
 abbrev Closes : List LostDestination → Type 0
 Closes entries = (s : List ℕ) (at : ℕ) → closed (overwrite s at (begunAfter 0 entries)) at (length entries) ≡ overwrite s at (frameOctets (errorsFor entries))
 
--- in a RERR that is not full the count is set
+-- In a RERR that is not full, `closed` sets the count.
 closes-last : (entries : List LostDestination) → 1 ≤ length entries → length entries < 25 → Closes entries
 unfolding closed frameOctets flatMap
 closes-last entries one few s at =
@@ -291,7 +292,7 @@ closed-later s at k j e =
     let place : at + 260 * (k / 25) ≡ at + 260 + 260 * (j / 25) = omega arith in
     ap₂ (λ (r p : ℕ). cond (eqb r 0) s (overwrite s p (errorStart r))) count place
 
--- a full one stands as it was begun
+-- A full RERR stands as it was begun.
 closes-full : (entries : List LostDestination) → 25 ≤ length entries → Closes (drop 25 entries) → Closes entries
 closes-full entries many rest-closes s at =
     let first : List LostDestination = take 25 entries in

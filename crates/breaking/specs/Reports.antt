@@ -1,5 +1,5 @@
--- The errors of a break while they are written: each RERR is begun as one of 25, and the last gets its count in the end. For
--- the code's own functions, no part of what a call is.
+-- The errors of a break while the code writes them: each RERR is begun with a count of 25, and the last RERR gets its own
+-- count in the end. Only contracts of the code use the definitions of this file. They are no part of what a call is.
 use Prim.Native.Nat.{ℕ, suc, _+_, _*_, _/_, _%_}
 use mathlib.Core.Bool.{cond}
 use mathlib.Core.List.{List, [], _∷_, _++_}
@@ -17,28 +17,28 @@ use Rattle.element.specs.Octets.{frameStart, startOctets}
 use Rattle.rules.specs.Errors.{errorsTaken, ownError}
 use Rattle.breaking.specs.declared.errors.Reported.{Reported}
 
--- how many octets k destinations take
+-- Returns how many octets the RERRs for k destinations take.
 abbrev pub octetsFor : ℕ → ℕ
 octetsFor k = sizeOf LostDestinations * k + startOctets Rerr * errorsTaken k
 
--- the start of a RERR of n destinations
+-- Returns the start of a RERR of n destinations.
 unfoldable pub errorStart : ℕ → List ℕ
 errorStart n = frameStart allOnes Rerr n (rerrNumbers ownError)
 
--- what is begun before a destination that comes after k others
+-- Returns what is begun before a destination that comes after k others.
 unfoldable pub begunBefore : ℕ → List ℕ
 begunBefore k = cond (eqb (k % most Rerr) 0) (errorStart (most Rerr)) []
 
--- destinations after k others, before the last RERR has its count
+-- Returns the octets of destinations that come after k others, before the last RERR has its count.
 unfoldable pub begunAfter : ℕ → List LostDestination → List ℕ
 begunAfter k [] = []
 begunAfter k (x ∷ entries) = begunBefore k ++ (lostOctets x ++ begunAfter (suc k) entries)
 
--- how many destinations fill the RERRs that k of them take
+-- Returns how many destinations fill the RERRs that k destinations take.
 abbrev pub filledBy : ℕ → ℕ
 filledBy k = most Rerr * errorsTaken k
 
--- what is reported when a RERR is begun for one more, if it has to be
+-- Returns what is reported once a RERR is begun for one more destination, if one must be begun.
 unfoldable pub begunFor : Reported → Reported
 begunFor before =
     record {
@@ -47,7 +47,8 @@ begunFor before =
       full = filledBy (before .lost + 1);
     }
 
--- what is reported when these follow what was before, and when these are all from a place on
+-- `reportedAfter` returns what is reported when the entries follow those reported before. `reportedFrom` returns what is
+-- reported when the entries are all, starting at place `at`.
 unfoldable pub reportedAfter : Reported → List LostDestination → Reported
 reportedAfter before entries =
     record {
@@ -64,7 +65,7 @@ reportedFrom at entries =
       full = filledBy (length entries);
     }
 
--- the output s, in which the errors for k destinations stand from place at on, with the count of the last
+-- Returns the output s with the count of its last RERR. The errors for k destinations stand in s from place `at` on.
 unfoldable pub closed : List ℕ → ℕ → ℕ → List ℕ
 closed s at k =
     cond (eqb (k % most Rerr) 0) s (overwrite s (at + octetsFor (most Rerr) * (k / most Rerr)) (errorStart (k % most Rerr)))

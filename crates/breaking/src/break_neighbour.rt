@@ -1,4 +1,4 @@
-// Report a broken neighbour.
+// Reports a broken neighbour.
 use crate::errors;
 use crate::report;
 use crate::rows;
@@ -28,7 +28,7 @@ fn check(table: &[u8], output: &[u8], clock: u64, neighbour: Address) -> Answer
     clocked::check_state(table, clock, neighbour)
 }
 
-// The table and the frames of a break that is not refused. The clock is stored whether or not a row was lost.
+// Writes the table and the frames of an accepted break. The clock is stored even if no row breaks.
 fn break_off(table: &mut [u8], output: &mut [u8], clock: u64, neighbour: Address) -> Outcome
     requires { ⌜ Sized (now table) ⌝ }
     requires { ⌜ leastOutput ≤ length (now output) ⌝ }

@@ -1,6 +1,5 @@
-// The errors of a break from a place of the output on, 25 destinations to a RERR, written one destination after another. How
-// many there will be is not known before the last, so each RERR is begun as one of 25, and the last gets its count when all
-// are written.
+// Writes the errors of a break, one destination after another, 25 to a RERR. The number of destinations is not known before
+// the last is written. Each RERR is therefore begun with a count of 25, and the last RERR gets its own count in the end.
 use calls::Emitted;
 use element::LostDestination;
 use element::RerrFields;
@@ -16,17 +15,17 @@ ghost use Rattle.rules.specs.Errors.{errorsTaken};
 ghost use Rattle.breaking.specs.Reports.{begunAfter, begunBefore, begunFor, closed, errorStart};
 ghost use Rattle.breaking.specs.Reports.{filledBy, octetsFor, reportedAfter};
 
-// How many destinations a RERR names at most.
+// The largest number of destinations that a RERR names.
 const MOST_LOST: usize = 25;
 
-// How many destinations are reported, the place after them, and how many fill the RERRs that were begun for them.
+// Holds the number of destinations reported, the place after them, and the number that fills the RERRs begun so far.
 pub struct Reported {
     pub lost: usize,
     pub place: usize,
     pub full: usize,
 }
 
-// How many RERRs so many destinations take: in 32 bits, where a division is cheap.
+// Returns how many RERRs `lost` destinations take. It divides in 32 bits, where a division is cheap.
 fn errors_taken(lost: usize) -> u32
     requires { ⌜ lost ≤ mostRows ⌝ }
     ensures { λ r. ⌜ r ≡ errorsTaken lost ⌝ }
@@ -34,7 +33,7 @@ fn errors_taken(lost: usize) -> u32
     (lost as u32 + (MOST_LOST as u32 - 1)) / MOST_LOST as u32
 }
 
-// What a break that lost so many destinations has written, in so many octets.
+// Returns what a break that reports `lost` destinations has written.
 pub fn emitted(lost: usize, octets: usize) -> Emitted
     requires { ⌜ lost ≤ mostRows ⌝ }
     requires { ⌜ octets ≡ octetsFor lost ⌝ }
@@ -45,7 +44,7 @@ pub fn emitted(lost: usize, octets: usize) -> Emitted
     Emitted { frames, octets }
 }
 
-// Begins a RERR of n destinations at a place; answers the place of its list.
+// Begins a RERR of n destinations at place `at`. Returns the place of its list.
 fn begin(out: &mut [u8], at: usize, n: usize) -> usize
     requires { ⌜ n ≤ 25 ⌝ }
     requires { ⌜ at + 10 ≤ length (now out) ⌝ }
@@ -56,7 +55,7 @@ fn begin(out: &mut [u8], at: usize, n: usize) -> usize
     writing::start_rerr(out, at, Address(list::ALL_ONES), fields, n)
 }
 
-// Begins a RERR after what was reported before, if that fills those begun.
+// Begins a RERR after the destinations reported before, if they fill the RERRs begun so far.
 fn begin_if_full(out: &mut [u8], before: Reported) -> Reported
     requires { ⌜ before .lost ≤ mostRows ⌝ }
     requires { ⌜ before .full ≡ filledBy (before .lost) ⌝ }
@@ -88,7 +87,7 @@ pub fn add(out: &mut [u8], before: Reported, entry: LostDestination) -> Reported
     Reported { lost, place, full }
 }
 
-// Gives the last RERR of those reported from a place on its count, if that is not 25.
+// Gives the last RERR its count, if that is not 25. The first RERR starts at place `at`.
 pub fn close(out: &mut [u8], at: usize, reported: Reported)
     requires { ⌜ reported .lost ≤ mostRows ⌝ }
     requires { ⌜ reported .place ≡ at + octetsFor (reported .lost) ⌝ }

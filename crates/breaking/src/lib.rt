@@ -1,4 +1,4 @@
-// Report a broken neighbour: the errors that name the rows that are lost, and the rows.
+// Reports a broken neighbour: writes the errors that name the rows that break, and breaks the rows.
 pub mod break_neighbour;
 mod errors;
 mod report;

@@ -1,4 +1,4 @@
-// The errors of a break: a pass over the rows that changes none of them.
+// Writes the errors of a break, in a pass over the rows that changes none of them.
 use crate::errors;
 use crate::errors::Reported;
 use crate::rows;
@@ -18,7 +18,7 @@ ghost use Rattle.rules.specs.Errors.{brokenEntries, brokenEntry, errorsFor};
 ghost use Rattle.rules.specs.Exit.{frameOctets};
 ghost use Rattle.breaking.specs.Reports.{begunAfter, filledBy, octetsFor, reportedAfter, reportedFrom};
 
-// Adds the destination of row i to those reported before it, if the row leads through the neighbour.
+// Adds the destination of row i to those reported before, if the row is active and leads through the neighbour.
 fn report_row(
     output: &mut [u8],
     table: &[u8],
@@ -45,7 +45,7 @@ fn report_row(
     errors::add(output, before, LostDestination { address, number })
 }
 
-// Reports those of the n first rows that lead through the neighbour, from place at on.
+// Reports every active row through the neighbour among the first n rows, starting at place `at` of the output.
 fn report_rows(
     output: &mut [u8],
     at: usize,
@@ -76,8 +76,8 @@ fn report_rows(
     reported
 }
 
-// Writes the errors that a break through the neighbour calls for, from place at on. Answers how many destinations they name,
-// and the place after the errors.
+// Writes the errors for a broken neighbour, starting at place `at`. Returns how many destinations the errors name, and the
+// place after the errors.
 pub fn report(
     output: &mut [u8],
     at: usize,

@@ -1,4 +1,4 @@
-// The rows that a break loses.
+// Breaks the rows through a broken neighbour.
 use layout::address::Address;
 use layout::row;
 use layout::row::Row;
@@ -11,7 +11,8 @@ ghost use Rattle.layout.specs.Row.{isThrough};
 ghost use Rattle.table.specs.Table.{changeAt, changeBelow, changeWhere};
 ghost use Rattle.rules.specs.Errors.{broken, brokenEntries};
 
-// The row stays held, and a known number is stepped: what was learnt under the old one is stale.
+// Returns the row after a break. The row stays held. A known number is stepped, because what was learnt under the old number
+// is stale.
 pub fn broken(r: Row) -> Row
     ensures { λ s. ⌜ s ≡ broken r ⌝ }
 {
@@ -22,7 +23,7 @@ pub fn broken(r: Row) -> Row
     r.invalidated().raised(number.next())
 }
 
-// Breaks row i if it leads through the neighbour.
+// Breaks row i if it is active and leads through the neighbour.
 fn break_row(table: &mut [u8], i: usize, clock: u64, neighbour: Address)
     requires { ⌜ place i + rowOctets ≤ length (now table) ⌝ }
     ensures { λ _. ⌜ now (table .exit) ≡ changeAt (isThrough clock neighbour) broken i (now (table .entry)) ⌝ }
@@ -34,7 +35,7 @@ fn break_row(table: &mut [u8], i: usize, clock: u64, neighbour: Address)
     row::write_row(table, i, broken(r));
 }
 
-// Breaks those of the n first rows that lead through the neighbour.
+// Breaks every active row through the neighbour among the first n rows.
 fn break_rows(table: &mut [u8], n: usize, clock: u64, neighbour: Address)
     requires { ⌜ place n ≤ length (now table) ⌝ }
     ensures { λ _. ⌜ now (table .exit) ≡ changeBelow (isThrough clock neighbour) broken n (now (table .entry)) ⌝ }
@@ -46,7 +47,7 @@ fn break_rows(table: &mut [u8], n: usize, clock: u64, neighbour: Address)
     }
 }
 
-// Breaks every row that leads through the neighbour, of which there are so many as were reported lost.
+// Breaks every active row through the neighbour. `lost` is the number of rows that break, and if it is 0 no row is read.
 pub fn lose_rows(table: &mut [u8], clock: u64, neighbour: Address, lost: usize)
     requires { ⌜ Sized (now table) ⌝ }
     requires { ⌜ lost ≡ length (brokenEntries (isThrough clock neighbour) (now table)) ⌝ }

@@ -1,4 +1,4 @@
--- The replies, case by case and one after another, as the code asks it.
+-- Laws of the replies, case by case and one after another, as the proofs of the functions need them.
 use Prim.Native.Nat.{ℕ, _+_, _-_, _*_, _/_, _<_, _≤_}
 use mathlib.Core.Path.{_≡_, refl, sym, ap, ap₂, _∙_}
 use mathlib.Core.Bool.{Bool, true, false, not}
@@ -73,7 +73,7 @@ pub reply-numbered : (n : SequenceNumber) (request : RequestId) (c : OwnCounters
 unfolding advancedFor
 reply-numbered n request c e = ap (λ (k : OwnCounters). k .number) e
 
--- for oneself
+-- A reply for oneself is the reply of the rules.
 module _ (t s v : List ℕ) (a : Arrival) (p : PathInfo) (n m : SequenceNumber) (me : m ≡ n) (at : ℕ) (h : Head) (he : h ≡ headAt t)
     (f : RrepFields) (fe : f ≡ replyFields p (h .own) m (record { 0 = 0 }) (record { 0 = 0 })) where
   pub oneself-written : v ≡ overwrite s at (frameOctets (record { receiver = a .transmitter; element = rrep f [] } ∷ []))
@@ -87,10 +87,10 @@ pub oneself-place : (n m : SequenceNumber) → m ≡ n → (frames at place : �
     → _≡_ {A = Replied} (record { number = m; frames = frames; place = place }) (record { number = n; frames = frames; place = at + 40 })
 oneself-place n m me frames at place e = rw (me, e)
 
--- ---- an answer x, where the replies before it end at `before`
+-- ---- the result x for a destination, where the replies before it end at `before`
 
 module _ (before : Replied) where
-  -- it has no reply and leaves the number
+  -- The result has no reply, and leaves the own number.
   module _ (x : Answered) (none-said : x .replies ≡ []) (same-number : x .number ≡ before .number) where
     silent-place : before ≡ repliedAfter before x
     unfolding frameOctets flatMap
@@ -100,7 +100,7 @@ module _ (before : Replied) where
     unfolding frameOctets flatMap overwrite
     silent-output s = rw none-said
 
-  -- it has one
+  -- The result has one reply.
   module _ (x : Answered) (to : Address) (f : RrepFields) (said : x .replies ≡ record { receiver = to; element = rrep f [] } ∷ []) where
     said-place : (n : SequenceNumber) → n ≡ x .number → (place : ℕ) → place ≡ before .place + 40
         → record { number = n; frames = before .frames + 1; place = place } ≡ repliedAfter before x
@@ -151,7 +151,7 @@ module _ (t : List ℕ) (a : Arrival) (p : PathInfo) (q : Target) (before : Repl
   abbrev toThis : Answered
   toThis = answered t a p (before .number) q
 
-  -- of an answer that is known to be another's
+  -- If the result for the destination is x, what holds for x holds for the destination.
   answer-place : (x : Answered) → toThis ≡ x → (r : Replied) → r ≡ repliedAfter before x → r ≡ repliedAfter before toThis
   answer-place x e r re = re ∙ ap (repliedAfter before) (sym e)
 
@@ -159,7 +159,7 @@ module _ (t : List ℕ) (a : Arrival) (p : PathInfo) (q : Target) (before : Repl
       → v ≡ overwrite s (before .place) (frameOctets (toThis .replies))
   answer-output x e s v ve = ve ∙ ap (λ (y : Answered). overwrite s (before .place) (frameOctets (y .replies))) (sym e)
 
-  -- a reply for oneself under the number m
+  -- The result is a reply for oneself with the number m.
   module _ (m : SequenceNumber) (number-is : toThis .number ≡ m) (replies-are : toThis .replies ≡ ownReply a p (own t) m ∷ []) where
     own-said-place : (r : Replied) → r ≡ record { number = m; frames = before .frames + 1; place = before .place + 40 } → r ≡ repliedAfter before toThis
     unfolding reply
@@ -237,7 +237,7 @@ module _ (t : List ℕ) (a : Arrival) (p : PathInfo) (q : Target) (before : Repl
         pub wanted-output : (s v : List ℕ) → v ≡ overwrite s (before .place) (frameOctets (ownReply a p (own t) next ∷ [])) → v ≡ overwrite s (before .place) (frameOctets (toThis .replies))
         wanted-output = own-said-output next (ap (λ (y : Answered). y .number) (ones-answer ∙ wanted)) (ap (λ (y : Answered). y .replies) (ones-answer ∙ wanted))
 
--- ---- all of them: each takes 40 octets
+-- ---- all replies; each takes 40 octets
 
 abbrev Bare : Frame → Type 0
 Bare f = lengthWith (kindOf (f .element)) (countOf (f .element)) ≡ 32
@@ -272,14 +272,15 @@ module _ (t : List ℕ) (a : Arrival) (p : PathInfo) (n : SequenceNumber) where
 -- ---- one after another
 
 module _ (t : List ℕ) (a : Arrival) (p : PathInfo) (part out₀ : List ℕ) (at n : ℕ) (start : SequenceNumber) where
-  -- what is left before destination i, where the own number is m; and all of it
+  -- `leftFrom` returns the result of the destinations from i on, where the own number is m. `allReplies` returns the result of
+  -- all destinations.
   abbrev leftFrom : ℕ → SequenceNumber → Answered
   leftFrom i m = allAnswered t a p m (each (targetAt part) i (n - i))
 
   abbrev allReplies : Answered
   allReplies = allAnswered t a p start (each (targetAt part) 0 n)
 
-  -- what stands before destination i: with what is left it comes to the whole
+  -- States what stands before destination i. Together with the result that is left, it makes the whole.
   pub record Replying (i : ℕ) (replied : Replied) (out : List ℕ) : Type 0 where
     pub short : replied .place ≤ at + 40 * i
     pub few : replied .frames ≤ i

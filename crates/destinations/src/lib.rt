@@ -1,3 +1,4 @@
-// The destinations of a received RREQ, taken in order: which row answers for a destination, and the replies. The table is that
-// after steps 1 and 2, and does not change meanwhile. Which destinations go on is a pass of its own, in `onward`.
+// Replies to the destinations of a received RREQ, in order. The table is the one after steps 1 and 2, and it does not change
+// meanwhile. Crate `answering` finds the row that answers for a destination. Crate `onward` decides in a pass of its own which
+// destinations are kept.
 pub mod replies;

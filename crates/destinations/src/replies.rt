@@ -1,4 +1,4 @@
-// The replies to a RREQ, one after another. The table is that after steps 1 and 2.
+// Writes the replies to a RREQ, one after another. The table is the one after steps 1 and 2.
 use answering::Answering;
 use counters::HopCount;
 use counters::Metric;
@@ -32,14 +32,14 @@ ghost use Rattle.rules.specs.Destinations.{allAnswered, answered, forAnother, n
 ghost use Rattle.rules.specs.Exit.{frameOctets};
 ghost use Rattle.destinations.specs.Replies.{repliedAfter, repliedFrom};
 
-// Where the replies stand: the own number so far, how many they are, and the place after them in the output.
+// Holds the own number so far, the number of replies written, and the place after them in the output.
 pub struct Replied {
     pub number: SequenceNumber,
     pub frames: u32,
     pub place: usize,
 }
 
-// A reply: flags 0, TTL 31; lifetime, source and source number from the request.
+// Returns the fields of a reply: flags 0 and TTL 31, with lifetime, source and source number from the request.
 fn reply_fields(
     p: PathInfo,
     destination: Address,
@@ -67,21 +67,21 @@ fn reply_fields(
     RrepFields { path, source }
 }
 
-// For oneself: own address and number, hop count 0, metric 0.
+// Returns the fields of a reply for oneself: own address and number, hop count 0, metric 0.
 fn own_fields(p: PathInfo, own: Address, number: SequenceNumber) -> RrepFields
     ensures { λ r. ⌜ r ≡ replyFields p own number (record { 0 = 0 }) (record { 0 = 0 }) ⌝ }
 {
     reply_fields(p, own, number, HopCount(0), Metric(0))
 }
 
-// Intermediate: the row's destination, number, hop count and metric.
+// Returns the fields of an intermediate reply: the row's destination, number, hop count and metric.
 fn row_fields(p: PathInfo, r: Row) -> RrepFields
     ensures { λ s. ⌜ s ≡ replyFields p (r .destination) (r .number) (r .hops) (r .metric) ⌝ }
 {
     reply_fields(p, r.destination, r.number, r.hops, r.metric)
 }
 
-// A reply goes to the transmitter, without dependents. Answers the place after it.
+// Writes a reply to the transmitter, without dependents. Returns the place after the reply.
 fn write_reply(output: &mut [u8], at: usize, a: Arrival, f: RrepFields) -> usize
     requires { ⌜ at + 40 ≤ length (now output) ⌝ }
     ensures { λ r. ⌜ r ≡ at + 40 ⌝ }
@@ -91,7 +91,7 @@ fn write_reply(output: &mut [u8], at: usize, a: Arrival, f: RrepFields) -> usize
     writing::start_rrep(output, at, a.transmitter, f, 0)
 }
 
-// The own number for a reply, before it steps: the requested one if that is newer.
+// Returns the requested number if it is newer than the own number, and the own number otherwise.
 fn newer_of(own: SequenceNumber, requested: SequenceNumber) -> SequenceNumber
     ensures { λ r. ⌜ r ≡ newerOf own requested ⌝ }
 {
@@ -101,8 +101,8 @@ fn newer_of(own: SequenceNumber, requested: SequenceNumber) -> SequenceNumber
     own
 }
 
-// Numbers a reply for oneself, where this is the own number before it: the counters of the point advance as for a RANN, which
-// takes no request ID.
+// Returns the number of a reply for oneself, where `number` is the own number before the reply. The counters of the point
+// advance as for a RANN, which takes no request ID.
 fn reply_number(head: Head, number: SequenceNumber) -> SequenceNumber
     ensures { λ r. ⌜ r ≡ nextNumber number ⌝ }
 {
@@ -110,7 +110,7 @@ fn reply_number(head: Head, number: SequenceNumber) -> SequenceNumber
     own::numbered(OwnCounters { number, request }, false).number
 }
 
-// A reply for oneself, where this is the own number before it.
+// Writes a reply for oneself, where `number` is the own number before the reply.
 fn reply_as_oneself(
     output: &mut [u8],
     table: &[u8],
@@ -139,7 +139,7 @@ fn reply_as_oneself(
     }
 }
 
-// Another: an intermediate reply, if a row answers for it.
+// Writes an intermediate reply for another destination, if a row answers for it.
 fn reply_for_another(
     output: &mut [u8],
     table: &[u8],
@@ -171,7 +171,8 @@ fn reply_for_another(
     }
 }
 
-// The own address, another, or all ones: then a reply if it is wanted.
+// Replies to one destination: the own address, another address, or all ones. A reply to all ones is written only if a reply is
+// wanted.
 fn reply_to(
     output: &mut [u8],
     table: &[u8],
@@ -201,7 +202,7 @@ fn reply_to(
     reply_as_oneself(output, table, a, p, number, before)
 }
 
-// Writes the replies to the destinations in part from place at on, where the point has this own number.
+// Writes the replies to the destinations in `part`, starting at place `at`. `number` is the own number before the first reply.
 pub fn write_replies(
     output: &mut [u8],
     at: usize,

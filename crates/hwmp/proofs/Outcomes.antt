@@ -1,4 +1,4 @@
--- What C gets is what the call came to.
+-- C receives the exit of the call.
 use Prim.Native.Nat.{ℕ, _≤_}
 use mathlib.Core.Path.{_≡_, refl, sym, ap, _∙_}
 use mathlib.Core.List.{List}
@@ -28,11 +28,11 @@ pub exit-for-c : (o : Outcome) (r : HwmpOutcome) → r ≡ outcomeForC o → (l 
 exit-for-c (Accepted e) r re l output x h = ap (λ (q : HwmpOutcome). exitForC q l output) re ∙ h
 exit-for-c (Refused n) r re l output x h = ap (λ (q : HwmpOutcome). exitForC q l output) re ∙ h
 
--- a next hop that was refused
+-- C receives a refused next hop as the refusal's number and zeros.
 pub no-hop-for-c : (h : Hop) (n : ℕ) → h ≡ Hop.Refused n → (a : List ℕ) → a ≡ zeros 6 → record { answer = n; address = a } ≡ hopForC (hopDecision h)
 no-hop-for-c h n he a ae = rw (he, ae)
 
--- of a call with a neighbour or a transmitter, by the octets of its address
+-- Break and receive read the address of the neighbour or transmitter from its octets.
 module _ (o : Outcome) (r : HwmpOutcome) (re : r ≡ outcomeForC o) (l l₀ : Lent) (output output₀ s : List ℕ) (a : Address) (ae : a ≡ addressOf s) where
   by-address : (call : Address → Decision Effect) → exitOf o l output ≡ atExit l₀ output₀ (call a) → exitForC r l output ≡ atExit l₀ output₀ (call (addressOf s))
   by-address call h = exit-for-c o r re l output _ (h ∙ ap (λ (b : Address). atExit l₀ output₀ (call b)) ae)
@@ -46,7 +46,7 @@ module _ (o : Outcome) (r : HwmpOutcome) (re : r ≡ outcomeForC o) (l l₀ : Le
       → exitForC r l output ≡ atExit l₀ output₀ (receive l₀ n (record { clock = c; transmitter = addressOf s; link = link }) e)
   receive-exit-for-c n c link e = by-address (λ (b : Address). receive l₀ n (record { clock = c; transmitter = b; link = link }) e)
 
--- no more hops than points, refused or not
+-- There are no more hops than points, whether or not the walk is refused.
 pub hops-few : (s : List ℕ) (count c : ℕ) (start d : Address) (e : Ending) → walkDecision e ≡ walk s count c start d
     → (w : InNumbers) → numbersOf w ≡ walkedAtExit (walkDecision e) → w .hops ≤ count
 hops-few s count c start d e ee w we = by (walkDecision e) refl

@@ -1,4 +1,4 @@
--- What C gets of a decision.
+-- What the calls return to C.
 use Prim.Native.Nat.{ℕ}
 use mathlib.Core.List.{List}
 use Rattle.octets.specs.LittleEndian.{zeros}
@@ -11,16 +11,16 @@ use Rattle.calls.specs.declared.Outcome.the-variants.{Accepted, Refused}
 use Rattle.hwmp.specs.declared.HwmpHop.{HwmpHop}
 use Rattle.hwmp.specs.declared.HwmpOutcome.{HwmpOutcome}
 
--- answer 0 and the next hop, or the refusal's number and zeros
+-- Returns answer 0 and the next hop, or the refusal's number and zeros.
 abbrev pub hopForC : Decision Address → HwmpHop
 hopForC (accepted a) = record { answer = 0; address = octetsOf a }
 hopForC (refused n) = record { answer = n; address = zeros 6 }
 
--- answer 0 and what was written, or the refusal's number and zeros
+-- Returns answer 0 with the counts of frames and octets written, or the refusal's number and zeros.
 abbrev pub outcomeForC : Outcome → HwmpOutcome
 outcomeForC (Accepted e) = record { answer = 0; frames = e .frames; octets = e .octets }
 outcomeForC (Refused n) = record { answer = n; frames = 0; octets = 0 }
 
--- what C gets, with what the call leaves in what it was lent and in the output
+-- Returns the exit of a call, from what C receives and from what the call leaves in the lent buffers and in the output.
 abbrev pub exitForC : HwmpOutcome → Lent → List ℕ → Exit
 exitForC r l output = record { answer = r .answer; frames = r .frames; octets = r .octets; lent = l; output = output }

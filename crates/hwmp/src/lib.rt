@@ -1,4 +1,4 @@
-// The calls for C, on numbers and octet buffers: include/hwmp.h declares them.
+// The calls for C, on numbers and octet buffers. `include/hwmp.h` declares them.
 use breaking::break_neighbour;
 use calls::Outcome;
 use counters::Metric;
@@ -44,7 +44,7 @@ pub struct HwmpOutcome {
     pub octets: u32,
 }
 
-// A next hop as C gets it: answer 0 and the address, or the refusal's number and zeros.
+// Returns a next hop in the form for C: answer 0 and the address, or the refusal's number and zeros.
 fn hop_for_c(hop: Hop) -> HwmpHop
     ensures { λ r. ⌜ r ≡ hopForC (hopDecision hop) ⌝ }
 {
@@ -60,7 +60,8 @@ fn hop_for_c(hop: Hop) -> HwmpHop
     }
 }
 
-// What a call that may emit frames gives to C: answer 0 and what was written, or the refusal's number and zeros.
+// Returns the result of a call that may emit frames in the form for C: answer 0 with the counts of frames and octets written,
+// or the refusal's number and zeros.
 fn outcome_for_c(outcome: Outcome) -> HwmpOutcome
     ensures { λ r. ⌜ r ≡ outcomeForC outcome ⌝ }
 {

@@ -1,4 +1,4 @@
--- What goes on, case by case, as the code asks it.
+-- Laws of forwarding, case by case, as the proofs of the functions need them.
 use Prim.Native.Nat.{ℕ, _+_, _-_, _/_, _%_, _<_, _≤_}
 use mathlib.Core.Path.{_≡_, refl, sym, ap, ap₂, _∙_}
 use mathlib.Core.Bool.{Bool, true, false, cond}
@@ -46,7 +46,7 @@ farther a p h he m me t te = rw (he, me, te)
 
 -- ---- no frame, or one
 
--- frames that are none
+-- There is no frame.
 module _ (frames : List Frame) (none-sent : frames ≡ []) where
   pub none-counted : (e : Emitted) → e ≡ emitted [] → e ≡ emitted frames
   none-counted e ee = ee ∙ ap emitted (sym none-sent)
@@ -55,7 +55,7 @@ module _ (frames : List Frame) (none-sent : frames ≡ []) where
   unfolding overwrite
   none-written s at = rw (none-sent, no-frame)
 
--- frames that are one
+-- There is one frame.
 module _ (frames : List Frame) (to : Address) (e : Element) (one-sent : frames ≡ record { receiver = to; element = e } ∷ []) where
   pub one-counted : (octets : ℕ) → octets ≡ 8 + lengthWith (kindOf e) (countOf e) → (em : Emitted) → em ≡ record { frames = 1; octets = octets } → em ≡ emitted frames
   one-counted octets size em eme = eme ∙ rw (one-sent, one-frame, size, frame-length)

@@ -1,4 +1,4 @@
--- Which destinations are kept, case by case and one after another, as the code asks it.
+-- Laws of which destinations are kept, case by case and one after another, as the proofs of the functions need them.
 use Prim.Native.Nat.{ℕ, _+_, _*_, _/_, _<_, _≤_}
 use mathlib.Core.Path.{_≡_, refl, sym, ap, ap₂, _∙_}
 use mathlib.Core.Bool.{Bool, true, false, not, cond}
@@ -67,7 +67,7 @@ module _ (t : List ℕ) (c : ℕ) (q : Target) where
           pub answered-kept : not b ≡ false → (k : Target) → k ≡ withDO q → k ∷ [] ≡ keptOf t c q
           answered-kept e k ke = rw (← after-reply, ← be, not-false b e, ke)
 
-  -- written, or not
+  -- The destination is written, or not.
   module _ (k : Kept) (ke : keptIn k ≡ keptOf t c q) where
     kept-octets : flatMap targetOctets (keptIn k) ≡ keptOctets t c q
     unfolding keptOctets
@@ -115,7 +115,7 @@ pub keeping-more : (t : List ℕ) (c : ℕ) (part out₀ : List ℕ) (at n i pla
 keeping-more t c part out₀ at n i place out so-far l =
     listing-more (keptOctets t c) (targetAt part) n 11 out₀ at i place out so-far l (kept-short t c (targetAt part i))
 
--- the octets of what is kept of each are those of all that are kept
+-- The kept octets of each destination, joined, are the octets of all kept destinations.
 kept-together : (t : List ℕ) (c : ℕ) (l : List Target) → flatMap (keptOctets t c) l ≡ flatMap targetOctets (flatMap (keptOf t c) l)
 unfolding flatMap keptOctets
 kept-together t c [] = refl
@@ -133,7 +133,7 @@ module _ (t : List ℕ) (c : ℕ) (part : List ℕ) (n : ℕ) (ne : n ≡ length
       listing-counted (keptOctets t c) (targetAt part) n 11 out₀ at i place out so-far (flatMap targetOctets (keptAmong t c part)) kept-octets-among l
       ∙ ap (λ (m : ℕ). at + m) (target-lists .long (keptAmong t c part))
 
--- a kept destination has its address
+-- A kept destination has the address that it had.
 pub kept-address : (t : List ℕ) (c : ℕ) (q : Target) → All (λ (k : Target). k .address ≡ q .address) (keptOf t c q)
 unfolding keptOf All withDO
 kept-address t c q =
@@ -147,7 +147,7 @@ kept-address t c q =
     by-answer none = (refl, tt)
     by-answer (some r) = cond-cases Same (hasRF q) (λ _. (refl, tt)) (λ _. tt)
 
--- no more are kept than there are
+-- No more destinations are kept than there are.
 pub kept-few : (t : List ℕ) (c : ℕ) (part : List ℕ) → length (keptAmong t c part) ≤ length part / 11
 unfolding keptAmong keptOctets flatMap
 kept-few t c part =
@@ -157,7 +157,7 @@ kept-few t c part =
       each-length (targetAt part) 0 (length part / 11),
     )
 
--- ---- they are the kept ones of `allAnswered`
+-- ---- the kept destinations are those of `allAnswered`
 
 module _ (t : List ℕ) (a : Arrival) (p : PathInfo) where
   abbrev keptBranch : Bool → Bool → SequenceNumber → Target → Answered
@@ -181,7 +181,7 @@ module _ (t : List ℕ) (a : Arrival) (p : PathInfo) where
       (answering-is t a p n q)
       ∙ branch-kept (same (q .address) (own t)) (same (q .address) allOnes) n q
 
-  -- all of them
+  -- The kept part of `allAnswered` is what is kept of each destination.
   all-kept-are : (n : SequenceNumber) (targets : List Target) → allAnswered t a p n targets .kept ≡ flatMap (keptOf t (a .clock)) targets
   unfolding allAnswered flatMap
   all-kept-are n [] = refl

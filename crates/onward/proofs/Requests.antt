@@ -1,4 +1,4 @@
--- A RREQ that goes on, case by case, as the code asks it.
+-- Laws of forwarding a RREQ, case by case, as the proofs of the functions need them.
 use Prim.Native.Nat.{ℕ, _+_, _-_, _*_, _/_, _<_, _≤_}
 use mathlib.Core.Path.{_≡_, refl, sym, ap, subst, _∙_}
 use mathlib.Core.Bool.{Bool, true, false, not, cond}
@@ -33,7 +33,7 @@ use Rattle.onward.proofs.KeptOnes.{kept-address, kept-few}
 use Rattle.onward.specs.Sent.{requestReceiver, rreqForward, sentWith, keptSentTo, requestSent, unicastToSeveral}
 use Rattle.onward.proofs.Going.{none-counted, none-written, one-counted, one-written}
 
--- ---- to whom
+-- ---- the receiver
 
 module _ (t : List ℕ) (c : ℕ) (p : PathInfo) (part : List ℕ) (b : Bool) (be : b ≡ unicast p) where
   pub to-all : not b ≡ true → some allOnes ≡ requestReceiver t c p part
@@ -138,7 +138,7 @@ module _ (t : List ℕ) (a : Arrival) (f : RreqFields) where
     pub request-low-unwritten : (s : List ℕ) (at : ℕ) → s ≡ overwrite s at (frameOctets (rreqOnward t a f kept))
     request-low-unwritten s at = none-written (rreqOnward t a f kept) (low-ttl low kept) s at
 
-  -- to an address d for its first kept destination
+  -- A unicast RREQ whose kept destinations all have the address d is forwarded to the active next hop for d.
   module _ (left : 2 ≤ f .path .ttl) (d : Address) where
     abbrev receiverFor : Bool → Option Address
     receiverFor b = cond b (activeNext (a .clock) (rowFor t d)) (some allOnes)
@@ -172,7 +172,7 @@ module _ (t : List ℕ) (a : Arrival) (f : RreqFields) where
     abbrev kept : List Target
     kept = keptAmong t (a .clock) part
 
-    -- the one destination of a unicast RREQ is kept with its address, if it is kept
+    -- The only destination of a unicast RREQ is kept with its address, if it is kept.
     kept-one : unicast (f .path) ≡ true → All (λ (k : Target). k .address ≡ targetAt part 0 .address) kept
     unfolding keptAmong flatMap each unicastToSeveral
     kept-one u =

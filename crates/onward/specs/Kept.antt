@@ -1,5 +1,5 @@
--- What is kept of a destination. For the code's own functions: `kept-is` says that it is that part of `answered`, whatever the
--- own number is.
+-- What is kept of a destination. Only contracts of the code use the definitions of this file. The law `kept-is` says that
+-- `keptOf` is the kept part of `answered`, whatever the own number is.
 use Prim.Native.Nat.{ℕ}
 use mathlib.Core.Bool.{cond}
 use mathlib.Core.List.{List, [], _∷_, flatMap}
@@ -19,7 +19,7 @@ abbrev pub keptIn : Kept → List Target
 keptIn (As q) = q ∷ []
 keptIn Struck = []
 
--- of one that may be answered for, by the row that answers
+-- Returns what is kept of q, by the row that answers for q, if there is one.
 abbrev pub keptBy : Target → Option Row → List Target
 keptBy q none = q ∷ []
 keptBy q (some r) = keptAfterReply q
@@ -27,10 +27,10 @@ keptBy q (some r) = keptAfterReply q
 unfoldable pub keptOf : List ℕ → ℕ → Target → List Target
 keptOf t c q = cond (same (q .address) (own t)) [] (cond (same (q .address) allOnes) (q ∷ []) (keptBy q (answeringRow t c q)))
 
--- as octets
+-- Returns the octets of what is kept of a destination.
 unfoldable pub keptOctets : List ℕ → ℕ → Target → List ℕ
 keptOctets t c q = flatMap targetOctets (keptOf t c q)
 
--- the destinations of part that are kept
+-- Returns the kept destinations of `part`.
 unfoldable pub keptAmong : List ℕ → ℕ → List ℕ → List Target
 keptAmong t c part = flatMap (keptOf t c) (targetsIn part)

@@ -1,5 +1,5 @@
--- To whom an element goes on, and what is then sent. For the code's own functions: `reply-is` and `request-is` say that the
--- rules' frames are these.
+-- The receiver of a forwarded element, and the frames that are then sent. Only contracts of the code use the definitions of
+-- this file. The laws `reply-is` and `request-is` say that the frames of the rules are the frames here.
 use Prim.Native.Nat.{ℕ, _/_}
 use mathlib.Core.Bool.{Bool, _&&_, cond}
 use mathlib.Core.List.{List, [], _∷_}
@@ -32,7 +32,7 @@ rrepForward a f = record { path = onward a (f .path); source = f .source }
 
 -- ---- a RREQ
 
--- refusal 10 turns away a unicast RREQ with several destinations
+-- Reports whether a RREQ is unicast with several destinations, which refusal 10 refuses.
 unfoldable pub unicastToSeveral : PathInfo → List ℕ → Bool
 unicastToSeveral p part = unicast p && ltb 1 (length part / 11)
 
@@ -42,16 +42,16 @@ requestReceiver t c p part = cond (unicast p) (activeNext c (rowFor t (targetAt 
 abbrev pub rreqForward : Arrival → RreqFields → RreqFields
 rreqForward a f = record { request = f .request; path = onward a (f .path) }
 
--- a RREQ with kept destinations, if there are any
+-- Returns the frame of a RREQ with kept destinations, or no frame if none is kept.
 unfoldable pub sentWith : Address → RreqFields → List Target → List Frame
 sentWith to f [] = []
 sentWith to f (q ∷ qs) = record { receiver = to; element = rreq f (q ∷ qs) } ∷ []
 
--- the same to a receiver, if there is one
+-- Returns the frame of a RREQ with kept destinations to a receiver, or no frame if there is no receiver.
 abbrev pub keptSentTo : RreqFields → List Target → Option Address → List Frame
 keptSentTo f kept (some to) = sentWith to f kept
 keptSentTo f kept none = []
 
--- a RREQ with the destinations of part that are kept, to its receiver
+-- Returns the frame of a RREQ with the kept destinations of `part`, to the receiver of the RREQ.
 unfoldable pub requestSent : List ℕ → ℕ → RreqFields → List ℕ → List Frame
 requestSent t c f part = keptSentTo f (keptAmong t c part) (requestReceiver t c (f .path) part)

@@ -1,4 +1,4 @@
-// A RANN goes on to all ones.
+// Forwards a RANN to all ones.
 use calls::Emitted;
 use element::PathInfo;
 use element::list;
@@ -13,7 +13,7 @@ ghost use Rattle.rules.specs.Onward.{rannOnward};
 ghost use Rattle.rules.specs.Exit.{frameOctets};
 ghost use Rattle.calls.specs.Answers.{emitted};
 
-// Sends the RANN on from place at of the output, if its TTL is at least 2.
+// Writes the forwarded RANN at place `at` of the output, if its TTL is at least 2.
 pub fn send_on(output: &mut [u8], at: usize, a: Arrival, p: PathInfo) -> Emitted
     requires { ⌜ Extends a p ⌝ }
     requires { ⌜ at + 29 ≤ length (now output) ⌝ }

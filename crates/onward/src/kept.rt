@@ -1,4 +1,4 @@
-// The destinations of a RREQ that are kept, written one after another.
+// Writes the kept destinations of a RREQ, one after another.
 use answering::Answering;
 use element::Target;
 use element::flags;
@@ -13,13 +13,14 @@ ghost use Rattle.element.specs.Entries.{targetOctets};
 ghost use Rattle.onward.specs.Kept.{keptAmong, keptIn, keptOctets, keptOf};
 ghost use Rattle.layout.specs.Layout.{Sized};
 
-// What becomes of a destination in the RREQ that goes on.
+// What becomes of a destination in the forwarded RREQ: it is kept in this form, or struck out.
 pub enum Kept {
     As(Target),
     Struck,
 }
 
-// The own address is struck out, and one that is answered for too unless RF = 1; then DO is set.
+// Returns what is kept of a destination. The own address is struck out. A destination that a row answers for is struck out
+// too, unless RF = 1. With RF = 1 it is kept, with DO set.
 fn kept_of(table: &[u8], clock: u64, q: Target) -> Kept
     requires { ⌜ Sized (now table) ⌝ }
     ensures { λ r. ⌜ keptIn r ≡ keptOf (now (table .entry)) clock q ⌝ }
@@ -39,7 +40,7 @@ fn kept_of(table: &[u8], clock: u64, q: Target) -> Kept
     Kept::As(flags::with_do(q))
 }
 
-// Answers the place after it.
+// Writes the destination if it is kept. Returns the place after what was written.
 fn write_if_kept(output: &mut [u8], at: usize, table: &[u8], clock: u64, q: Target) -> usize
     requires { ⌜ Sized (now table) ⌝ }
     requires { ⌜ at + 11 ≤ length (now output) ⌝ }
@@ -52,7 +53,7 @@ fn write_if_kept(output: &mut [u8], at: usize, table: &[u8], clock: u64, q: Targ
     }
 }
 
-// The destinations of part that are kept, from place at on; answers the place after them.
+// Writes the kept destinations of `part`, starting at place `at`. Returns the place after them.
 pub fn write_kept(output: &mut [u8], at: usize, table: &[u8], clock: u64, part: &[u8]) -> usize
     requires { ⌜ Sized (now table) ⌝ }
     requires { ⌜ at + length (now part) ≤ length (now output) ⌝ }

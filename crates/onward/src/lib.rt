@@ -1,4 +1,4 @@
-// What goes on of a received RANN, RREQ or RREP, and to whom. The table is that after steps 1 and 2.
+// Forwards a received RANN, RREQ or RREP. The table is the one after steps 1 and 2.
 pub mod announcement;
 mod kept;
 pub mod reply;
@@ -12,7 +12,7 @@ ghost use Prim.Native.Nat.{_≤_};
 ghost use Rattle.rules.specs.Learn.{Extends};
 ghost use Rattle.rules.specs.Onward.{onward};
 
-// The three changes: hop count + 1, TTL - 1, metric + link.
+// Returns the path with the three changes: hop count + 1, TTL - 1, metric + link.
 fn onward(a: Arrival, p: PathInfo) -> PathInfo
     requires { ⌜ Extends a p ⌝ }
     requires { ⌜ 1 ≤ p .ttl ⌝ }

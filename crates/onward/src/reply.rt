@@ -1,4 +1,4 @@
-// A RREP goes on towards its source, with its dependents unread.
+// Forwards a RREP towards its source, with its dependents unread.
 use calls::Emitted;
 use element::RrepFields;
 use layout::address::Address;
@@ -22,7 +22,7 @@ ghost use Rattle.onward.specs.Sent.{replyReceiver, rrepForward};
 ghost use Rattle.layout.specs.Layout.{Sized};
 ghost use Rattle.table.specs.Table.{hopIn};
 
-// To nobody if the source is this point.
+// Returns the active next hop of the source. Returns nobody if there is none, or if the source is this point.
 fn receiver_of(table: &[u8], clock: u64, source: Address) -> NextHop
     requires { ⌜ Sized (now table) ⌝ }
     ensures { λ r. ⌜ hopIn r ≡ replyReceiver (now (table .entry)) clock source ⌝ }
@@ -43,7 +43,7 @@ fn fields_onward(a: Arrival, f: RrepFields) -> RrepFields
     RrepFields { path, source }
 }
 
-// Writes a RREP from place at on, if there is a receiver.
+// Writes a RREP at place `at`, if there is a receiver.
 fn send_to(output: &mut [u8], at: usize, receiver: NextHop, f: RrepFields, part: &[u8]) -> Emitted
     requires { ⌜ PartOf Kind.Rrep (now part) ⌝ }
     requires { ⌜ at + 260 ≤ length (now output) ⌝ }
@@ -58,7 +58,7 @@ fn send_to(output: &mut [u8], at: usize, receiver: NextHop, f: RrepFields, part:
     Emitted::one_frame(end - at)
 }
 
-// Sends the RREP on from place at of the output.
+// Writes the forwarded RREP at place `at` of the output, if it has a receiver.
 pub fn send_on(
     output: &mut [u8],
     at: usize,

@@ -1,4 +1,4 @@
-// A RREQ goes on with the destinations that are kept.
+// Forwards a RREQ with its kept destinations.
 use crate::kept;
 use calls::Emitted;
 use element::PathInfo;
@@ -25,7 +25,7 @@ ghost use Rattle.onward.specs.Sent.{requestReceiver, requestSent, rreqFo
 ghost use Rattle.layout.specs.Layout.{Sized};
 ghost use Rattle.table.specs.Table.{hopIn};
 
-// All ones, or if unicast the active next hop of its destination.
+// Returns all ones, or for a unicast RREQ the active next hop of its destination.
 fn receiver_of(table: &[u8], clock: u64, p: PathInfo, part: &[u8]) -> NextHop
     requires { ⌜ Sized (now table) ⌝ }
     requires { ⌜ PartOf Kind.Rreq (now part) ⌝ }
@@ -47,8 +47,8 @@ fn fields_onward(a: Arrival, f: RreqFields) -> RreqFields
     RreqFields { request, path }
 }
 
-// The kept destinations from place at on, if there are any, as a RREQ. These are written first, since the start of a RREQ
-// has their count.
+// Writes a RREQ with the kept destinations at place `at`, if any destination is kept. The destinations are written before the
+// start of the RREQ, because that start has their count.
 fn send_kept(
     output: &mut [u8],
     at: usize,
@@ -75,7 +75,7 @@ fn send_kept(
     Emitted::one_frame(end - at)
 }
 
-// The same to the receiver of the RREQ, if there is one.
+// Writes the RREQ with the kept destinations to its receiver, if there is a receiver.
 fn send(
     output: &mut [u8],
     at: usize,
@@ -97,7 +97,7 @@ fn send(
     }
 }
 
-// From place at on, after the replies; if TTL is at least 2.
+// Writes the forwarded RREQ at place `at`, after the replies, if its TTL is at least 2.
 pub fn send_on(
     output: &mut [u8],
     at: usize,

@@ -1,2 +1,2 @@
--- The laws of announce and root request, of which an ask uses those of a request.
+-- Laws of announce and root request. An ask uses those of a request.
 pub mod Originated

@@ -1,4 +1,5 @@
--- What announce and root request leave, as their `return`s ask it; what a request leaves serves an ask too.
+-- Laws of the exits of announce and root request, as the proofs of their functions need them. An ask uses the laws of a
+-- request.
 use Prim.Native.Nat.{ℕ, _+_, _*_}
 use mathlib.Core.Path.{_≡_, refl, sym, ap, ap₂, _∙_}
 use mathlib.Core.Bool.{Bool, true, false, not}
@@ -50,7 +51,7 @@ announced-exit t output u v flags lifetime h₀ h e₀ he ue p pe ve octets size
     stepped : h ≡ numberedHead false (headAt t)
     stepped = he ∙ ap (numberedHead false) e₀
 
--- ---- a request: its start was written
+-- ---- a request after its start is written
 
 pub request-started : (s t : List ℕ) (h : Head) (flags lifetime n : ℕ) (p : PathInfo) → p ≡ ownPath h flags lifetime
     → t ≡ overwrite s 0 (frameStart allOnes Rreq n (rreqNumbers (record { request = h .request; path = p })))
@@ -58,14 +59,14 @@ pub request-started : (s t : List ℕ) (h : Head) (flags lifetime n : ℕ) (p : 
 request-started s t h flags lifetime n p pe te =
     te ∙ ap (λ (q : PathInfo). overwrite s 0 (frameStart allOnes Rreq n (rreqNumbers (record { request = h .request; path = q })))) pe
 
--- then its destinations
+-- Its destinations follow the start.
 pub request-finished : (w output v : List ℕ) (h : Head) (flags lifetime : ℕ) (targets : List Target) (n : ℕ) → n ≡ length targets
     → w ≡ overwrite output 0 (frameStart allOnes Rreq n (rreqNumbers (ownRequest h flags lifetime)))
     → (at : ℕ) → at ≡ 34 → v ≡ overwrite w at (flatMap targetOctets targets) → v ≡ overwrite output 0 (writeFrame allOnes (rreq (ownRequest h flags lifetime) targets))
 request-finished w output v h flags lifetime targets n ne we at ate ve =
     finished allOnes output w v 0 at (rreq (ownRequest h flags lifetime) targets) n ne we ate ve
 
--- and the head
+-- Its head is stored.
 module _ (t output u v : List ℕ) (flags lifetime : ℕ) (h₀ h : Head) (e₀ : h₀ ≡ headAt t) (he : h ≡ numberedHead true h₀) (ue : u ≡ putHead t h) where
   pub requested-exit : (targets : List Target) (n : ℕ) → n ≡ length targets
       → v ≡ overwrite output 0 (writeFrame allOnes (rreq (ownRequest h flags lifetime) targets)) → (octets : ℕ) → octets ≡ 34 + 11 * n
@@ -80,7 +81,7 @@ module _ (t output u v : List ℕ) (flags lifetime : ℕ) (h₀ h : Head) (e₀ 
       stepped : h ≡ numberedHead true (headAt t)
       stepped = he ∙ ap (numberedHead true) e₀
 
-  -- with one destination
+  -- A root request has one destination.
   pub root-exit : (w : List ℕ) → w ≡ overwrite output 0 (frameStart allOnes Rreq 1 (rreqNumbers (ownRequest h flags lifetime)))
       → (at : ℕ) → at ≡ 34 → (q : Target) → q ≡ allWithDOAndRF → v ≡ overwrite w at (targetOctets q) → (octets : ℕ) → octets ≡ at + 11
       → (em : Emitted) → em ≡ record { frames = 1; octets = octets }
@@ -92,7 +93,7 @@ module _ (t output u v : List ℕ) (flags lifetime : ℕ) (h₀ h : Head) (e₀ 
       (ve ∙ ap (λ (k : Target). overwrite w at (targetOctets k)) qe ∙ ap (overwrite w at) (sym (append-nil (targetOctets allWithDOAndRF)))))
       octets (omega (arith, size, ate))
 
--- ---- decided by the check
+-- ---- from the answer of the check
 
 module _ (t output : List ℕ) (flags lifetime : ℕ) (a : Answer) (ae : a ≡ answerTo (announcing (lend t) (length output) flags lifetime .checks)) where
   pub announce-refused : (n : ℕ) → a ≡ Refused n → exitOf (Outcome.Refused n) (lend t) output ≡ atExit (lend t) output (announce (lend t) (length output) flags lifetime)

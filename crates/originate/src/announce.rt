@@ -1,4 +1,4 @@
-// Announce: a RANN of one's own.
+// Announce: the point sends a RANN of its own.
 use crate::common;
 use calls::Answer;
 use calls::Emitted;
@@ -16,7 +16,7 @@ ghost use Rattle.rules.specs.Originate.{announced};
 ghost use Rattle.calls.specs.Answers.{exitOf};
 ghost use Rattle.layout.specs.Layout.{Sized};
 
-// The table and the frame of an announcement that is not refused.
+// Writes the table and the frame of an accepted announcement.
 fn send(table: &mut [u8], output: &mut [u8], flags: u8, lifetime: u32) -> Outcome
     requires { ⌜ Sized (now table) ⌝ }
     requires { ⌜ leastOutput ≤ length (now output) ⌝ }

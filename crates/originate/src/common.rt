@@ -1,5 +1,5 @@
-// What ask, announce and root request have in common: refusals, the numbering of a new element, and what a point says of
-// itself.
+// The checks of announce and root request, and what these two calls and ask have in common: the numbering of a new element,
+// and the path that a point states of itself.
 use calls::Answer;
 use counters::HopCount;
 use counters::Metric;
@@ -22,7 +22,8 @@ ghost use Rattle.element.specs.Octets.{frameStart};
 ghost use Rattle.rules.specs.Originate.{originating, ownPath, ownRequest, numberedHead};
 ghost use Rattle.calls.specs.Answers.{answerTo};
 
-// The refusals of announce and root request. They differ in the flags that are barred.
+// Checks an announcement or a root request. `barred` says whether the flags are barred, since the two calls bar different
+// flags.
 pub fn check(table: &[u8], output: &[u8], barred: bool, lifetime: u32) -> Answer
     ensures { λ r. ⌜ r ≡ answerTo
         (originating {A = Unit {0}} (now (table .entry)) (length (now (output .entry))) barred lifetime tt .checks) ⌝ }
@@ -45,7 +46,7 @@ pub fn check(table: &[u8], output: &[u8], barred: bool, lifetime: u32) -> Answer
     Answer::Accepted
 }
 
-// Numbers a new element, a RREQ or not: its numbers are those of the head that is answered.
+// Numbers a new element, which is a RREQ or not. The element has the counters of the head that is returned.
 pub fn number_head(head: Head, rreq: bool) -> Head
     ensures { λ r. ⌜ r ≡ numberedHead rreq head ⌝ }
 {
@@ -55,7 +56,7 @@ pub fn number_head(head: Head, rreq: bool) -> Head
     head.with(advanced.number, advanced.request, head.clock)
 }
 
-// What the point with this head says of itself.
+// Returns the path that the point with this head states of itself.
 pub fn own_path(head: Head, flags: u8, lifetime: u32) -> PathInfo
     ensures { λ r. ⌜ r ≡ ownPath head flags lifetime ⌝ }
 {
@@ -72,7 +73,7 @@ pub fn own_path(head: Head, flags: u8, lifetime: u32) -> PathInfo
     }
 }
 
-// A RREQ of the point with this head, up to its list of n destinations; answers the place of that list.
+// Writes a RREQ of the point with this head, up to its list of n destinations. Returns the place of that list.
 pub fn start_request(output: &mut [u8], head: Head, flags: u8, lifetime: u32, n: usize) -> usize
     requires { ⌜ 1 ≤ n ⌝ }
     requires { ⌜ n ≤ 20 ⌝ }

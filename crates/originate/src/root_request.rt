@@ -1,4 +1,4 @@
-// Root request: a RREQ of one's own for all ones.
+// Root request: the point sends a RREQ of its own for all ones.
 use crate::common;
 use calls::Answer;
 use calls::Emitted;
@@ -19,14 +19,15 @@ ghost use Rattle.rules.specs.Originate.{allWithDOAndRF, isRootFlags, requested}
 ghost use Rattle.calls.specs.Answers.{exitOf};
 ghost use Rattle.layout.specs.Layout.{Sized};
 
-// Portal and reply wanted may be set, unicast and the reserved bits may not.
+// Reports whether a root request may have the flags. Portal and reply wanted may be set. Unicast and the reserved bits may not
+// be set.
 fn is_root_flags(flags: u8) -> bool
     ensures { λ r. ⌜ r ≡ isRootFlags flags ⌝ }
 {
     (flags == 0) | (flags == 1) | (flags == 4) | (flags == 5)
 }
 
-// The one destination of a root request: all ones, with DO and RF set and number 0.
+// Returns the only destination of a root request: all ones, with DO and RF set and number 0.
 fn all_with_do_and_rf() -> Target
     ensures { λ r. ⌜ r ≡ allWithDOAndRF ⌝ }
 {
@@ -37,7 +38,7 @@ fn all_with_do_and_rf() -> Target
     }
 }
 
-// The table and the frame of a root request that is not refused.
+// Writes the table and the frame of an accepted root request.
 fn send(table: &mut [u8], output: &mut [u8], flags: u8, lifetime: u32) -> Outcome
     requires { ⌜ Sized (now table) ⌝ }
     requires { ⌜ leastOutput ≤ length (now output) ⌝ }

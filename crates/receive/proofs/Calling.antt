@@ -1,4 +1,4 @@
--- Receive by its first checks, by what is read, and by type, as the code asks it.
+-- Laws of receive, as the proofs of its functions need them: by its first checks, by what is read, and by type.
 use Prim.Native.Nat.{ℕ, _≤_}
 use mathlib.Core.Path.{_≡_, refl, sym, ap, _∙_}
 use mathlib.Core.Bool.{Bool, true, false, cond, false≢true}

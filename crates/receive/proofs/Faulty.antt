@@ -1,4 +1,4 @@
--- What is wrong with a RREQ's destinations, as the code asks it.
+-- Laws of the faults in the destinations of a RREQ, as the proofs of the functions need them.
 use Prim.Native.Nat.{ℕ}
 use mathlib.Core.Path.{_≡_, sym, ap, ap₂, _∙_}
 use mathlib.Core.Bool.{Bool, true, false, not, _&&_, _||_}
@@ -17,7 +17,7 @@ use Rattle.element.proofs.Scans.{addresses-many, target-addresses}
 use Rattle.element.specs.Flags.{unicast}
 use Rattle.rules.specs.Receive.{hasBadAddress, hasBadList, severalOrAll}
 
--- a unicast RREQ alone is looked through
+-- Only the list of a unicast RREQ is searched.
 module _ (p : PathInfo) (u : Bool) (ue : u ≡ unicast p) where
   pub not-unicast : not u ≡ true → (s : Bool) → false ≡ (unicast p && s)
   not-unicast e s = ap (λ (b : Bool). b && s) (sym (not-true u e) ∙ ue)
@@ -44,7 +44,7 @@ module _ (part : List ℕ) where
     unfolding hasBadList listFaults
     bad-list = ap listFaults (sym (target-addresses part))
 
-    -- the first fault decides
+    -- The first fault decides.
     module _ (a : Bool) (ae : a ≡ hasDuplicate (addressesIn Targets part)) where
       pub named-duplicate : a ≡ true → true ≡ hasBadList (rreq f (targetsIn part))
       unfolding listFaults

@@ -1,4 +1,4 @@
--- An element that was read: the parts of its checks together, and what its answer says.
+-- Laws of an element that was read: the parts of its checks together, and what follows from its answer.
 use Prim.Native.Nat.{ℕ, _+_, _/_, _<_, _≤_}
 use mathlib.Core.Path.{_≡_, refl, sym, ap, _∙_}
 use mathlib.Core.Bool.{Bool, true, false, _&&_, _||_}
@@ -38,15 +38,15 @@ use Rattle.learn.specs.Learnt.{learntIf}
 use Rattle.receive.specs.Checks.{faultsOf, pathStateChecks}
 use Rattle.receive.proofs.Learnt.{nothing-learnt}
 
--- ---- the parts are the checks of an element
+-- ---- the parts together are the checks of an element
 
--- with a path: those of its fields, then those of the state
+-- An element with a path has the checks of its fields, and then those of the state.
 module _ (x : Faults) (a : Arrival) (p : PathInfo) (b : Answer)
     (be : b ≡ answerTo (fieldChecks (x .address) (x .list) (x .ttl) a (some p))) where
   abbrev ofFields : List Check
   ofFields = fieldChecks (x .address) (x .list) (x .ttl) a (some p)
 
-  -- nothing of a path is skipped, and 26 is
+  -- All checks of the path apply, and 26 is skipped.
   module _ (t : List ℕ) (e : Element) (pe : pathOf e ≡ some p) (unmatched : matchesNothing t a e ≡ false) (xe : x ≡ faultsOf e) where
     together : answerTo (ofFields ++ pathStateChecks t a p) ≡ answerTo (judging (lend t) a e .checks)
     unfolding judging faultsOf
@@ -64,7 +64,7 @@ module _ (x : Faults) (a : Arrival) (p : PathInfo) (b : Answer)
         → s ≡ answerTo (judging (lend t) a e .checks)
     fields-passed ok r re s is = sym is ∙ passed-on ok r re
 
-  -- what a path may be counted on for, once its fields are checked
+  -- Once its fields are checked, a path can be one link longer.
   module _ (ok : b ≡ Accepted) where
     good-fields : Passed ofFields
     good-fields = answer-passed ofFields (sym ok ∙ be)
@@ -75,12 +75,12 @@ module _ (x : Faults) (a : Arrival) (p : PathInfo) (b : Answer)
         let other = eqb-false (p .hops .0) maxHops (passed-check 12 ofFields good-fields) in
         record { metric = ltb-false maxMetric (metricHere a p .0) (passed-check 13 ofFields good-fields); hops = omega (arith, l, other) }
 
--- a RREP's dependents play no part
+-- The dependents of a RREP play no part in its faults.
 pub dependents-aside : (f : RrepFields) (x : Faults) → x ≡ faultsOf (rrep f []) → (dependents : List NumberedAddress) → x ≡ faultsOf (rrep f dependents)
 unfolding faultsOf hasBadAddress hasBadList isLowTtlReply
 dependents-aside f x e dependents = e
 
--- of a RERR: the tests of its list
+-- The tests of the list of a RERR are those of its list part.
 module _ (f : RerrFields) (part : List ℕ) (b v : Bool) where
   pub error-address : b ≡ anyForbidden LostDestinations (addressesIn LostDestinations part) → b ≡ v → hasBadAddress (rerr f (lostIn part)) ≡ v
   unfolding hasBadAddress
@@ -90,14 +90,14 @@ module _ (f : RerrFields) (part : List ℕ) (b v : Bool) where
   unfolding hasBadList
   error-list be bv = rw (lost-addresses part) (sym be ∙ bv)
 
--- ---- what the answer says
+-- ---- what follows from the answer
 
 none-applied : (t : List ℕ) (a : Arrival) (e : Element) (r : Answer) → r ≡ answerTo (judging (lend t) a e .checks) → r ≡ Accepted → Passed (judging (lend t) a e .checks)
 none-applied t a e r re ok = answer-passed (judging (lend t) a e .checks) (sym ok ∙ re)
 
--- an element with the path p
+-- The element has the path p.
 module _ (t : List ℕ) (a : Arrival) (e : Element) (p : PathInfo) (r : Answer) (re : r ≡ answerTo (judging (lend t) a e .checks)) where
-  -- a refusal learns nothing
+  -- A refusal learns nothing.
   pub path-refused : (u : List ℕ) → u ≡ learntIf r a p t → (output : List ℕ) (n : ℕ) → r ≡ Refused n
       → exitOf (Outcome.Refused n) (lend u) output ≡ atExit (lend t) output (decide (judging (lend t) a e))
   path-refused u ue output n q =
@@ -109,7 +109,7 @@ module _ (t : List ℕ) (a : Arrival) (e : Element) (p : PathInfo) (r : Answer) 
     path-passed = none-applied t a e r re ok
 
     module _ (pe : pathOf e ≡ some p) where
-      -- a test of the path that did not apply
+      -- A test that does not apply to the element does not hold for its path.
       of-path : (test : PathInfo → Bool) → isSomeAnd test (pathOf e) ≡ false → test p ≡ false
       of-path test passes = ap (isSomeAnd test) (sym pe) ∙ passes
 
@@ -123,7 +123,7 @@ module _ (t : List ℕ) (a : Arrival) (e : Element) (p : PathInfo) (r : Answer) 
             hops = omega (arith, l, other);
           }
 
--- a RREP has TTL left, a unicast RREQ has one destination
+-- An accepted RREP has TTL left, and an accepted unicast RREQ has one destination.
 module _ (t : List ℕ) (a : Arrival) (r : Answer) (ok : r ≡ Accepted) where
   pub ttl-left : (f : RrepFields) (part : List ℕ) → r ≡ answerTo (judging (lend t) a (rrep f (numberedIn part)) .checks) → 1 ≤ f .path .ttl
   unfolding listed isLowTtlReply

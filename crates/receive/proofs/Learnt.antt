@@ -1,4 +1,4 @@
--- The checks of a path's rows with what is learnt where they accept.
+-- Laws of what a point learns if the checks of the rows accept.
 use Prim.Native.Nat.{ℕ}
 use mathlib.Core.Path.{_≡_, refl, ap, _∙_}
 use mathlib.Core.List.{List}
@@ -14,7 +14,7 @@ use Rattle.calls.specs.declared.Answer.{Answer}
 use Rattle.calls.specs.declared.Answer.the-variants.{Accepted, Refused}
 use Rattle.learn.specs.Learnt.{learntIf}
 
--- what is learnt leaves the head
+-- Learning leaves the head as it was.
 module _ (a : Arrival) where
   subject-head : (p : PathInfo) (t : List ℕ) → headAt (subjectLearnt a p t) ≡ headAt t
   unfolding subjectLearnt
@@ -31,7 +31,7 @@ module _ (a : Arrival) where
       cond-cases (λ (u : List ℕ). headAt u ≡ headAt t) (same (a .transmitter) (p .subject)) (λ _. subject-head p t)
       (λ _. transmitter-head (p .lifetime) (subjectLearnt a p t) ∙ subject-head p t)
 
--- as an answer that is known says
+-- A refusal learns nothing, and an acceptance does steps 1 and 2.
 module _ (a : Arrival) (p : PathInfo) (t u : List ℕ) (r : Answer) (ue : u ≡ learntIf r a p t) where
   pub nothing-learnt : (n : ℕ) → r ≡ Refused n → u ≡ t
   nothing-learnt n e = ue ∙ ap (λ (k : Answer). learntIf k a p t) e

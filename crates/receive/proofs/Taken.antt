@@ -1,4 +1,4 @@
--- What an accepted element leaves, type by type, as the code asks it.
+-- Laws of the exit of an accepted element, type by type, as the proofs of the functions need them.
 use Prim.Native.Nat.{ℕ, _+_, _-_, _*_, _/_, _≤_}
 use mathlib.Core.Path.{_≡_, sym, ap, ap₂, _∙_}
 use mathlib.Core.List.{List, [], _∷_, _++_}
@@ -99,7 +99,7 @@ module _ (t output : List ℕ) (a : Arrival) (h : Head) (he : h ≡ headAt t) wh
       (ve ∙ ap₂ (λ (x : List ℕ) (n : SequenceNumber). overwrite output 0 (frameOctets (framesAfter x a f (done x n)))) ue own-number)
       (ap (λ (k : Sent). k .emitted) so)
 
--- ---- as a RANN, a RREP and a RREQ are received: by their checks, which learn where they accept
+-- ---- a RANN, a RREP and a RREQ from the answer of their checks, which learn if they accept
 
 module _ (t output : List ℕ) (a : Arrival) (e : Element) (p : PathInfo) (r : Answer)
     (re : r ≡ answerTo (judging (lend t) a e .checks)) (ok : r ≡ Accepted) (u : List ℕ) (ue : u ≡ learntIf r a p t) where
@@ -145,7 +145,7 @@ rreq-received t output a f part r re ok u ue h he s se v ve w we =
     judged-so t output a (rreq f (targetsIn part)) (f .path) r re ok u ue _
     (rreq-exit t output a h (same-head t output a (rreq f (targetsIn part)) (f .path) r re ok u ue h he) f part u got s se v ve w we)
 
--- the replies, and after them what goes on
+-- The frames are the replies, and after them the forwarded RREQ.
 module _ (u : List ℕ) (a : Arrival) (f : RreqFields) (n : SequenceNumber) (part : List ℕ) (at : ℕ) (replied : Replied)
     (re : replied ≡ repliedFrom at (allAnswered u a (f .path) n (targetsIn part))) where
   abbrev x : Answered
@@ -183,7 +183,7 @@ module _ (u : List ℕ) (a : Arrival) (f : RreqFields) (n : SequenceNumber) (par
   replies-room l out₀ out room same-length = omega (arith, replies-short l)
 
   module _ (onward : Emitted) (oe : onward ≡ emitted (rreqOnward u a f kept)) where
-    -- a RREQ with so many destinations is at most so long
+    -- States that a frame is no longer than a RREQ with all destinations of `part`.
     abbrev Short : Frame → Type 0
     Short f = lengthWith (kindOf (f .element)) (countOf (f .element)) ≤ 26 + 11 * (length part / 11)
 

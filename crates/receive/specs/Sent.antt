@@ -1,4 +1,5 @@
--- What a RREQ is answered with, while it is written. For the code's own functions: the frames are those of `rreqReceived`.
+-- What the point sends for a RREQ, while the code writes it. Only contracts of the code use the definitions of this file. The
+-- frames are those of `rreqReceived`.
 use Prim.Native.Nat.{ℕ, _+_, _-_}
 use mathlib.Core.List.{List, _++_}
 use Rattle.element.specs.declared.RreqFields.{RreqFields}
@@ -11,7 +12,7 @@ use Rattle.calls.specs.Answers.{emitted}
 use Rattle.destinations.specs.declared.replies.Replied.{Replied}
 use Rattle.receive.specs.declared.request.Sent.{Sent}
 
--- Returns what is sent in all: the replies, which stand from place at on, and what goes on after them.
+-- Returns all that is sent: the replies, which start at place `at`, and the RREQ that is forwarded after them.
 abbrev pub together : ℕ → Replied → Emitted → Sent
 together at replied onward =
     record {
@@ -19,7 +20,7 @@ together at replied onward =
       emitted = record { frames = replied .frames + onward .frames; octets = replied .place - at + onward .octets };
     }
 
--- the replies, and after them the RREQ with the destinations that are kept
+-- Returns the replies, and after them the RREQ with the kept destinations.
 unfoldable pub framesAfter : List ℕ → Arrival → RreqFields → Answered → List Frame
 framesAfter t a f x = x .replies ++ rreqOnward t a f (x .kept)
 

@@ -1,4 +1,4 @@
-// A received RANN.
+// Receives a RANN.
 use crate::faults;
 use crate::path;
 use calls::Answer;
@@ -20,8 +20,8 @@ ghost use Rattle.calls.specs.Answers.{answerTo, exitOf};
 ghost use Rattle.learn.specs.Learnt.{learntIf};
 ghost use Rattle.layout.specs.Layout.{Sized};
 
-// Refuses it, or does steps 1 and 2. Takes the second answer apart too: a refusal then takes fewer instructions than if that
-// answer were handed on.
+// Refuses the RANN, or does steps 1 and 2. The answer of `path::learn` is taken apart and built again, because a refusal then
+// takes fewer instructions than with that answer handed on.
 fn check_and_learn(table: &mut [u8], a: Arrival, p: PathInfo) -> Answer
     requires { ⌜ Sized (now table) ⌝ }
     requires { ⌜ a .clock ≤ maxClock ⌝ }
@@ -37,7 +37,7 @@ fn check_and_learn(table: &mut [u8], a: Arrival, p: PathInfo) -> Answer
     Answer::Accepted
 }
 
-// Refuses it, or does steps 1 and 2, sends it on and stores the clock.
+// Refuses the RANN, or does steps 1 and 2, forwards it and stores the clock.
 pub fn receive(table: &mut [u8], output: &mut [u8], a: Arrival, p: PathInfo) -> Outcome
     requires { ⌜ Sized (now table) ⌝ }
     requires { ⌜ leastOutput ≤ length (now output) ⌝ }

@@ -1,4 +1,4 @@
-// A received RERR.
+// Receives a RERR.
 use calls::Answer;
 use calls::Emitted;
 use calls::Outcome;
@@ -25,7 +25,7 @@ ghost use Rattle.calls.specs.Answers.{answerTo, exitOf};
 ghost use Rattle.receive.specs.Checks.{errorStateChecks};
 ghost use Rattle.layout.specs.Layout.{Sized};
 
-// By the state: 21 to 23, and 26.
+// Checks the state: refusals 21 to 23 and 26.
 fn check_state(table: &[u8], a: Arrival, part: &[u8]) -> Answer
     requires { ⌜ Sized (now table) ⌝ }
     ensures { λ r. ⌜ r ≡ answerTo (errorStateChecks (now (table .entry)) a (now (part .entry))) ⌝ }
@@ -39,7 +39,8 @@ fn check_state(table: &[u8], a: Arrival, part: &[u8]) -> Answer
     Answer::Accepted
 }
 
-// By its destinations, 9 and 10, and then by the state. The fields play no part; the contract names the element.
+// Checks the destinations, refusals 9 and 10, and then the state. This function does not read the fields f, but its contract
+// names the whole element.
 fn check(table: &[u8], a: Arrival, f: RerrFields, part: &[u8]) -> Answer
     requires { ⌜ Sized (now table) ⌝ }
     ensures { λ r. ⌜ r ≡ answerTo (judging (lend (now (table .entry))) a (rerr f (lostIn (now (part .entry)))) .checks) ⌝ }
@@ -53,7 +54,7 @@ fn check(table: &[u8], a: Arrival, f: RerrFields, part: &[u8]) -> Answer
     check_state(table, a, part)
 }
 
-// It goes on with its matches, and these are lost.
+// Forwards the RERR with its matches, invalidates the rows of the matches and stores the clock.
 fn take(table: &mut [u8], output: &mut [u8], a: Arrival, f: RerrFields, part: &[u8]) -> Outcome
     requires { ⌜ Sized (now table) ⌝ }
     requires { ⌜ leastOutput ≤ length (now output) ⌝ }

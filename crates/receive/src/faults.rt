@@ -1,4 +1,4 @@
-// The refusals of an element with a path whose test depends on its type: 9, 10 and 14.
+// Refusals 9, 10 and 14 for an element with a path. Their tests depend on the type of the element.
 use element::PathInfo;
 use element::RrepFields;
 use element::RreqFields;
@@ -17,7 +17,8 @@ ghost use Rattle.element.specs.Flags.{unicast};
 ghost use Rattle.rules.specs.Receive.{hasBadAddress, hasBadList, severalOrAll};
 ghost use Rattle.receive.specs.Checks.{faultsOf};
 
-// In its addresses (9), in its list or in how they go together (10), in its TTL (14).
+// Holds whether the element is at fault in its addresses (9), in its list or in how its addresses go together (10), and in its
+// TTL (14).
 pub struct Faults {
     pub address: bool,
     pub list: bool,
@@ -35,7 +36,7 @@ pub fn of_rann(p: PathInfo) -> Faults
     }
 }
 
-// An originator or a destination that isn't individual; as a destination all ones is allowed too.
+// Reports whether the originator or a destination isn't individual. As a destination all ones is allowed too.
 fn rreq_has_bad_address(f: RreqFields, part: &[u8]) -> bool
     ensures { λ r. ⌜ r ≡ hasBadAddress (rreq f (targetsIn (now (part .entry)))) ⌝ }
 {
@@ -43,7 +44,7 @@ fn rreq_has_bad_address(f: RreqFields, part: &[u8]) -> bool
     !subject.is_individual() | list::has_forbidden(part, ListKind::Targets)
 }
 
-// Several destinations or all ones.
+// Reports whether there are several destinations or all ones.
 fn is_several_or_all(part: &[u8]) -> bool
     ensures { λ r. ⌜ r ≡ severalOrAll (addressesIn ListKind.Targets (now (part .entry))) ⌝ }
 {
@@ -51,7 +52,8 @@ fn is_several_or_all(part: &[u8]) -> bool
         | list::contains(part, ListKind::Targets, Address(list::ALL_ONES))
 }
 
-// A unicast RREQ with several or all ones. Most RREQs are not unicast, and their list is not looked through for it.
+// Reports whether the RREQ is unicast with several destinations or all ones. Most RREQs are not unicast, and this function
+// does not search their lists.
 fn is_unicast_to_several(p: PathInfo, part: &[u8]) -> bool
     ensures { λ r. ⌜ r ≡ (unicast p && severalOrAll (addressesIn ListKind.Targets (now (part .entry)))) ⌝ }
 {
@@ -61,7 +63,8 @@ fn is_unicast_to_several(p: PathInfo, part: &[u8]) -> bool
     is_several_or_all(part)
 }
 
-// A destination twice; all ones beside others; the originator among them; a unicast RREQ with several or all ones.
+// Reports whether the list has a fault: a destination twice; all ones with others; the originator among the destinations; a
+// unicast RREQ with several destinations or all ones.
 fn rreq_has_bad_list(f: RreqFields, part: &[u8]) -> bool
     ensures { λ r. ⌜ r ≡ hasBadList (rreq f (targetsIn (now (part .entry)))) ⌝ }
 {
@@ -87,7 +90,7 @@ pub fn of_rreq(f: RreqFields, part: &[u8]) -> Faults
     }
 }
 
-// Dependents are not looked at.
+// Does not read the dependents.
 pub fn of_rrep(f: RrepFields) -> Faults
     ensures { λ r. ⌜ r ≡ faultsOf (rrep f []) ⌝ }
 {

@@ -1,4 +1,4 @@
-// Receive an element: its refusals in order, and what each type does.
+// Receives an element: its refusals in order, and what each type does.
 mod announcement;
 mod error;
 mod faults;
@@ -22,7 +22,7 @@ ghost use Rattle.rules.specs.Receive.{arrivalChecks, readingOctets};
 ghost use Rattle.calls.specs.Answers.{answerTo, exitOf};
 ghost use Rattle.layout.specs.Layout.{Sized};
 
-// The refusals 1 to 5.
+// Checks refusals 1 to 5.
 fn check_arrival(table: &[u8], output: &[u8], a: Arrival) -> Answer
     ensures { λ r. ⌜ r ≡ answerTo (arrivalChecks (now (table .entry)) (length (now (output .entry))) a) ⌝ }
 {
@@ -35,7 +35,7 @@ fn check_arrival(table: &[u8], output: &[u8], a: Arrival) -> Answer
     Answer::Accepted
 }
 
-// By type, after the refusals 1 to 5.
+// Reads the element and receives it by its type. The caller must check refusals 1 to 5 first.
 fn receive_element(table: &mut [u8], output: &mut [u8], a: Arrival, element: &[u8]) -> Outcome
     requires { ⌜ Sized (now table) ⌝ }
     requires { ⌜ leastOutput ≤ length (now output) ⌝ }

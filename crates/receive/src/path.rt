@@ -1,4 +1,4 @@
-// The refusals of an element with a path: a RANN, a RREQ or a RREP.
+// The checks of an element with a path: a RANN, a RREQ or a RREP.
 use crate::faults::Faults;
 use calls::Answer;
 use calls::clocked;
@@ -16,14 +16,14 @@ ghost use Rattle.learn.specs.Learnt.{learntIf};
 ghost use Rattle.receive.specs.Checks.{pathStateChecks};
 ghost use Rattle.layout.specs.Layout.{Sized};
 
-// Received metric + link metric above 4,294,967,294.
+// Reports whether received metric + link metric is above 4,294,967,294.
 fn is_too_far(a: Arrival, p: PathInfo) -> bool
     ensures { λ r. ⌜ r ≡ ltb maxMetric (metricHere a p .0) ⌝ }
 {
     4294967294 < p.metric.0 as u64 + a.link.0 as u64
 }
 
-// By the element alone: 9 to 14.
+// Checks the element alone: refusals 9 to 14.
 pub fn check_fields(a: Arrival, p: PathInfo, faults: Faults) -> Answer
     ensures { λ r. ⌜ r ≡ answerTo (fieldChecks (faults .address) (faults .list) (faults .ttl) a (some p)) ⌝ }
 {
@@ -48,7 +48,8 @@ pub fn check_fields(a: Arrival, p: PathInfo, faults: Faults) -> Answer
     Answer::Accepted
 }
 
-// Refuses by the state, 21 to 25 and 27, or does steps 1 and 2. Learns in here, and so hands no place of the subject back.
+// Checks the state, refusals 21 to 25 and 27, and does steps 1 and 2 if none applies. Because the point learns in here, the
+// place of the subject's row need not be handed back.
 pub fn learn(table: &mut [u8], a: Arrival, p: PathInfo) -> Answer
     requires { ⌜ Sized (now table) ⌝ }
     requires { ⌜ a .clock ≤ maxClock ⌝ }

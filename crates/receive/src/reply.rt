@@ -1,4 +1,4 @@
-// A received RREP.
+// Receives a RREP.
 use crate::faults;
 use crate::path;
 use calls::Answer;
@@ -23,7 +23,8 @@ ghost use Rattle.calls.specs.Answers.{answerTo, exitOf};
 ghost use Rattle.learn.specs.Learnt.{learntIf};
 ghost use Rattle.layout.specs.Layout.{Sized};
 
-// Refuses it, or does steps 1 and 2. Dependents play no part; the contract names the element.
+// Refuses the RREP, or does steps 1 and 2. This function does not read the dependents in `part`, but its contract names the
+// whole element.
 fn check_and_learn(table: &mut [u8], a: Arrival, f: RrepFields, part: &[u8]) -> Answer
     requires { ⌜ Sized (now table) ⌝ }
     requires { ⌜ a .clock ≤ maxClock ⌝ }
@@ -36,7 +37,7 @@ fn check_and_learn(table: &mut [u8], a: Arrival, f: RrepFields, part: &[u8]) -> 
     path::learn(table, a, f.path)
 }
 
-// Refuses it, or does steps 1 and 2, sends it on and stores the clock.
+// Refuses the RREP, or does steps 1 and 2, forwards it and stores the clock.
 pub fn receive(
     table: &mut [u8],
     output: &mut [u8],

@@ -1,4 +1,4 @@
-// A received RREQ.
+// Receives a RREQ.
 use crate::faults;
 use crate::path;
 use calls::Answer;
@@ -33,13 +33,13 @@ ghost use Rattle.onward.specs.Sent.{unicastToSeveral};
 ghost use Rattle.receive.specs.Sent.{framesAfter, sentFor, together};
 ghost use Rattle.layout.specs.Layout.{Sized};
 
-// What a RREQ was answered with: the own number after it, and what was written.
+// Holds the own number after a RREQ was answered, and what was written.
 pub struct Sent {
     pub number: SequenceNumber,
     pub emitted: Emitted,
 }
 
-// Refuses it, or does steps 1 and 2.
+// Refuses the RREQ, or does steps 1 and 2.
 fn check_and_learn(table: &mut [u8], a: Arrival, f: RreqFields, part: &[u8]) -> Answer
     requires { ⌜ Sized (now table) ⌝ }
     requires { ⌜ a .clock ≤ maxClock ⌝ }
@@ -52,7 +52,7 @@ fn check_and_learn(table: &mut [u8], a: Arrival, f: RreqFields, part: &[u8]) -> 
     path::learn(table, a, f.path)
 }
 
-// Counts the replies, which stand from place at on, together with what goes on after them.
+// Adds up the replies, which start at place `at`, and the RREQ that is forwarded after them.
 fn in_all(at: usize, replied: Replied, onward: Emitted) -> Sent
     requires { ⌜ replied .frames ≤ 20 ⌝ }
     requires { ⌜ at ≤ replied .place ⌝ }
@@ -69,7 +69,7 @@ fn in_all(at: usize, replied: Replied, onward: Emitted) -> Sent
     Sent { number, emitted }
 }
 
-// Writes the replies to its destinations from place at on, and after them the RREQ with those that are kept.
+// Writes the replies to the destinations, starting at place `at`, and after them the RREQ with the kept destinations.
 fn answer(
     output: &mut [u8],
     at: usize,
@@ -96,7 +96,7 @@ fn answer(
     in_all(at, replied, onward)
 }
 
-// Refuses it, or does steps 1 and 2, writes the replies, sends it on and stores the clock.
+// Refuses the RREQ, or does steps 1 and 2, writes the replies, forwards the RREQ and stores the own number and the clock.
 pub fn receive(
     table: &mut [u8],
     output: &mut [u8],

@@ -1,5 +1,6 @@
-// A table of four rows: filled, two rows apart made free again, these taken by one announcement that needs two, and a further
-// one refused with 27. The bench cannot show this: its 16 points are too few for their 16 rows, and it has no command to forget.
+// Fills a table of four rows, and frees two rows that are apart. One announcement that needs two rows takes both, and a
+// further announcement is refused with 27. The bench cannot show a full table: a point there has 16 rows but at most 15 other
+// points, and the bench has no command to forget.
 use calls::LEAST_OUTPUT;
 use calls::Outcome;
 use counters::Metric;
@@ -15,12 +16,12 @@ ghost use mathlib.Core.Path.{_≡_};
 ghost use Prim.Native.Nat.{_<_};
 ghost use lib.ListN.{length};
 
-// The address 2,0,0,0,0,i.
+// Returns the address 2,0,0,0,0,i.
 fn point(i: u8) -> Address {
     address::read(&[2, 0, 0, 0, 0, i])
 }
 
-// The RANN of point i: TTL 31, number 1, lifetime 1000, metric 0.
+// Returns the RANN of point i: TTL 31, number 1, lifetime 1000, metric 0.
 fn announcement(i: u8) -> [u8; 23] {
     [
         126,
@@ -55,7 +56,7 @@ fn print_answer(call: &[u8], answer: u32) {
     io::write_all(STDOUT_FILENO, b"\n");
 }
 
-// The announcement of one point, received from another or from itself.
+// Receives the announcement of the originator from the transmitter, and prints the answer.
 fn hear(table: &mut [u8], originator: u8, transmitter: u8) {
     let mut output = [0u8; LEAST_OUTPUT];
     let arrival = Arrival {
@@ -76,7 +77,7 @@ fn forget_point(table: &mut [u8], i: u8) {
     );
 }
 
-// The last octet of the destination in row i: 0 where the row is free.
+// Prints the last octet of the destination in row i: 0 if the row is free.
 fn print_row(table: &[u8], i: usize)
     requires { ⌜ length (now table) ≡ 160 ⌝ }
     requires { ⌜ i < 4 ⌝ }
@@ -113,7 +114,7 @@ fn fill(table: &mut [u8])
     print_rows(table);
 }
 
-// Rows 1 and 3.
+// Frees rows 1 and 3.
 fn free_two(table: &mut [u8])
     requires { ⌜ length (now table) ≡ 160 ⌝ }
 {
@@ -122,7 +123,8 @@ fn free_two(table: &mut [u8])
     print_rows(table);
 }
 
-// The originator takes row 1 and the transmitter row 3; then there is no free row.
+// Receives an announcement whose originator takes row 1 and whose transmitter takes row 3. Then no row is free, and the next
+// announcement is refused.
 fn take_two(table: &mut [u8])
     requires { ⌜ length (now table) ≡ 160 ⌝ }
 {

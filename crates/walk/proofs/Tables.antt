@@ -1,5 +1,4 @@
--- The tables side by side by their octets: where each lies, that it is as long as the others, and what the checks find of
--- them all.
+-- Laws of the tables side by side by their octets: where each table lies, that all have one length, and what the checks find.
 use Prim.Native.Nat.{ℕ, _+_, _-_, _*_, _/_, _%_, _<_, _≤_}
 use mathlib.Core.Path.{_≡_, refl, sym, ap, _∙_}
 use mathlib.Core.Bool.{Bool, true, false, not, _&&_, _||_}
@@ -50,7 +49,7 @@ module _ (s : List ℕ) (long count : ℕ) (p : Pieces s long count) (i : ℕ) (
   pub piece-address : (t : List ℕ) → t ≡ tableAt s long i → 6 ≤ length t
   piece-address t e = omega (arith, piece-sized t e .with-head)
 
--- ---- 1 to 16 of one length
+-- ---- 1 to 16 tables of one length
 
 module _ (s : List ℕ) (count : ℕ) where
   pub first-within : lengthOfEach s count * 0 + lengthOfEach s count ≤ length s
@@ -97,7 +96,7 @@ pieces-there s count b be yes-b =
 pub divisible : (s : List ℕ) (count : ℕ) (b : Bool) → b ≡ sideBySide s count → not b ≡ false → 0 < count
 divisible s count b be yes-b = pieces-there s count b be yes-b .some-piece
 
--- the test of check 10, by those of the code
+-- The test of refusal 10 has the result of the code's test.
 pub ten-tested : (a b c d : Bool) → a ≡ b → c ≡ d → (v : Bool) → (not a || c) ≡ v → (not b || d) ≡ v
 ten-tested a b c d e f v h = rw (← e, ← f) h
 
@@ -107,7 +106,7 @@ module _ (s : List ℕ) (long i : ℕ) where
   pub point-read : (t : List ℕ) → t ≡ tableAt s long i → (n : ℕ) → n ≡ numberAt 6 t 0 → record { 0 = n } ≡ pointAt s long i
   point-read t te n ne = rw (ne, te)
 
--- the points of the pieces are read from the pieces one by one
+-- The points are read from the pieces one by one.
 module _ (s : List ℕ) (long n : ℕ) where
   points-each : points (pieces s long n) ≡ each (pointAt s long) 0 (n - 0)
   points-each = map-each addressOf (tableAt s long) 0 n ∙ ap (each (pointAt s long) 0) (sym (sub-zero n))

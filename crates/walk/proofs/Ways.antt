@@ -1,4 +1,4 @@
--- Where rows lead, and the way along them.
+-- Laws of where rows lead, and of the way along them.
 use Prim.Native.Nat.{ℕ, zero, suc, _+_, _-_, _/_, _<_, _≤_}
 use mathlib.Core.Path.{_≡_, refl, sym, ap, _∙_}
 use mathlib.Core.Bool.{Bool, true, false, not, _||_, cond, or-true}
@@ -31,7 +31,7 @@ use Rattle.walk.specs.OnTheWay.{stoppedAt, resumed}
 use Rattle.walk.specs.Pieces.{Pieces, pieces, pointAt}
 use Rattle.walk.proofs.Tables.{pieces-there}
 
--- ---- the row of a point, sought from the first point on: g is the row that the whole list has
+-- ---- the row of a point, sought from the first point on; g is the row in the whole list
 
 module _ (s : List ℕ) (long n : ℕ) (a d : Address) where
   abbrev rowFrom : ℕ → Option Row
@@ -59,7 +59,7 @@ module _ (s : List ℕ) (long n : ℕ) (a d : Address) where
     unfolding activeNext rowOfPoint
     row-ended l c = rw (← so-far, each-end (tableAt s long) i n l)
 
--- an address with a row is a point's
+-- An address from which an active row leads on is the address of a point.
 either-row : (c : ℕ) (next : Address) (b x : Bool) (o p : Option Row) → (some next ≡ activeNext c p → x ≡ true)
     → some next ≡ activeNext c (cond b o p) → (b || x) ≡ true
 either-row c next true x o p further e = refl
@@ -71,7 +71,7 @@ row-of-a-point [] a d next c e = absurd (Option·none-ne-some next (sym e))
 row-of-a-point (t ∷ tables) a d next c e =
     either-row c next (same (addressOf t) a) (contains (points tables) a) (rowFor t d) (rowOfPoint tables a d) (row-of-a-point tables a d next c) e
 
--- ---- the way: g is how the whole walk ends
+-- ---- the way; g is how the whole walk ends
 
 pub way-start : (tables : List (List ℕ)) (c : ℕ) (d : Address) (n : ℕ) (a : Address) → contains (points tables) a ≡ true
     → resumed tables c d n a 0 0 ≡ follow tables c d n a 0
@@ -126,7 +126,7 @@ module _ (tables : List (List ℕ)) (c : ℕ) (d : Address) (remaining hops befo
             rw (← h, ne-eqb (a .0) (d .0) ne, row-of-a-point tables a d next c on, ← on, m)
             (sym (led n (same next d || contains (points tables) next)))
 
--- ---- where it stops
+-- ---- where the walk stops
 
 module _ (tables : List (List ℕ)) (a : Address) (hops before : ℕ) (b : Bool) (be : b ≡ contains (points tables) a) where
   pub stopped-on : b ≡ true → accepted (stopped hops) ≡ accepted (stoppedAt tables a hops before)
@@ -149,7 +149,7 @@ module _ (tables : List (List ℕ)) (a : Address) (hops before : ℕ) (b : Bool)
 pub ended-there : (tables : List (List ℕ)) (a d : Address) (hops before : ℕ) → a .0 ≡ d .0 → accepted (arrived hops) ≡ accepted (resumed tables 0 d 0 a hops before)
 ended-there tables a d hops before = way-arrived tables 0 d 0 hops before a (resumed tables 0 d 0 a hops before) refl
 
--- ---- the call, by what its checks answer
+-- ---- the call, from the answer of its checks
 
 module _ (s : List ℕ) (count c : ℕ) (start d : Address) (a : Answer) (ae : a ≡ answerTo (walking s count c start d .checks)) where
   abbrev way : Walked

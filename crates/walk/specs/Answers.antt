@@ -1,11 +1,11 @@
--- Document 01's numbers and values for the answers of a walk.
+-- The decision for each ending of a walk, and the numbers that the walk returns (PROTOCOL, 'Walk').
 use Rattle.rules.specs.Decision.{Decision, refused, accepted}
 use Rattle.rules.specs.Walk.{Walked, arrived, stopped, tooLong}
 use Rattle.walk.specs.declared.Ending.{Ending}
 use Rattle.walk.specs.declared.Ending.the-variants.{Arrived, Stopped, TooLong, Refused}
 use Rattle.walk.specs.declared.Walked.{Walked as InNumbers}
 
--- 0, 41 and 42 carry the hops walked
+-- Answers 0, 41 and 42 carry the hops walked.
 abbrev pub walkDecision : Ending → Decision Walked
 walkDecision (Arrived h) = accepted (arrived (h .0))
 walkDecision (Stopped h) = accepted (stopped (h .0))

@@ -1,5 +1,5 @@
--- What the functions of the walk know of the octets once they are tables side by side: for the code's own functions, no part
--- of what a walk is.
+-- What the functions of the walk know about the octets once these are tables side by side. Only contracts of the code use the
+-- definitions of this file. They are no part of what a walk is.
 use Prim.Native.Nat.{ℕ, _*_, _≤_}
 use mathlib.Core.Path.{_≡_}
 use mathlib.Core.List.{List}
@@ -10,7 +10,7 @@ use Rattle.layout.specs.Layout.{headOctets, mostRows, place}
 use Rattle.element.specs.Entries.{each}
 use Rattle.rules.specs.Walk.{tableAt}
 
--- 1 to 16 pieces of this length, which a table may have
+-- States that s is 1 to 16 pieces of the length `long`, which is within the bounds for a table.
 pub record Pieces (s : List ℕ) (long count : ℕ) : Type 0 where
   pub some-piece : 1 ≤ count
   pub few : count ≤ 16
@@ -21,6 +21,6 @@ pub record Pieces (s : List ℕ) (long count : ℕ) : Type 0 where
 abbrev pub pieces : List ℕ → ℕ → ℕ → List (List ℕ)
 pieces s long count = each (tableAt s long) 0 count
 
--- the own address of piece i
+-- Returns the own address of piece i.
 abbrev pub pointAt : List ℕ → ℕ → ℕ → Address
 pointAt s long i = addressOf (tableAt s long i)

@@ -1,4 +1,4 @@
-// The walk over tables side by side: whether active rows lead from a start to a destination, and in how many hops.
+// Walks over tables side by side: finds out whether active rows lead from a start to a destination, and in how many hops.
 pub mod pieces;
 mod way;
 
@@ -14,12 +14,13 @@ ghost use Rattle.calls.specs.Answers.{answerTo};
 ghost use Rattle.walk.specs.Answers.{walkDecision, numbersOf};
 ghost use Rattle.walk.specs.Pieces.{Pieces, pieces};
 
-// The answers of a walk that does not arrive: nowhere to go on to, and as many hops as points.
+// The answers of a walk that does not arrive. `NO_ROUTE`: no active row leads on to a point or to the destination. `TOO_LONG`:
+// the walk took as many hops as there are points.
 const NO_ROUTE: u32 = 41;
 
 const TOO_LONG: u32 = 42;
 
-// How a walk ends, with the hops walked, or a refusal.
+// How a walk ends: with the hops walked, or with a refusal.
 pub enum Ending {
     Arrived(HopCount),
     Stopped(HopCount),
@@ -27,14 +28,14 @@ pub enum Ending {
     Refused(u32),
 }
 
-// The answer and the hops as numbers: what C gets, and what the bench prints.
+// Holds the answer and the hops as numbers. C receives them, and the bench prints them.
 #[repr(C)]
 pub struct Walked {
     pub answer: u32,
     pub hops: u32,
 }
 
-// 0, 41 or 42 with the hops walked, or the refusal's number and 0.
+// Returns 0, 41 or 42 with the hops walked, or the refusal's number with 0 hops.
 pub fn in_numbers(ending: Ending) -> Walked
     ensures { λ r. ⌜ numbersOf r ≡ walkedAtExit (walkDecision ending) ⌝ }
 {
@@ -55,7 +56,7 @@ pub fn in_numbers(ending: Ending) -> Walked
     }
 }
 
-// Whether the octets are 1 to 16 pieces of one length that a table may have.
+// Reports whether the octets are 1 to 16 pieces of one length that a table may have.
 fn are_side_by_side(tables: &[u8], count: usize) -> bool
     ensures { λ r. ⌜ r ≡ sideBySide (now (tables .entry)) count ⌝ }
 {
@@ -71,7 +72,7 @@ fn are_side_by_side(tables: &[u8], count: usize) -> bool
     legal::is_sized(table_at(tables, tables.len() / count, 0))
 }
 
-// The refusals by the state.
+// Checks the state: refusals 21 and 22.
 fn check_state(tables: &[u8], long: usize, count: usize, clock: u64) -> Answer
     requires { ⌜ Pieces (now tables) long count ⌝ }
     ensures { λ r. ⌜ r ≡ answerTo (tableChecks (pieces (now (tables .entry)) long count) clock) ⌝ }
@@ -85,7 +86,7 @@ fn check_state(tables: &[u8], long: usize, count: usize, clock: u64) -> Answer
     Answer::Accepted
 }
 
-// All refusals in their order.
+// Checks all refusals of a walk in their order.
 fn check(tables: &[u8], count: usize, clock: u64, start: Address, destination: Address) -> Answer
     ensures { λ r. ⌜ r ≡ answerTo (walking (now (tables .entry)) count clock start destination .checks) ⌝ }
 {

@@ -1,4 +1,4 @@
-// The tables side by side, one by one: pieces of one length, and what the checks ask of them.
+// The tables side by side as pieces of one length, and what the checks ask of them.
 use layout::address::Address;
 use layout::row;
 use table::legal;
@@ -13,7 +13,7 @@ ghost use Rattle.rules.specs.Lists.{any};
 ghost use Rattle.rules.specs.Walk.{hasLaterClock, points, tableAt};
 ghost use Rattle.walk.specs.Pieces.{Pieces, pieces, pointAt};
 
-// Table i, as that part of the octets.
+// Returns table i, which is a part of the octets.
 pub fn table_at(tables: &[u8], long: usize, i: usize) -> &[u8]
     requires { ⌜ long * i + long ≤ length (now tables) ⌝ }
     ensures { λ r. ⌜ now r ≡ tableAt (now (tables .entry)) long i ⌝ }
@@ -22,7 +22,7 @@ pub fn table_at(tables: &[u8], long: usize, i: usize) -> &[u8]
     &tables[from..from + long]
 }
 
-// The own address of table i, which may be no table yet.
+// Returns the own address of piece i. The piece may turn out not to be a table.
 pub fn point_at(tables: &[u8], long: usize, count: usize, i: usize) -> Address
     requires { ⌜ Pieces (now tables) long count ⌝ }
     requires { ⌜ i < count ⌝ }
@@ -31,7 +31,7 @@ pub fn point_at(tables: &[u8], long: usize, count: usize, i: usize) -> Address
     Address(octets::read_u48(table_at(tables, long, i), 0))
 }
 
-// Whether the address is that of a point, from point `from` on.
+// Reports whether a point from number `from` on has this address.
 fn contains(tables: &[u8], long: usize, count: usize, from: usize, address: Address) -> bool
     requires { ⌜ Pieces (now tables) long count ⌝ }
     ensures { λ r. ⌜ r ≡ contains (each (pointAt (now (tables .entry)) long) from (count - from)) address ⌝ }
@@ -53,7 +53,7 @@ pub fn is_point(tables: &[u8], long: usize, count: usize, address: Address) -> b
     contains(tables, long, count, 0, address)
 }
 
-// Whether two points have one address.
+// Reports whether two points have the same address.
 pub fn has_duplicate(tables: &[u8], long: usize, count: usize) -> bool
     requires { ⌜ Pieces (now tables) long count ⌝ }
     ensures { λ r. ⌜ r ≡ hasDuplicate (points (pieces (now (tables .entry)) long count)) ⌝ }
@@ -68,7 +68,7 @@ pub fn has_duplicate(tables: &[u8], long: usize, count: usize) -> bool
     false
 }
 
-// Whether some piece is no table.
+// Reports whether some piece is not a table.
 pub fn has_non_table(tables: &[u8], long: usize, count: usize) -> bool
     requires { ⌜ Pieces (now tables) long count ⌝ }
     ensures { λ r. ⌜ r ≡ any (λ t. not (isTable t)) (pieces (now (tables .entry)) long count) ⌝ }
@@ -91,7 +91,7 @@ fn latest_clock_at(tables: &[u8], long: usize, count: usize, i: usize) -> u64
     row::read_head(table_at(tables, long, i)).clock
 }
 
-// Whether the clock is below the latest clock of some table.
+// Reports whether the clock is below the latest clock of some table.
 pub fn has_later_clock(tables: &[u8], long: usize, count: usize, clock: u64) -> bool
     requires { ⌜ Pieces (now tables) long count ⌝ }
     ensures { λ r. ⌜ r ≡ any (hasLaterClock clock) (pieces (now (tables .entry)) long count) ⌝ }

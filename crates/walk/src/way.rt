@@ -1,4 +1,4 @@
-// The way from a start to a destination, along active rows.
+// Follows active rows from a start to a destination.
 use crate::Ending;
 use crate::pieces;
 use crate::pieces::table_at;
@@ -16,7 +16,8 @@ ghost use Rattle.walk.specs.Answers.{walkDecision};
 ghost use Rattle.walk.specs.OnTheWay.{resumed, stoppedAt};
 ghost use Rattle.walk.specs.Pieces.{Pieces, pieces};
 
-// Answers the next hop of the row that the point at this address has, if the row is active. The address may be no point's.
+// Returns the active next hop that the point at address `at` has for the destination. Returns nobody if there is none, or if
+// no point has that address.
 fn next_from(
     tables: &[u8],
     long: usize,
@@ -38,7 +39,8 @@ fn next_from(
     NextHop::Nobody
 }
 
-// No active row leads on from an address. If that is no point's, the hop to it is not counted.
+// Returns the ending of a walk that comes to address `at`, from which no active row leads on. If no point has that address,
+// the hop to it is not counted.
 fn stopped(tables: &[u8], long: usize, count: usize, at: Address, hops: u8, before: u8) -> Ending
     requires { ⌜ Pieces (now tables) long count ⌝ }
     ensures { λ r. ⌜ walkDecision r ≡ accepted (stoppedAt (pieces (now (tables .entry)) long count) at hops before) ⌝ }
@@ -49,8 +51,8 @@ fn stopped(tables: &[u8], long: usize, count: usize, at: Address, hops: u8, befo
     Ending::Stopped(HopCount(before))
 }
 
-// After as many hops as there are points, the last of which may lead to no point. No row is asked any more, so the clock plays
-// no part; the contract has 0 for it.
+// Returns the ending of a walk after as many hops as points. The last hop may lead to no point. No more rows are read, and the
+// clock therefore plays no part. The contract has 0 for the clock.
 fn ended(
     tables: &[u8],
     long: usize,
@@ -73,7 +75,8 @@ fn ended(
     Ending::TooLong(HopCount(hops))
 }
 
-// Whether a next hop is a point is seen where the walk goes on from it: so each is looked up once.
+// Follows the rows from the start. Whether a next hop is a point is found out where the walk goes on from it, and each next
+// hop is therefore looked up once.
 pub fn follow(
     tables: &[u8],
     long: usize,

@@ -1,4 +1,4 @@
--- `ask::asked_for` meets its contract: by what its definition unfolds to.
+-- `ask::asked_for` meets its contract, by unfolding the definition.
 use borrow.Author.Needs.{needs}
 use Rattle.rules.specs.Originate.{askedFor}
 use Rattle.ask.proofs.asked_for.Statement.{statement}

@@ -1,4 +1,4 @@
--- `ask::check` meets its contract: one check of the list after another.
+-- `ask::check` meets its contract, by one check of the list after another.
 use borrow.Author.Needs.{needs}
 use Rattle.calls.proofs.Checks.{passes-1, checking, refused-first}
 use Rattle.rules.specs.Originate.{asking}

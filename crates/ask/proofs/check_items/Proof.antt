@@ -1,4 +1,4 @@
--- `ask::check_items` meets its contract: one check of the list after another.
+-- `ask::check_items` meets its contract, by one check of the list after another.
 use borrow.Author.Needs.{needs}
 use Rattle.rules.specs.Originate.{itemChecks}
 use Rattle.calls.proofs.Checks.{checking}

@@ -1,4 +1,4 @@
--- `ask::has_high_flags` meets its contract: the items passed have no high flags.
+-- `ask::has_high_flags` meets its contract. Invariant: the items from i on give the answer for all items.
 use Prim.Native.Nat.{_-_}
 use mathlib.Core.Path.{_≡_}
 use borrow.Author.Needs.{needs}

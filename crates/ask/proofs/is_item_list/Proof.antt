@@ -1,4 +1,4 @@
--- `ask::is_item_list` meets its contract: by what its definition unfolds to.
+-- `ask::is_item_list` meets its contract, by unfolding the definition.
 use Rattle.rules.specs.Originate.{itemsFit}
 use Rattle.ask.proofs.is_item_list.Statement.{statement}
 use Rattle.ask.proofs.is_item_list.Tie as tie

@@ -1,4 +1,4 @@
--- `ask::write_targets` meets its contract: what is left to write makes the whole.
+-- `ask::write_targets` meets its contract. Invariant: the output so far and what is left to write make the whole.
 use Prim.Native.Nat.{_+_, _-_, _*_, _≤_}
 use mathlib.Core.Path.{_≡_}
 use mathlib.Core.List.{flatMap, map}

@@ -1,4 +1,4 @@
--- `hwmp::hop_for_c` meets its contract: both cases of `hopForC`.
+-- `hwmp::hop_for_c` meets its contract, by both cases of `hopForC`.
 use borrow.Author.Needs.{needs}
 use Rattle.hwmp.proofs.Outcomes.{no-hop-for-c}
 use Rattle.hwmp.proofs.hop_for_c.Statement.{statement}

@@ -1,4 +1,4 @@
--- `hwmp::hwmp_break` meets its contract: by what it calls.
+-- `hwmp::hwmp_break` meets its contract, by the contracts of the functions that it calls.
 use borrow.Author.Needs.{needs}
 use Rattle.hwmp.proofs.Outcomes.{break-exit-for-c}
 use Rattle.hwmp.proofs.hwmp_break.Statement.{statement}

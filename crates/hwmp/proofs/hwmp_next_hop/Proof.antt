@@ -1,4 +1,4 @@
--- `hwmp::hwmp_next_hop` meets its contract: by what it calls.
+-- `hwmp::hwmp_next_hop` meets its contract, by the contracts of the functions that it calls.
 use borrow.Author.Needs.{needs}
 use Rattle.hwmp.proofs.hwmp_next_hop.Statement.{statement}
 use Rattle.hwmp.proofs.hwmp_next_hop.Tie as tie

@@ -1,4 +1,4 @@
--- `hwmp::outcome_for_c` meets its contract: both cases of `outcomeForC`.
+-- `hwmp::outcome_for_c` meets its contract, by both cases of `outcomeForC`.
 use borrow.Author.Needs.{needs}
 use Rattle.hwmp.proofs.outcome_for_c.Statement.{statement}
 use Rattle.hwmp.proofs.outcome_for_c.Tie as tie

@@ -1,4 +1,4 @@
--- `onward::onward` meets its contract: by what it calls.
+-- `onward::onward` meets its contract, by the contracts of the functions that it calls.
 use borrow.Author.Needs.{needs}
 use Rattle.onward.proofs.Going.{farther}
 use Rattle.onward.proofs.onward.Statement.{statement}

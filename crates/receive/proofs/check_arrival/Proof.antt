@@ -1,4 +1,4 @@
--- `receive::check_arrival` meets its contract: the checks of the operands, then of the link.
+-- `receive::check_arrival` meets its contract, by the checks of the operands and then of the link.
 use borrow.Author.Needs.{needs}
 use Rattle.rules.specs.Receive.{arrivalChecks}
 use Rattle.calls.proofs.Checks.{checking, refused-first, passed-first}

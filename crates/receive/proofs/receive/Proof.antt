@@ -1,4 +1,4 @@
--- `receive::receive` meets its contract: by its first checks, and by what is read.
+-- `receive::receive` meets its contract, by the first checks and by what is read.
 use borrow.Author.Needs.{needs}
 use Rattle.receive.proofs.Calling.{arrival-refused, arrival-accepted, arrival-table-sized, arrival-output-long, arrival-clock}
 use Rattle.receive.proofs.receive.Statement.{statement}

@@ -1,4 +1,4 @@
--- `receive::receive_element` meets its contract: by what is read.
+-- `receive::receive_element` meets its contract, by cases of what is read.
 use borrow.Author.Needs.{needs}
 use Rattle.reading.proofs.Readings.{request-part, reply-part, error-part}
 use Rattle.receive.proofs.Calling.{rann-read, rreq-read, rrep-read, rerr-read, read-refused}

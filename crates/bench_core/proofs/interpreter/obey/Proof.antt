@@ -1,4 +1,4 @@
--- `bench_core::interpreter::obey` meets its contract: by the number of the command.
+-- `bench_core::interpreter::obey` meets its contract, by the number of the command.
 use borrow.Author.Needs.{needs}
 use Rattle.bench_rules.specs.Interpreter.{obeyed}
 use Rattle.bench_core.proofs.Obeying.{enough, obeyed-1, obeyed-2, obeyed-3, obeyed-call, obeyed-8, obeyed-none}

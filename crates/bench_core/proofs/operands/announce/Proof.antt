@@ -1,4 +1,4 @@
--- `bench_core::operands::announce` meets its contract: its operands as they were read.
+-- `bench_core::operands::announce` meets its contract, with its operands as they are read.
 use borrow.Author.Needs.{needs}
 use Rattle.bench_core.proofs.operands.announce.Statement.{statement}
 use Rattle.bench_core.proofs.operands.announce.Tie as tie

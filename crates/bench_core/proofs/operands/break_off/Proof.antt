@@ -1,4 +1,4 @@
--- `bench_core::operands::break_off` meets its contract: its operands as they were read.
+-- `bench_core::operands::break_off` meets its contract, with its operands as they are read.
 use borrow.Author.Needs.{needs}
 use Rattle.bench_core.proofs.operands.break_off.Statement.{statement}
 use Rattle.bench_core.proofs.operands.break_off.Tie as tie

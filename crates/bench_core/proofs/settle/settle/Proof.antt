@@ -1,4 +1,4 @@
--- `bench_core::settle::settle` meets its contract: by what the outcome is.
+-- `bench_core::settle::settle` meets its contract, by cases of the outcome.
 use borrow.Author.Needs.{needs}
 use Rattle.bench_core.proofs.Settling.{accepted-holds, accepted-prints, accepted-keeps, refused-prints, refused-keeps}
 use Rattle.bench_core.proofs.settle.settle.Statement.{statement}

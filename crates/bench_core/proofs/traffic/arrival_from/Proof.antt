@@ -1,4 +1,4 @@
--- `bench_core::traffic::arrival_from` meets its contract: by what it calls.
+-- `bench_core::traffic::arrival_from` meets its contract, by the contracts of the functions that it calls.
 use borrow.Author.Needs.{needs}
 use Rattle.bench_core.proofs.traffic.arrival_from.Statement.{statement}
 use Rattle.bench_core.proofs.traffic.arrival_from.Tie as tie

@@ -1,4 +1,5 @@
--- `bench_run::block::obey_block` meets its contract: each command leaves less of the block, and what is left makes the whole.
+-- `bench_run::block::obey_block` meets its contract. Each command leaves less of the block. Invariant: the course so far and
+-- what is left make the whole.
 use Prim.Native.Nat.{_-_}
 use mathlib.Core.Path.{_≡_}
 use mathlib.Core.List.{[]}

@@ -1,4 +1,4 @@
--- `breaking::break_neighbour::break_off` meets its contract: the rows, the head and the frames.
+-- `breaking::break_neighbour::break_off` meets its contract, by the rows, the head and the frames.
 use borrow.Author.Needs.{needs}
 use Rattle.breaking.proofs.Broken.{reported-many, reported-long, broken-exit}
 use Rattle.breaking.proofs.break_neighbour.break_off.Statement.{statement}

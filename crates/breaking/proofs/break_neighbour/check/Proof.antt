@@ -1,4 +1,4 @@
--- `breaking::break_neighbour::check` meets its contract: the checks of the operands, then of the state.
+-- `breaking::break_neighbour::check` meets its contract, by the checks of the operands and then of the state.
 use borrow.Author.Needs.{needs}
 use Rattle.rules.specs.Break.{breaking}
 use Rattle.calls.proofs.Checks.{refused-first, passed-first, part-last}

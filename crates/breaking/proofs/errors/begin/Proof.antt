@@ -1,4 +1,4 @@
--- `breaking::errors::begin` meets its contract: by the writer.
+-- `breaking::errors::begin` meets its contract, by the contract of the writer.
 use borrow.Author.Needs.{needs}
 use Rattle.breaking.proofs.Reported.{begin-writes}
 use Rattle.breaking.proofs.errors.begin.Statement.{statement}

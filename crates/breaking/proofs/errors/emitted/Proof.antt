@@ -1,4 +1,4 @@
--- `breaking::errors::emitted` meets its contract: by what it calls.
+-- `breaking::errors::emitted` meets its contract, by the contracts of the functions that it calls.
 use borrow.Author.Needs.{needs}
 use Rattle.breaking.proofs.errors.emitted.Statement.{statement}
 use Rattle.breaking.proofs.errors.emitted.Tie as tie

@@ -1,4 +1,4 @@
--- `breaking::report::report_rows` meets its contract: what is left makes the whole.
+-- `breaking::report::report_rows` meets its contract. Invariant: what is reported and what is left make the whole.
 use Prim.Native.Nat.{_-_}
 use mathlib.Core.Path.{_≡_}
 use lib.ListN.{length}

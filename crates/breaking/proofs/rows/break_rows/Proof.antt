@@ -1,4 +1,4 @@
--- `breaking::rows::break_rows` meets its contract: the rows below are lost or not.
+-- `breaking::rows::break_rows` meets its contract. Invariant: the rows below i are broken where they must be.
 use Prim.Native.Nat.{_-_, _≤_}
 use mathlib.Core.Path.{_≡_}
 use lib.ListN.{length}

@@ -1,4 +1,4 @@
--- `destinations::replies::reply_as_oneself` meets its contract: by what it calls.
+-- `destinations::replies::reply_as_oneself` meets its contract, by the contracts of the functions that it calls.
 use borrow.Author.Needs.{needs}
 use Rattle.destinations.proofs.Replying.{oneself-place, oneself-written}
 use Rattle.destinations.proofs.replies.reply_as_oneself.Statement.{statement}

@@ -1,4 +1,4 @@
--- `destinations::replies::reply_for_another` meets its contract: by the row that answers.
+-- `destinations::replies::reply_for_another` meets its contract, by the row that answers.
 use borrow.Author.Needs.{needs}
 use Rattle.destinations.proofs.Replying.{another-silent-place, another-silent-output, another-said-place, another-said-output}
 use Rattle.destinations.proofs.replies.reply_for_another.Statement.{statement}

@@ -1,4 +1,4 @@
--- `destinations::replies::reply_number` meets its contract: by what numbering makes of the own number.
+-- `destinations::replies::reply_number` meets its contract, because numbering steps the own number.
 use borrow.Author.Needs.{needs}
 use Rattle.destinations.proofs.Replying.{reply-numbered}
 use Rattle.destinations.proofs.replies.reply_number.Statement.{statement}

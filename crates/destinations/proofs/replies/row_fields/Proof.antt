@@ -1,4 +1,4 @@
--- `destinations::replies::row_fields` meets its contract: by what it calls.
+-- `destinations::replies::row_fields` meets its contract, by the contracts of the functions that it calls.
 use borrow.Author.Needs.{needs}
 use Rattle.destinations.proofs.replies.row_fields.Statement.{statement}
 use Rattle.destinations.proofs.replies.row_fields.Tie as tie

@@ -1,4 +1,4 @@
--- `destinations::replies::write_replies` meets its contract: what is left makes the whole.
+-- `destinations::replies::write_replies` meets its contract. Invariant: the replies so far and what is left make the whole.
 use Prim.Native.Nat.{_-_}
 use mathlib.Core.Path.{_≡_}
 use lib.ListN.{length}

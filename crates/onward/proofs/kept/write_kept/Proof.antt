@@ -1,4 +1,4 @@
--- `onward::kept::write_kept` meets its contract: what is left makes the whole.
+-- `onward::kept::write_kept` meets its contract. Invariant: what is written and what is left make the whole.
 use Prim.Native.Nat.{_-_}
 use mathlib.Core.Path.{_≡_}
 use lib.ListN.{length}

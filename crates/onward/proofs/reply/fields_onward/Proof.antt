@@ -1,4 +1,4 @@
--- `onward::reply::fields_onward` meets its contract: by what it calls.
+-- `onward::reply::fields_onward` meets its contract, by the contracts of the functions that it calls.
 use borrow.Author.Needs.{needs}
 use Rattle.onward.proofs.reply.fields_onward.Statement.{statement}
 use Rattle.onward.proofs.reply.fields_onward.Tie as tie

@@ -1,4 +1,4 @@
--- `onward::request::fields_onward` meets its contract: by what it calls.
+-- `onward::request::fields_onward` meets its contract, by the contracts of the functions that it calls.
 use borrow.Author.Needs.{needs}
 use Rattle.onward.proofs.request.fields_onward.Statement.{statement}
 use Rattle.onward.proofs.request.fields_onward.Tie as tie

@@ -1,4 +1,5 @@
--- `onward::request::send_on` meets its contract: nothing if TTL is low, else to its receiver.
+-- `onward::request::send_on` meets its contract. It writes nothing if the TTL is low, and otherwise sends the RREQ to its
+-- receiver.
 use borrow.Author.Needs.{needs}
 use Rattle.onward.proofs.Requests.{request-low, request-low-unwritten, request-counted, request-written}
 use Rattle.onward.proofs.request.send_on.Statement.{statement}

@@ -1,4 +1,4 @@
--- `originate::common::check` meets its contract: one check of the list after another.
+-- `originate::common::check` meets its contract, by one check of the list after another.
 use borrow.Author.Needs.{needs}
 use Rattle.calls.proofs.Checks.{passes-1, checking}
 use Rattle.originate.proofs.common.check.Statement.{statement}

@@ -1,4 +1,4 @@
--- `originate::common::number_head` meets its contract: by what its definition unfolds to.
+-- `originate::common::number_head` meets its contract, by unfolding the definition.
 use borrow.Author.Needs.{needs}
 use Rattle.rules.specs.Originate.{numberedHead}
 use Rattle.originate.proofs.common.number_head.Statement.{statement}

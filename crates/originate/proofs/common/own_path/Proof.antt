@@ -1,4 +1,4 @@
--- `originate::common::own_path` meets its contract: by what its definition unfolds to.
+-- `originate::common::own_path` meets its contract, by unfolding the definition.
 use Rattle.rules.specs.Originate.{ownPath}
 use Rattle.originate.proofs.common.own_path.Statement.{statement}
 use Rattle.originate.proofs.common.own_path.Tie as tie

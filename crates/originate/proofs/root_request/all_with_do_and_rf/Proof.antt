@@ -1,4 +1,4 @@
--- `originate::root_request::all_with_do_and_rf` meets its contract: field by field.
+-- `originate::root_request::all_with_do_and_rf` meets its contract, field by field.
 use borrow.Author.Needs.{needs}
 use Rattle.originate.proofs.root_request.all_with_do_and_rf.Statement.{statement}
 use Rattle.originate.proofs.root_request.all_with_do_and_rf.Tie as tie

@@ -1,4 +1,4 @@
--- `originate::root_request::is_root_flags` meets its contract: by what its definition unfolds to.
+-- `originate::root_request::is_root_flags` meets its contract, by unfolding the definition.
 use Rattle.rules.specs.Originate.{isRootFlags}
 use Rattle.originate.proofs.root_request.is_root_flags.Statement.{statement}
 use Rattle.originate.proofs.root_request.is_root_flags.Tie as tie

@@ -1,4 +1,5 @@
--- `originate::root_request::root_request` meets its contract: by its check, and by what an accepted one sends.
+-- `originate::root_request::root_request` meets its contract. Its check decides, and `send` does what an accepted root request
+-- does.
 use borrow.Author.Needs.{needs}
 use Rattle.calls.proofs.Checks.{table-sized, output-long}
 use Rattle.originate.proofs.Originated.{root-refused, root-accepted}

@@ -1,4 +1,4 @@
--- `receive::announcement::receive` meets its contract: by its checks, and by what an accepted one does.
+-- `receive::announcement::receive` meets its contract, by the checks and by what an accepted RANN does.
 use borrow.Author.Needs.{needs}
 use Rattle.receive.proofs.Judging.{path-refused, path-extends}
 use Rattle.receive.proofs.Taken.{rann-received}

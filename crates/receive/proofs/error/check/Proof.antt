@@ -1,4 +1,4 @@
--- `receive::error::check` meets its contract: the checks of its list, then of the state.
+-- `receive::error::check` meets its contract, by the checks of the list and then of the state.
 use borrow.Author.Needs.{needs}
 use Rattle.rules.specs.Receive.{fieldChecks, isLowTtlReply, judging, matchesNothing}
 use Rattle.calls.proofs.Checks.{checking}

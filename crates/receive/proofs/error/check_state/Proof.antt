@@ -1,4 +1,5 @@
--- `receive::error::check_state` meets its contract: the checks that calls with a clock have in common, then that of the matches.
+-- `receive::error::check_state` meets its contract, by the checks that receive and break have in common and then the check of
+-- the matches.
 use borrow.Author.Needs.{needs}
 use Rattle.calls.proofs.Checks.{refused-first, passed-first, checking}
 use Rattle.receive.proofs.error.check_state.Statement.{statement}

@@ -1,4 +1,4 @@
--- `receive::error::receive` meets its contract: by its check, and by what an accepted one does.
+-- `receive::error::receive` meets its contract, by the check and by what an accepted RERR does.
 use borrow.Author.Needs.{needs}
 use Rattle.rules.specs.Receive.{judging}
 use Rattle.calls.proofs.Checks.{refusal, acceptance}

@@ -1,4 +1,4 @@
--- `receive::faults::is_several_or_all` meets its contract: by what it calls.
+-- `receive::faults::is_several_or_all` meets its contract, by the contracts of the functions that it calls.
 use borrow.Author.Needs.{needs}
 use Rattle.receive.proofs.Faulty.{several-is}
 use Rattle.receive.proofs.faults.is_several_or_all.Statement.{statement}

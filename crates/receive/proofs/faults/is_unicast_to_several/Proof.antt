@@ -1,4 +1,4 @@
--- `receive::faults::is_unicast_to_several` meets its contract: by what it calls.
+-- `receive::faults::is_unicast_to_several` meets its contract, by the contracts of the functions that it calls.
 use borrow.Author.Needs.{needs}
 use Rattle.receive.proofs.Faulty.{not-unicast, is-unicast}
 use Rattle.receive.proofs.faults.is_unicast_to_several.Statement.{statement}

@@ -1,4 +1,4 @@
--- `receive::faults::of_rreq` meets its contract: by what it calls.
+-- `receive::faults::of_rreq` meets its contract, by the contracts of the functions that it calls.
 use borrow.Author.Needs.{needs}
 use Rattle.rules.specs.Receive.{isLowTtlReply}
 use Rattle.receive.specs.Checks.{faultsOf}

@@ -1,4 +1,4 @@
--- `receive::faults::rreq_has_bad_address` meets its contract: by what it calls.
+-- `receive::faults::rreq_has_bad_address` meets its contract, by the contracts of the functions that it calls.
 use borrow.Author.Needs.{needs}
 use Rattle.receive.proofs.Faulty.{bad-address-is}
 use Rattle.receive.proofs.faults.rreq_has_bad_address.Statement.{statement}

@@ -1,4 +1,4 @@
--- `receive::path::check_fields` meets its contract: one check of the list after another.
+-- `receive::path::check_fields` meets its contract, by one check of the list after another.
 use borrow.Author.Needs.{needs}
 use Rattle.rules.specs.Receive.{fieldChecks}
 use Rattle.calls.proofs.Checks.{checking}

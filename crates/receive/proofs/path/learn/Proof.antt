@@ -1,4 +1,4 @@
--- `receive::path::learn` meets its contract: the checks that calls with a clock have in common, then those of the rows.
+-- `receive::path::learn` meets its contract, by the checks that receive and break have in common and then those of the rows.
 use borrow.Author.Needs.{needs}
 use Rattle.calls.proofs.Checks.{refused-first, passed-first}
 use Rattle.receive.proofs.path.learn.Statement.{statement}

@@ -1,4 +1,4 @@
--- `receive::reply::receive` meets its contract: by its checks, and by what an accepted one does.
+-- `receive::reply::receive` meets its contract, by the checks and by what an accepted RREP does.
 use borrow.Author.Needs.{needs}
 use Rattle.receive.proofs.Judging.{path-refused, path-extends, ttl-left}
 use Rattle.receive.proofs.Taken.{rrep-received}

@@ -1,4 +1,4 @@
--- `receive::request::receive` meets its contract: by its checks, and by what an accepted one does.
+-- `receive::request::receive` meets its contract, by the checks and by what an accepted RREQ does.
 use borrow.Author.Needs.{needs}
 use Rattle.receive.proofs.Judging.{path-refused, path-extends, one-destination}
 use Rattle.receive.proofs.Taken.{rreq-received}

@@ -1,4 +1,4 @@
--- `walk::pieces::contains` meets its contract: no point passed has the address.
+-- `walk::pieces::contains` meets its contract. Invariant: the points from i on give the answer for all points from `from` on.
 use Prim.Native.Nat.{_-_}
 use mathlib.Core.Path.{_≡_}
 use borrow.Author.Needs.{needs}

@@ -1,4 +1,4 @@
--- `walk::pieces::has_duplicate` meets its contract: no address of the points passed stands again.
+-- `walk::pieces::has_duplicate` meets its contract. Invariant: the points from i on give the answer for all points.
 use Prim.Native.Nat.{_-_}
 use mathlib.Core.Path.{_≡_}
 use borrow.Author.Needs.{needs}

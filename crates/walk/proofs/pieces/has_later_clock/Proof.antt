@@ -1,4 +1,4 @@
--- `walk::pieces::has_later_clock` meets its contract: no table passed has a later clock.
+-- `walk::pieces::has_later_clock` meets its contract. Invariant: the tables from i on give the answer for all tables.
 use Prim.Native.Nat.{_-_}
 use mathlib.Core.Path.{_≡_}
 use borrow.Author.Needs.{needs}

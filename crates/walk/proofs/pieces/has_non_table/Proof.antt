@@ -1,4 +1,4 @@
--- `walk::pieces::has_non_table` meets its contract: every piece passed is a table.
+-- `walk::pieces::has_non_table` meets its contract. Invariant: the pieces from i on give the answer for all pieces.
 use Prim.Native.Nat.{_-_}
 use mathlib.Core.Path.{_≡_}
 use mathlib.Core.Bool.{not}

@@ -1,5 +1,5 @@
--- `walk::way::follow` meets its contract: what is left of the way ends as the whole does, and the hops walked and those that
--- remain are together as many as the points.
+-- `walk::way::follow` meets its contract. Invariant: what is left of the way ends as the whole does, and the hops walked and
+-- those that remain are together as many as the points.
 use Prim.Native.Nat.{_+_}
 use mathlib.Core.Path.{_≡_}
 use borrow.Author.Needs.{needs}

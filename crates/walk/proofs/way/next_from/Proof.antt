@@ -1,4 +1,4 @@
--- `walk::way::next_from` meets its contract: no point passed has the address.
+-- `walk::way::next_from` meets its contract. Invariant: the points from i on have the row that is sought among all points.
 use Prim.Native.Nat.{_-_}
 use mathlib.Core.Path.{_≡_}
 use borrow.Author.Needs.{needs}

@@ -1,4 +1,4 @@
--- `walk::way::stopped` meets its contract: by whether the address is a point's.
+-- `walk::way::stopped` meets its contract, by whether the address is a point's.
 use borrow.Author.Needs.{needs}
 use Rattle.walk.proofs.Ways.{stopped-on, stopped-off}
 use Rattle.walk.proofs.way.stopped.Statement.{statement}
