@@ -1,4 +1,4 @@
--- Laws of the commands that make a point call.
+-- Laws of the commands that may emit frames.
 use Prim.Native.Nat.{ℕ, _+_, _-_, _*_, _^_, _<_, _≤_}
 use mathlib.Core.Path.{_≡_, refl, sym, subst, _∙_}
 use mathlib.Core.List.{List, _∷_}

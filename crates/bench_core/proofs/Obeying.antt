@@ -47,7 +47,7 @@ module _ (r : Done) (st : State) where
 
 -- ---- each command, by what its function leaves
 
--- Command k, which makes a point call, has the result of its function.
+-- Command k, which may emit frames, has the result of its function.
 pub obeyed-call : (k c : ℕ) → c ≡ k → (b : Bench) (links : List (List ℕ)) (s : List ℕ) (x d : Came) → x ≡ d → obeyed b links s k ≡ leavingLinks links d
     → leavingLinks links x ≡ obeyed b links s c
 obeyed-call k c e b links s x d xe ke = rw (e, ke, xe)

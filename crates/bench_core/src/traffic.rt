@@ -1,4 +1,4 @@
-// The commands that make a point call: ask, announce, deliver and break.
+// The commands that may emit frames: ask, announce, deliver and break.
 use crate::settle;
 use bench_points::Done;
 use bench_points::State;
