@@ -1,4 +1,4 @@
--- Whether a point answers for another, case by case, as the code asks it.
+-- Whether a row answers for a destination, case by case, in the form that the proofs of the code need.
 use Prim.Native.Nat.{ℕ}
 use mathlib.Core.Path.{_≡_, refl}
 use mathlib.Core.Bool.{Bool, true, false, not}
@@ -63,7 +63,7 @@ module _ (t : List ℕ) (c : ℕ) (q : Target) (f : Found) (fe : f ≡ findRow t
     unfolding answeringRow
     row-answers e = rw (row-at t (q .address) f fe i at-i r re, ← be, not-false b e)
 
--- ---- `forAnother` goes by that row
+-- ---- `forAnother` depends on the answering row
 
 module _ (t : List ℕ) (a : Arrival) (p : PathInfo) (n : SequenceNumber) (q : Target) where
   abbrev pub anotherBy : Option Row → Answered

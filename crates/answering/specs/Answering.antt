@@ -1,5 +1,5 @@
--- The row that an intermediate reply is made from. For the code's own functions: `answering-is` says that `forAnother` goes by
--- it.
+-- Defines the row from which a point makes an intermediate reply. It serves only the contracts of the code. The law
+-- `answering-is` gives the value of `forAnother` by `answeringRow`.
 use Prim.Native.Nat.{ℕ}
 use mathlib.Core.Bool.{cond}
 use mathlib.Core.List.{List}
@@ -15,7 +15,7 @@ abbrev pub answeringIn : Answering → Option Row
 answeringIn (By r) = some r
 answeringIn Nobody = none
 
--- the row if it answers
+-- Returns the row if it answers for the destination q.
 abbrev pub ifAnswers : ℕ → Target → Option Row → Option Row
 ifAnswers c q none = none
 ifAnswers c q (some r) = cond (answersFor c q r) (some r) none

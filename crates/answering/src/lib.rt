@@ -1,4 +1,4 @@
-// Which row answers for a destination of a received RREQ, if one does.
+// Finds the row that answers for a destination of a received RREQ.
 use element::Target;
 use element::flags;
 use layout::row;
@@ -10,13 +10,14 @@ ghost use Rattle.rules.specs.Destinations.{answersFor};
 ghost use Rattle.answering.specs.Answering.{answeringRow, answeringIn};
 ghost use Rattle.layout.specs.Layout.{Sized};
 
-// The row that an intermediate reply is made from, if there is one.
+// The row from which the point makes an intermediate reply, or nobody if no row answers.
 pub enum Answering {
     By(Row),
     Nobody,
 }
 
-// DO = 0, and an active row of known number that is not older than requested.
+// Reports whether the row answers for the destination q: DO = 0, and the row is active, of known number, and not older than the
+// requested number.
 fn answers_for(clock: u64, q: Target, r: Row) -> bool
     ensures { λ b. ⌜ b ≡ answersFor clock q r ⌝ }
 {
@@ -33,7 +34,7 @@ fn answers_for(clock: u64, q: Target, r: Row) -> bool
     !stored.is_older(q.number)
 }
 
-// With DO = 1 no row is looked for.
+// Returns the row that answers for the destination q. With DO = 1 it looks for no row.
 pub fn answering_row(table: &[u8], clock: u64, q: Target) -> Answering
     requires { ⌜ Sized (now table) ⌝ }
     ensures { λ r. ⌜ answeringIn r ≡ answeringRow (now (table .entry)) clock q ⌝ }

@@ -1,4 +1,5 @@
--- A list of checks gone through one by one, as the `return` of a check asks it; and what its answer says of the call.
+-- Laws of going through a list of checks one by one, in the form that the proof of a `return` needs. Other laws here say what
+-- the answer tells about the call.
 use Prim.Native.Nat.{ℕ, _≤_}
 use mathlib.Core.Path.{_≡_, refl, sym, ap, ap₂, _∙_}
 use mathlib.Core.Bool.{Bool, true, false, not, _||_, cond}
@@ -34,7 +35,7 @@ pub all-passed : Accepted ≡ answerTo []
 unfolding answerTo
 all-passed = refl
 
--- a part of the list by itself
+-- Part of the list, taken alone.
 pub part-refused : (part checks : List Check) (n : ℕ) → Refused n ≡ answerTo part → Refused n ≡ answerTo (part ++ checks)
 unfolding answerTo
 part-refused [] checks n e = clash cc
@@ -65,7 +66,7 @@ part-decided x (k ∷ part) checks e = by (k .applies) e (part-decided x part ch
     by true e rest = clash cc
     by false e rest = rest e
 
--- as a check that begins with that of another function asks it
+-- For a check that begins with the check of another function.
 module _ (part : List Check) (a : Answer) (ae : a ≡ answerTo part) (checks : List Check) where
   pub refused-first : (n : ℕ) → a ≡ Refused n → Refused n ≡ answerTo (part ++ checks)
   refused-first n e = part-refused part checks n (sym e ∙ ae)
@@ -73,11 +74,11 @@ module _ (part : List Check) (a : Answer) (ae : a ≡ answerTo part) (checks : L
   pub passed-first : a ≡ Accepted → (r : Answer) → r ≡ answerTo checks → r ≡ answerTo (part ++ checks)
   passed-first e r h = h ∙ part-passed part checks (sym e ∙ ae)
 
--- a part that nothing follows
+-- A part that nothing follows.
 pub part-last : (part : List Check) (r : Answer) → r ≡ answerTo part → r ≡ answerTo (part ++ [])
 part-last part r e = e ∙ ap answerTo (sym (append-nil part))
 
--- the test of a check, by that of the code
+-- The test of a check, by the test in the code.
 module _ (a b : Bool) (e : a ≡ b) (v : Bool) where
   pub as-tested : a ≡ v → b ≡ v
   as-tested h = sym e ∙ h
@@ -88,13 +89,13 @@ module _ (a b : Bool) (e : a ≡ b) (v : Bool) where
 pub either-tested : (a b c d : Bool) → a ≡ b → c ≡ d → (v : Bool) → (a || c) ≡ v → (b || d) ≡ v
 either-tested a b c d e f v h = ap₂ _||_ (sym e) (sym f) ∙ h
 
--- what the `return` of a check is proved by
+-- The laws that prove the `return` of a check.
 pub ruleset checking = (applies, passes, all-passed, as-tested, as-denied, either-tested, lt-ltb, le-ltb, eq-eqb, ne-eqb)
 
 -- ---- what the answer says
 
 module _ {A : Type 0} (x : A) where
-  -- the answer as the decision of a call that comes to x where it is accepted
+  -- Returns the decision that an answer stands for, where x is what an accepted call does.
   abbrev pub as-decision : Answer → Decision A
   as-decision Accepted = accepted x
   as-decision (Refused n) = refused n
@@ -123,17 +124,17 @@ module _ (l : Lent) (output : List ℕ) (r : Ruling Effect) (a : Answer) (ae : a
   pub acceptance : a ≡ Accepted → (x : Exit) → x ≡ atExit l output (accepted (r .otherwise)) → x ≡ atExit l output (decide r)
   acceptance e x h = h ∙ sym (ap (atExit l output) (decided-as r a ae ∙ ap (as-decision (r .otherwise)) e))
 
--- an accepted call by what it leaves in what it was lent and in the output, and by its frames
+-- The exit of an accepted call, by the `Lent` and the output that it leaves, and by its frames.
 pub accepted-exit : (l : Lent) (output : List ℕ) (x : Effect) (m : Lent) (v : List ℕ) (e : Emitted) → m ≡ x .lent
     → v ≡ overwrite output 0 (frameOctets (x .frames)) → e ≡ emitted (x .frames) → exitOf (Outcome.Accepted e) m v ≡ atExit l output (accepted x)
 unfolding atExit
 accepted-exit l output x m v e me ve ee = rw (me, ve, ee)
 
--- check 1 tells the size of a table
+-- Check 1 bounds the length of a table.
 pub passes-1 : (t : List ℕ) (a : Bool) → a ≡ sized t → not a ≡ false → Sized t
 passes-1 t a ae yes-a = of-size t a ae (not-false a yes-a)
 
--- the first two checks of every call that has an output: both buffers are long enough for what follows
+-- The first two checks of every call that has an output. If they pass, both buffers are long enough for what follows.
 module _ (t output : List ℕ) (checks : List Check) (a : Answer) (ae : a ≡ answerTo (bufferChecks t (length output) ++ checks)) (ok : a ≡ Accepted) where
   first-two : Passed (bufferChecks t (length output) ++ checks)
   first-two = answer-passed (bufferChecks t (length output) ++ checks) (sym ok ∙ ae)

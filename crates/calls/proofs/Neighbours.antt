@@ -1,4 +1,4 @@
--- What receive and break have in common: what their checks of operands say, and the head that they store.
+-- Laws of the shared parts of receive and break: what their checks of operands say, and the head that they store.
 use Prim.Native.Nat.{ℕ}
 use mathlib.Core.Path.{_≡_, ap, ap₂, _∙_}
 use mathlib.Core.List.{List}
@@ -25,11 +25,11 @@ operands-table-sized t output c neighbour a = table-sized t output _ a
 
 -- ---- the head is stored
 
--- the head that the table had, over these rows
+-- The head of t, put over the rows of u with a new own number and clock.
 pub head-under : (t u : List ℕ) (n : SequenceNumber) (c : ℕ) (h : Head) → h ≡ headAt t → (w : List ℕ) → w ≡ putHead u (headWith n (h .request) c h) → w ≡ underHead t n c u
 head-under t u n c h he w we = we ∙ ap (λ (k : Head). putHead u (headWith n (k .request) c k)) he
 
--- with the own number that it had
+-- The head of t, put over the rows of v with its own number unchanged.
 pub same-number : (t : List ℕ) (c : ℕ) (h : Head) → h ≡ headAt t → (u v w : List ℕ) → u ≡ v → w ≡ putHead u (headWith (h .number) (h .request) c h)
     → w ≡ underHead t (number t) c v
 same-number t c h he u v w e we =

@@ -1,4 +1,4 @@
--- Document 01's numbers and values for the answers.
+-- Defines the number and the values that each answer of the code stands for (PROTOCOL, 'Frames and answers').
 use Prim.Native.Nat.{ℕ}
 use mathlib.Core.Bool.{cond}
 use mathlib.Core.List.{List, [], _∷_}
@@ -10,25 +10,25 @@ use Rattle.calls.specs.declared.Answer.the-variants.{Accepted, Refused}
 use Rattle.calls.specs.declared.Emitted.{Emitted}
 use Rattle.calls.specs.declared.Outcome.{Outcome}
 
--- an acceptance answers 0, a refusal its number
+-- An acceptance answers 0. A refusal answers its number.
 abbrev pub answerOf : Answer → ℕ
 answerOf Accepted = 0
 answerOf (Refused n) = n
 
--- this answer with the table that the call leaves
+-- Returns the exit of a call without frames, from its answer and the table that it leaves.
 abbrev pub tableExitOf : Answer → List ℕ → TableExit
 tableExitOf a t = record { answer = answerOf a; table = t }
 
--- what the checks of a call come to: the number of the first that applies, or an acceptance
+-- Returns the answer to a list of checks: a refusal by the first check that applies, otherwise an acceptance.
 unfoldable pub answerTo : List Check → Answer
 answerTo [] = Accepted
 answerTo (k ∷ checks) = cond (k .applies) (Refused (k .number)) (answerTo checks)
 
--- what is written with these frames
+-- Returns how many frames there are in a list, and how many octets they have.
 abbrev pub emitted : List Frame → Emitted
 emitted frames = record { frames = length frames; octets = length (frameOctets frames) }
 
--- this outcome with what the call leaves in what it was lent and in the output
+-- Returns the exit of a call that may emit frames, from its outcome, the `Lent` that it leaves, and the output that it leaves.
 abbrev pub exitOf : Outcome → Lent → List ℕ → Exit
 exitOf (Outcome.Accepted e) l output = record { answer = 0; frames = e .frames; octets = e .octets; lent = l; output = output }
 exitOf (Outcome.Refused n) l output = record { answer = n; frames = 0; octets = 0; lent = l; output = output }

@@ -1,4 +1,4 @@
-// What receive and break have in common: an output, a neighbour, and a clock that is stored when the call is accepted.
+// Shared parts of receive and break. Both take an output, a neighbour and a clock, and both store the clock when accepted.
 use crate::Answer;
 use counters::SequenceNumber;
 use layout::address::Address;
@@ -12,7 +12,7 @@ ghost use Rattle.layout.specs.Layout.{putHead, Sized};
 ghost use Rattle.rules.specs.Checks.{operandChecks, stateChecks};
 ghost use Rattle.calls.specs.Answers.{answerTo};
 
-// The refusals by these operands alone.
+// Checks refusals 1 to 4.
 pub fn check_operands(table: &[u8], output: &[u8], clock: u64, neighbour: Address) -> Answer
     ensures { λ r. ⌜ r ≡ answerTo (operandChecks (now (table .entry)) (length (now (output .entry))) clock neighbour) ⌝ }
 {
@@ -31,7 +31,7 @@ pub fn check_operands(table: &[u8], output: &[u8], clock: u64, neighbour: Addres
     Answer::Accepted
 }
 
-// The refusals of the clock and of the neighbour by the state.
+// Checks refusals 21 to 23.
 pub fn check_state(table: &[u8], clock: u64, neighbour: Address) -> Answer
     requires { ⌜ Sized (now table) ⌝ }
     ensures { λ r. ⌜ r ≡ answerTo (stateChecks (now (table .entry)) clock neighbour) ⌝ }
@@ -49,7 +49,7 @@ pub fn check_state(table: &[u8], clock: u64, neighbour: Address) -> Answer
     Answer::Accepted
 }
 
-// Writes the head that the table had, with this own number and latest clock.
+// Writes the given head, with the given own number and latest clock, to the table.
 pub fn store_head(table: &mut [u8], head: Head, number: SequenceNumber, clock: u64)
     requires { ⌜ Sized (now table) ⌝ }
     ensures { λ _. ⌜ now (table .exit) ≡ putHead (now (table .entry)) (headWith number (head .request) clock head) ⌝ }

@@ -1,4 +1,4 @@
-// What calls have in common: their answers, the checks of a neighbour and a clock, and the path one link farther.
+// Shared parts of the calls: their answers, the checks of a neighbour and a clock, and a received path extended by its link.
 pub mod clocked;
 pub mod here;
 
@@ -8,19 +8,19 @@ ghost use Prim.Native.Nat.{_≤_};
 ghost use Rattle.rules.specs.Exit.{leastOutput};
 ghost use Rattle.calls.specs.Answers.{answerOf, emitted};
 
-// Octets of an output that holds the frames of any call.
+// An output of 1,560 octets holds the frames of any call.
 pub const LEAST_OUTPUT: usize = 1560;
 
-// The TTL of an element that a point sends of itself, or replies with.
+// The TTL of every new element and of every reply.
 pub const INITIAL_TTL: u8 = 31;
 
-// The answer of a call that writes no frame, and of the check of one that may.
+// The answer of a call that writes no frame, or of the check of a call that may write frames.
 pub enum Answer {
     Accepted,
     Refused(u32),
 }
 
-// What a call has written into the output.
+// How many frames and octets a call has written to the output.
 pub struct Emitted {
     pub frames: u32,
     pub octets: u32,
@@ -47,13 +47,13 @@ impl Emitted {
     }
 }
 
-// The answer of a call that may emit frames.
+// The outcome of a call that may emit frames.
 pub enum Outcome {
     Accepted(Emitted),
     Refused(u32),
 }
 
-// The answer as document 01 numbers it.
+// Returns the number of an answer: 0 for an acceptance, otherwise the number of the refusal.
 pub fn number_of(a: Answer) -> u32
     ensures { λ r. ⌜ r ≡ answerOf a ⌝ }
 {

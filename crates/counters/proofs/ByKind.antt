@@ -1,4 +1,4 @@
--- What numbering makes of the counters, for a RREQ and for a RANN.
+-- The counters after numbering, for a RREQ and for a RANN.
 use mathlib.Core.Path.{_≡_, sym, ap, _∙_}
 use mathlib.Core.Bool.{Bool, true, false, cond}
 use Rattle.counters.specs.declared.SequenceNumber.{SequenceNumber}

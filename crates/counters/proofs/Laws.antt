@@ -1,4 +1,5 @@
--- Laws of the comparison: by the distance of two numbers, and inside a window of 2^31 consecutive numbers.
+-- Laws of comparing two numbers: by their distance, and inside a window of 2^31 consecutive numbers. The distance from t to s is
+-- s - t, wrapped to 32 bits.
 use Prim.Native.Nat.{ℕ, _+_, _-_, _%_, _^_, _<_}
 use mathlib.Core.Path.{_≡_, refl, sym, _∙_}
 use mathlib.Core.Bool.{Bool, true, false, _&&_, cond, and-true, and-false}
@@ -12,7 +13,7 @@ use Rattle.counters.specs.Numbers.{wrapped, newer, older}
 
 -- ---- by the distance
 
--- what a wrapping subtraction gives
+-- A wrapping subtraction gives the distance.
 wraps : (d s t : ℕ) → d < 2 ^ 32 → t < 2 ^ 32 → (d + t) % 2 ^ 32 ≡ s → d ≡ wrapped s t
 unfolding wrapped
 wraps d s t hd ht e = omega arith
@@ -21,7 +22,7 @@ above : (b : Bool) (d m : ℕ) → ltZ (pos 0) (cond b (pos d) (negsuc m)) ≡ (
 above true d m = sym (and-true (ltb 0 d))
 above false d m = sym (and-false (ltb 0 d))
 
--- a newer number lies ahead, by less than half the circle
+-- Number s is newer than t if it lies ahead of t by less than half the circle.
 pub newer-by : (s t : SequenceNumber) → newer s t ≡ (ltb 0 (wrapped (s .0) (t .0)) && ltb (wrapped (s .0) (t .0)) (2 ^ 31))
 unfolding newer
 newer-by s t = above (ltb (wrapped (s .0) (t .0)) (2 ^ 31)) (wrapped (s .0) (t .0)) _
@@ -30,7 +31,7 @@ below : (b : Bool) (d m : ℕ) → ltb d (2 ^ 31) ≡ b → ltZ (cond b (pos d) 
 below true d m e = le-ltb d 0 (omega arith) ∙ sym (lt-leb (2 ^ 31) d (ltb-true d (2 ^ 31) e))
 below false d m e = sym (le-leb (2 ^ 31) d (ltb-false d (2 ^ 31) e))
 
--- an older one lies half the circle ahead, or more
+-- Number s is older than t if it lies ahead of t by half the circle or more.
 pub older-by : (s t : SequenceNumber) → older s t ≡ leb (2 ^ 31) (wrapped (s .0) (t .0))
 unfolding older
 older-by s t = below (ltb (wrapped (s .0) (t .0)) (2 ^ 31)) (wrapped (s .0) (t .0)) _ refl
@@ -46,7 +47,7 @@ module _ (s t : SequenceNumber) (d : ℕ) (hd : d < 2 ^ 32) (ht : t .0 < 2 ^ 32)
 
 -- ---- inside a window of 2^31 consecutive numbers
 
--- the number k steps after base
+-- Returns the number k steps after base.
 abbrev pub after : ℕ → ℕ → SequenceNumber
 after base k = record { 0 = (base + k) % 2 ^ 32 }
 
@@ -55,7 +56,7 @@ module _ (base k j : ℕ) (hk : k < 2 ^ 31) (hj : j < 2 ^ 31) where
   unfolding wrapped
   distance = omega arith
 
-  -- newer is the plain order of the offsets
+  -- Inside the window, the newer number is the one with the larger offset.
   pub newer-in-window : newer (after base k) (after base j) ≡ ltb j k
   newer-in-window = newer-by (after base k) (after base j) ∙ by (wrapped (after base k .0) (after base j .0)) distance (ltb j k) refl
     where
@@ -67,7 +68,7 @@ module _ (base k j : ℕ) (hk : k < 2 ^ 31) (hj : j < 2 ^ 31) where
           at true g = let l = ltb-true 0 d g in let m = ltb-false j k h in rw (g, le-ltb d (2 ^ 31) (omega arith))
           at false g = rw g
 
-  -- and so is older
+  -- Inside the window, the older number is the one with the smaller offset.
   pub older-in-window : older (after base k) (after base j) ≡ ltb k j
   older-in-window = older-by (after base k) (after base j) ∙ by (wrapped (after base k .0) (after base j .0)) distance (ltb k j) refl
     where

@@ -1,4 +1,4 @@
--- The laws of the comparison, of ranks and of numbering, for this crate's proofs and its callers'.
+-- The laws of comparing numbers, of ranks and of numbering, for the proofs of this crate and of crates that use it.
 pub mod ByKind
 pub mod Laws
 pub mod Rank

@@ -1,5 +1,5 @@
--- The rank of a number with a metric, for numbers inside a window of 2^31: a newer number is better, and of equal numbers the
--- smaller metric. Inside the window this order has no cycles.
+-- Ranks numbers with their metrics, for numbers inside a window of 2^31 numbers. A newer number is better. Of two equal numbers,
+-- the one with the smaller metric is better. Inside the window, this order has no cycles.
 use Prim.Native.Nat.{ℕ, suc, _^_, _<_, _≤_}
 use mathlib.Core.Path.{_≡_, _∙_, refl, ap}
 use mathlib.Core.Bool.{Bool, true, false, _&&_, _||_, and-eq-true-iff}
@@ -10,17 +10,17 @@ use Rattle.counters.specs.declared.SequenceNumber.{SequenceNumber}
 use Rattle.counters.specs.Numbers.{stepped, nextNumber, wrapped, newer, older}
 use Rattle.counters.proofs.Laws.{newer-by, older-by}
 
--- n is one of the 2^31 numbers from base on
+-- States that n is one of the 2^31 numbers from base on.
 pub record Window (base : ℕ) (n : SequenceNumber) : Type 0 where
   pub fits : n .0 < 2 ^ 32
   pub near : wrapped (n .0) base < 2 ^ 31
 
--- number n with metric m is at least as good as number n′ with metric m′
+-- States that number n with metric m is at least as good as number n′ with metric m′.
 pub data AtLeast (base : ℕ) (n : SequenceNumber) (m : ℕ) (n′ : SequenceNumber) (m′ : ℕ) : Type 0 where
   ahead : wrapped (n′ .0) base < wrapped (n .0) base → AtLeast base n m n′ m′
   level : n ≡ n′ → m ≤ m′ → AtLeast base n m n′ m′
 
--- strictly better: at least as good with a metric larger by one
+-- States that number n with metric m is strictly better: even with a metric larger by one it is at least as good.
 abbrev pub Above : ℕ → SequenceNumber → ℕ → SequenceNumber → ℕ → Type 0
 Above base n m n′ m′ = AtLeast base n (suc m) n′ m′
 
@@ -50,7 +50,7 @@ same-number : (s t : SequenceNumber) → s .0 ≡ t .0 → s ≡ t
 same-number s t e = ap {B = SequenceNumber} (λ x. record { 0 = x }) e
 
 module _ {base : ℕ} (small : base < 2 ^ 32) {s t : SequenceNumber} (hs : Window base s) (ht : Window base t) where
-  -- a number that is not older, and if equal has a smaller metric: what refusal 25 lets through
+  -- What refusal 25 lets through is at least as good: a number that is not older, and that has a smaller metric if it is equal.
   pub not-stale : {m m′ : ℕ} → (older s t || (eqb (s .0) (t .0) && leb m′ m)) ≡ false → AtLeast base s m t m′
   unfolding wrapped
   not-stale {m} {m′} h = go (older s t) (older-by s t) (eqb (s .0) (t .0)) refl h
@@ -61,7 +61,7 @@ module _ {base : ℕ} (small : base < 2 ^ 32) {s t : SequenceNumber} (hs : Windo
       go false q false e h =
           ahead (omega (arith, leb-false (2 ^ 31) (wrapped (s .0) (t .0)) (cc q), eqb-false (s .0) (t .0) e, hs .fits, hs .near, ht .fits, ht .near))
 
-  -- a newer number is ahead, whatever the metrics
+  -- A newer number is better, whatever the metrics.
   pub newer-ahead : {m m′ : ℕ} → newer s t ≡ true → AtLeast base s m t m′
   unfolding wrapped
   newer-ahead h =
@@ -70,7 +70,7 @@ module _ {base : ℕ} (small : base < 2 ^ 32) {s t : SequenceNumber} (hs : Windo
       let below = ltb-true (wrapped (s .0) (t .0)) (2 ^ 31) (signs .1) in
       ahead (omega (arith, above, below, hs .fits, hs .near, ht .fits, ht .near))
 
--- the next number is ahead, where it still lies inside the window
+-- The next number is better, whatever the metrics, if it still lies inside the window.
 pub next-ahead : {base : ℕ} → base < 2 ^ 32 → {t : SequenceNumber} {m m′ : ℕ} → Window base t → Window base (nextNumber t)
     → AtLeast base (nextNumber t) m t m′
 unfolding stepped wrapped

@@ -1,4 +1,4 @@
-// Counters that never stand in for one another: each is a struct of one number.
+// Each of the four kinds of counter is a struct of one number, so that none can stand in for another.
 pub mod own;
 
 ghost use mathlib.Core.Path.{_≡_};
@@ -13,7 +13,7 @@ pub struct Metric(pub u32);
 
 pub struct HopCount(pub u8);
 
-// One more; after 4,294,967,295 comes 0.
+// Returns n + 1. After 4,294,967,295 comes 0.
 fn one_more(n: u32) -> u32
     ensures { λ r. ⌜ r ≡ (n + 1) % 2 ^ 32 ⌝ }
 {
@@ -27,7 +27,7 @@ impl SequenceNumber {
         SequenceNumber(one_more(self.0))
     }
 
-    // Whether the distance from other to this number, read as signed, is above 0.
+    // Reports whether self - other, wrapped to 32 bits and read as signed, is above 0.
     pub fn is_newer(self, other: Self) -> bool
         ensures { λ r. ⌜ r ≡ newer self other ⌝ }
     {
@@ -37,7 +37,7 @@ impl SequenceNumber {
         (0 < distance) & (distance < 2147483648)
     }
 
-    // Whether that distance is below 0.
+    // Reports whether self - other, wrapped to 32 bits and read as signed, is below 0.
     pub fn is_older(self, other: Self) -> bool
         ensures { λ r. ⌜ r ≡ older self other ⌝ }
     {

@@ -1,16 +1,16 @@
-// Numbering a new element: the counters of a point, and how it advances them.
+// Advances the counters of a point when it numbers a new element.
 use crate::RequestId;
 use crate::SequenceNumber;
 ghost use mathlib.Core.Path.{_≡_};
 ghost use Rattle.counters.specs.Numbering.{advancedFor};
 
-// What a point numbers its elements with.
+// Holds the counters with which a point numbers its elements.
 pub struct OwnCounters {
     pub number: SequenceNumber,
     pub request: RequestId,
 }
 
-// A new element takes the next own number, a RREQ also the next request ID.
+// Returns the counters after a new element, which takes the next own number. A new RREQ also takes the next request ID.
 fn advanced(counters: OwnCounters, rreq: bool) -> OwnCounters
     ensures { λ r. ⌜ r ≡ advancedFor rreq counters ⌝ }
 {
@@ -28,14 +28,14 @@ fn advanced(counters: OwnCounters, rreq: bool) -> OwnCounters
     }
 }
 
-// The same of counters that are lent.
+// Advances lent counters in place, as `advanced` does by value.
 fn advance(counters: &mut OwnCounters, rreq: bool)
     ensures { λ _. ⌜ now (counters .exit) ≡ advancedFor rreq (now (counters .entry)) ⌝ }
 {
     *counters = advanced(*counters, rreq);
 }
 
-// For callers that have the counters by value, as in the head of a table: lends them to `advance`.
+// Advances counters that the caller has by value, as in the head of a table, by lending them to `advance`.
 pub fn numbered(counters: OwnCounters, rreq: bool) -> OwnCounters
     ensures { λ r. ⌜ r ≡ advancedFor rreq counters ⌝ }
 {

@@ -1,4 +1,4 @@
--- The functions of a head and of a row by the cases of their definitions, as their returns ask it.
+-- The tests of a head and of a row by cases, in the form that the proofs of the code need.
 use Prim.Native.Nat.{ℕ}
 use mathlib.Core.Path.{_≡_, ap}
 use mathlib.Core.Bool.{Bool, true, false, _&&_}
@@ -10,7 +10,7 @@ use Rattle.layout.specs.declared.row.Row.{Row}
 use Rattle.layout.specs.Address.{individual, same}
 use Rattle.layout.specs.Row.{headOk, isUnnumbered, isOther, statusOk, boundsOk, isHeld, isThrough, active}
 
--- a head by its own address, and then the rest
+-- The own address decides whether a head is legal, and then the rest.
 module _ (h : Head) (a : Bool) (ae : a ≡ individual (h .own)) where
   pub head-stranger : a ≡ false → false ≡ headOk h
   unfolding headOk
@@ -20,7 +20,7 @@ module _ (h : Head) (a : Bool) (ae : a ≡ individual (h .own)) where
   unfolding headOk
   head-rest yes-a = cc
 
--- a held row by its parts, the first that fails deciding
+-- The first part of `isHeld` that fails decides.
 module _ (own : Address) (r : Row) (a : Bool) (ae : a ≡ statusOk r) where
   pub held-status-bad : a ≡ false → false ≡ isHeld own r
   unfolding isHeld

@@ -1,4 +1,4 @@
--- Laws of the head and the rows in the octets of a table: with these no caller looks at an octet.
+-- Laws of the head and the rows in the octets of a table. Callers use these laws and never look at an octet.
 use Prim.Native.Nat.{ℕ, _+_, _*_, _^_, _<_, _≤_}
 use mathlib.Core.Path.{_≡_, refl, sym, ap, _∙_}
 use mathlib.Core.List.{List, [], _∷_}
@@ -16,9 +16,9 @@ use Rattle.layout.specs.declared.row.Row.{Row}
 use Rattle.layout.specs.Row.{freeRow, isFree}
 use Rattle.layout.specs.Layout.{allZero, place, rowWidths, headWidths, rowOf, headOf, rowNumbers, headNumbers, rowAt, headAt, putRow, putHead, rowOctets, headOctets}
 
--- ---- values that these octets can hold
+-- ---- values that the octets of a head or a row can hold
 
--- each number of a head fits its octets
+-- States that each number of a head fits its octets.
 pub record FitHead (h : Head) : Type 0 where
   pub own : h .own .0 < 256 ^ 6
   pub zero2 : h .zero2 < 256 ^ 2
@@ -27,7 +27,7 @@ pub record FitHead (h : Head) : Type 0 where
   pub clock : h .clock < 256 ^ 8
   pub zero8 : h .zero8 < 256 ^ 8
 
--- each number of a row fits its octets
+-- States that each number of a row fits its octets.
 pub record FitRow (r : Row) : Type 0 where
   pub status : r .status < 256 ^ 1
   pub known : r .known < 256 ^ 1
@@ -39,7 +39,7 @@ pub record FitRow (r : Row) : Type 0 where
   pub metric : r .metric .0 < 256 ^ 4
   pub expiry : r .expiry < 256 ^ 8
 
--- pass between the named numbers and the run of fields that the laws of octets are about
+-- Convert between the named numbers of a head or a row and the run of fields that the laws of octets are about.
 module _ (h : Head) where
   head-fields : FitHead h → FitFields headWidths (headNumbers h)
   unfolding FitFields
@@ -58,7 +58,7 @@ module _ (r : Row) where
   unfolding FitFields
   fit-row f = search f
 
--- the row at i, field by field
+-- Reading the fields of row i one by one gives the row.
 pub read : (t : List ℕ) (i : ℕ) {a b c d e f g h k : ℕ}
     → a ≡ numberAt 1 t (place i) → b ≡ numberAt 1 t (place i + 1) → c ≡ numberAt 1 t (place i + 2) → d ≡ numberAt 1 t (place i + 3)
     → e ≡ numberAt 6 t (place i + 4) → f ≡ numberAt 6 t (place i + 10) → g ≡ numberAt 4 t (place i + 16)
@@ -67,7 +67,7 @@ pub read : (t : List ℕ) (i : ℕ) {a b c d e f g h k : ℕ}
 unfolding rowAt fieldsAt
 read t i p₁ p₂ p₃ p₄ p₅ p₆ p₇ p₈ p₉ = cc (add-zero (place i))
 
--- a row is put field by field
+-- Writing the fields of a row one by one puts the row.
 module _ (t : List ℕ) (r : Row) where
   pub status-put : (at : ℕ) (a b c u : List ℕ) → a ≡ withNumber 1 t at (r .status) → b ≡ withNumber 1 a (at + 1) (r .known)
       → c ≡ withNumber 1 b (at + 2) (r .hops .0) → u ≡ withNumber 1 c (at + 3) (r .zero)
@@ -89,12 +89,12 @@ pub length-row : (t : List ℕ) (i : ℕ) (r : Row) → length (putRow t i r) �
 unfolding putRow
 length-row t i r = length-fields rowWidths t (place i) 0 (rowNumbers r)
 
--- it is read back
+-- Reading returns the row that was put.
 pub row-same : (t : List ℕ) (i : ℕ) (r : Row) → place i + rowOctets ≤ length t → FitRow r → rowAt (putRow t i r) i ≡ r
 unfolding rowAt putRow total
 row-same t i r h f = ap rowOf (fields-same rowWidths t (place i) 0 (rowNumbers r) (omega arith) (row-fields r f))
 
--- the other rows stay
+-- The other rows stay.
 pub row-other : (t : List ℕ) (i k : ℕ) (r : Row) → (k ≡ i → ⊥) → rowAt (putRow t i r) k ≡ rowAt t k
 unfolding rowAt putRow total
 row-other t i k r n =
@@ -102,7 +102,7 @@ row-other t i k r n =
     (fields-other rowWidths rowWidths t (place k) 0 (place i) 0 (rowNumbers r)
     (ne-cases k i _ n (λ l. inl (omega arith)) (λ g. inr (omega arith))))
 
--- and so does the head
+-- The head stays.
 pub head-stays : (t : List ℕ) (i : ℕ) (r : Row) → headAt (putRow t i r) ≡ headAt t
 unfolding headAt putRow total
 head-stays t i r = ap headOf (fields-other headWidths rowWidths t 0 0 (place i) 0 (rowNumbers r) (inl (omega arith)))
@@ -131,7 +131,7 @@ head-octets t h o = octets-fields headWidths t 0 0 (headNumbers h) o
 
 -- ---- what is read
 
--- a row that is read fits
+-- A row that is read from octets fits its octets.
 pub row-fits : (t : List ℕ) (i : ℕ) → Octets t → FitRow (rowAt t i)
 unfolding rowAt fieldsAt
 row-fits t i o = fit-row (rowAt t i) (fields-fit rowWidths t (place i) 0 o)
@@ -140,7 +140,7 @@ pub head-fits : (t : List ℕ) → Octets t → FitHead (headAt t)
 unfolding headAt fieldsAt
 head-fits t o = fit-head (headAt t) (fields-fit headWidths t 0 0 o)
 
--- the rows of octets that are zero are free
+-- The rows of zero octets are free.
 pub row-zero : (n i : ℕ) → rowAt (zeros n) i ≡ freeRow
 unfolding rowAt
 row-zero n i = ap rowOf (fields-zero rowWidths n (place i) 0)
@@ -164,17 +164,17 @@ zero-parts : (x : ℕ) (xs : List ℕ) → allZero (x ∷ xs) ≡ true → (x �
 unfolding allZero
 zero-parts x xs e = let both = and-eq-true-iff (eqb x 0) (allZero xs) .0 e in (eqb-true x 0 (both .0), both .1)
 
--- `split`, with the offset apart from the place
+-- `split`, with the offset kept apart from the place.
 split-from : (m n : ℕ) (t : List ℕ) (p o : ℕ) → numberAt (m + n) t (p + o) ≡ numberAt m t (p + o) + 256 ^ m * numberAt n t (p + (o + m))
 split-from m n t p o = split m n t (p + o) ∙ ap (λ (q : ℕ). numberAt m t (p + o) + 256 ^ m * numberAt n t q) (add-assoc p o m)
 
 module _ (t : List ℕ) (i : ℕ) {a b c d : ℕ} (ae : a ≡ numberAt 8 t (place i)) (be : b ≡ numberAt 8 t (place i + 8))
     (ce : c ≡ numberAt 8 t (place i + 16)) (de : d ≡ numberAt 8 t (place i + 24)) where
-  -- the field of n octets at offset o
+  -- Returns the field of n octets at offset o.
   part : ℕ → ℕ → ℕ
   part n o = numberAt n t (place i + o)
 
-  -- the four numbers by the row's fields, where the destination spans two of them
+  -- The four numbers of eight octets, by the row's fields. The destination spans two of the numbers.
   first-eight : a ≡ part 1 0 + 256 * part 1 1 + 65536 * part 1 2 + 16777216 * part 1 3 + 4294967296 * part 4 4
   unfolding part
   first-eight =

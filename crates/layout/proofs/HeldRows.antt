@@ -1,4 +1,4 @@
--- A held row, and the steps that change one: it stays held.
+-- A held row stays held under the steps that change it.
 use Prim.Native.Nat.{_+_, _^_, _<_, _≤_}
 use mathlib.Core.Path.{_≡_}
 use mathlib.Core.Bool.{Bool, true, _&&_, _||_, and-eq-true-iff}
@@ -14,7 +14,7 @@ use Rattle.layout.proofs.HeadAndRows.{FitRow}
 both : {a b : Bool} → (a && b) ≡ true → (a ≡ true) × (b ≡ true)
 both {a} {b} e = and-eq-true-iff a b .0 e
 
--- `isHeld`, clause by clause
+-- `isHeld`, clause by clause.
 pub record Held (a : Address) (r : Row) : Type 0 where
   pub status : (1 ≤ r .status) × (r .status ≤ 2)
   pub known : r .known ≤ 1
@@ -63,7 +63,7 @@ module _ (a : Address) (r : Row) where
       )
       (h .numbered)
 
--- ---- the steps of a row that is lost
+-- ---- the steps that a lost row takes
 
 module _ (r : Row) where
   pub invalid-fits : FitRow r → FitRow (invalidated r)
@@ -89,7 +89,7 @@ module _ (r : Row) where
           numbered = h .numbered;
         }
 
-    -- only a known number is raised
+    -- A row stays held when it is raised, if its number is known.
     pub raised-held : (n : SequenceNumber) → eqb (r .known) 1 ≡ true → Held a (raised n r)
     unfolding raised
     raised-held n k =

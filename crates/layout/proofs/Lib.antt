@@ -1,4 +1,4 @@
--- The laws of heads and rows, for this crate's proofs and its callers'.
+-- The laws of heads and rows, for the proofs of this crate and of crates that use it.
 pub mod Cases
 pub mod HeadAndRows
 pub mod HeldRows

@@ -1,4 +1,4 @@
--- Marks of addresses that were met: an address whose mark is not set is none of them. The addresses go by index.
+-- Laws of marking the addresses that a loop has met. An address whose mark is not set was not met. Addresses are given by index.
 use Prim.Native.Nat.{ℕ, _+_, _*_, _/_, _%_, _^_, _<_, _≤_}
 use lib.Bits.{and-le-r}
 use mathlib.Core.Path.{_≡_, sym, _∙_}
@@ -10,7 +10,7 @@ use native.Mathlib.Omega.{arith}
 use Rattle.layout.specs.Marks.{mark}
 use Rattle.layout.specs.declared.address.Address.{Address}
 
--- those from one index up to another are marked
+-- States that the addresses from one index up to another are marked.
 pub record Marked (f : ℕ → Address) (seen : List ℕ) (last from to : ℕ) : Type 0 where
   pub marks : (k : ℕ) → from ≤ k → k < to → getD seen (mark last (f k)) 0 ≡ 0 → ⊥
 
@@ -21,7 +21,7 @@ mark-in a seen last h e l = omega (arith, e, and-le-r (a .0 % 2 ^ 48 * 40503 / 2
 pub marked-none : (f : ℕ → Address) (seen : List ℕ) (last n : ℕ) → Marked f seen last n n
 marked-none f seen last n = record { marks = λ k l g. absurd (omega (arith, l, g)) }
 
--- a mark that is set is set, and the others stay
+-- Setting a mark sets it, and the marks that were set stay set.
 set-mark : (seen : List ℕ) (h : ℕ) → h < length seen → getD (set seen h 1) h 0 ≡ 0 → ⊥
 set-mark seen h l z = omega (arith, getD-set-same seen h 1 0 l)
 
@@ -33,7 +33,7 @@ kept-mark seen h x l m z = by (ℕ-discrete x h)
     by (no q) = m (sym (getD-set-other seen h x 1 0 q) ∙ z)
 
 module _ (f : ℕ → Address) (seen : List ℕ) (last from to h : ℕ) (le : length seen ≡ last + 1) where
-  -- with the mark of j set, j and those marked before are marked
+  -- After the mark of address j is set, address j and the addresses marked before are marked.
   joined : Marked f seen last from to → (j k : ℕ) → h ≡ mark last (f j) → ((k ≡ j → ⊥) → (from ≤ k) × (k < to))
       → getD (set seen h 1) (mark last (f k)) 0 ≡ 0 → ⊥
   joined m j k he before = by (ℕ-discrete k j)
@@ -45,14 +45,14 @@ module _ (f : ℕ → Address) (seen : List ℕ) (last from to h : ℕ) (le : le
       by (yes q) = rw (q, ← he) (set-mark seen h within)
       by (no q) = kept-mark seen h (mark last (f k)) within (m .marks k (before q .0) (before q .1))
 
-  -- one more above, and one more below
+  -- Marks one more address above the marked ones, or one more below them.
   pub marked-up : Marked f seen last from to → h ≡ mark last (f to) → Marked f (set seen h 1) last from (to + 1)
   marked-up m he = record { marks = λ k l g. joined m to k he (λ q. (l, omega (arith, g, q))) }
 
   pub marked-down : (i : ℕ) → from ≡ i + 1 → Marked f seen last from to → h ≡ mark last (f i) → Marked f (set seen h 1) last i to
   marked-down i is m he = record { marks = λ k l g. joined m i k he (λ q. (omega (arith, is, l, q), g)) }
 
--- an address whose mark is not set is none of those that are marked
+-- An address whose mark is not set is none of the marked addresses.
 pub unmarked : (f : ℕ → Address) (seen : List ℕ) (last from to : ℕ) → Marked f seen last from to → (a : Address) (h : ℕ) → h ≡ mark last a
     → getD seen h 0 ≡ 0 → (k : ℕ) → from ≤ k → k < to → f k .0 ≡ a .0 → ⊥
 unfolding mark

@@ -1,4 +1,4 @@
--- Where the head and the rows stand in the octets of a table.
+-- Defines where the head and the rows stand in the octets of a table (PROTOCOL, 'Table').
 use Prim.Native.Nat.{ℕ, _+_, _-_, _*_, _/_, _%_, _≤_}
 use mathlib.Core.Bool.{Bool, true, _&&_}
 use mathlib.Core.List.{List, [], _∷_}
@@ -10,7 +10,7 @@ use Rattle.layout.specs.declared.row.Row.{Row}
 
 -- ---- sizes
 
--- octets of the head and of a row, and how many rows there may be
+-- The head has 32 octets, each row has 32 octets, and a table has at most 128 rows.
 abbrev pub headOctets : ℕ
 headOctets = 32
 
@@ -20,20 +20,20 @@ rowOctets = 32
 abbrev pub mostRows : ℕ
 mostRows = 128
 
--- where row i begins, after the head and the rows before it
+-- Returns the place where row i begins, after the head and the rows before it.
 abbrev pub place : ℕ → ℕ
 place i = headOctets + rowOctets * i
 
--- a table is a head and R rows, R from 1 to 128
+-- Reports whether the length is that of a head and R rows, R from 1 to 128.
 unfoldable pub sized : List ℕ → Bool
 sized t = leb (place 1) (length t) && (leb (length t) (place mostRows) && eqb ((length t - headOctets) % rowOctets) 0)
 
--- the bounds on the length of a table, which functions that are lent one know
+-- States the bounds on the length of a table. Many functions that are lent a table require it.
 pub record Sized (t : List ℕ) : Type 0 where
   pub with-head : headOctets ≤ length t
   pub not-longer : length t ≤ place mostRows
 
--- R
+-- Returns R, the number of rows.
 abbrev pub rows : List ℕ → ℕ
 rows t = (length t - headOctets) / rowOctets
 
@@ -56,10 +56,11 @@ headOf xs =
 abbrev pub headNumbers : Head → List ℕ
 headNumbers h = h .own .0 ∷ h .zero2 ∷ h .number .0 ∷ h .request .0 ∷ h .clock ∷ h .zero8 ∷ []
 
--- the head of the table t, and t with h there
+-- Returns the head of the table t.
 unfoldable pub headAt : List ℕ → Head
 headAt t = headOf (fieldsAt headWidths t 0 0)
 
+-- Returns the table t with the head h.
 unfoldable pub putHead : List ℕ → Head → List ℕ
 putHead t h = withFields headWidths t 0 0 (headNumbers h)
 
@@ -90,9 +91,10 @@ unfoldable pub allZero : List ℕ → Bool
 allZero [] = true
 allZero (x ∷ xs) = eqb x 0 && allZero xs
 
--- row i of the table t, and t with r there
+-- Returns row i of the table t.
 unfoldable pub rowAt : List ℕ → ℕ → Row
 rowAt t i = rowOf (fieldsAt rowWidths t (place i) 0)
 
+-- Returns the table t with r as its row i.
 unfoldable pub putRow : List ℕ → ℕ → Row → List ℕ
 putRow t i r = withFields rowWidths t (place i) 0 (rowNumbers r)

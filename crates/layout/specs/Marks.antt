@@ -1,9 +1,9 @@
--- Marks of addresses, by which a function sees that an address is new to it: for the code's own contracts, no part of what a
--- table is.
+-- Defines marks of addresses, by which a function sees that an address is new to it. Marks serve only the contracts of the code.
+-- They are no part of what a table is.
 use Prim.Native.Nat.{ℕ, _*_, _/_, _%_, _^_}
 use lib.Bits.{bitAnd}
 use Rattle.layout.specs.declared.address.Address.{Address}
 
--- the mark of an address, of those up to the last; two addresses may share a mark
+-- Returns the mark of an address, a number from 0 to `last`. Two addresses may share a mark.
 unfoldable pub mark : ℕ → Address → ℕ
 mark last a = bitAnd (a .0 % 2 ^ 48 * 40503 / 2 ^ 40) last

@@ -1,9 +1,9 @@
--- The head and the rows of a table as values: which are as they should be, and the steps that change them. What is defined here:
---   freshHead, headWith, headOk           a head: of a fresh table, with other counters and clock, as it should be
---   freeRow, isFree, isHeld, rowOk        a row: free or held, and as it should be
---   active, isThrough                     a valid row that has not expired, and one whose next hop is a neighbour
---   renewed, numbered                     what steps 1 and 2 of receiving make of a row
---   invalidated, raised                   what an error or a break makes of it
+-- Defines the head and the rows of a table as values: which are legal (PROTOCOL, 'Table'), and the steps that change them.
+--   freshHead, headWith, headOk           the head of a fresh table; a head with other counters and clock; a legal head
+--   freeRow, isFree, isHeld, rowOk        a free row; a legal row that is free, that is held, that is either
+--   active, isThrough                     a valid row that has not expired; an active row with a given next hop
+--   renewed, numbered                     what steps 1 and 2 of receiving do to a row
+--   invalidated, raised                   what a RERR or a break does to a row
 use Prim.Native.Nat.{ℕ, _+_, _-_, _^_}
 use mathlib.Core.Bool.{Bool, _&&_, _||_, not}
 use lib.Dec.{eqb, leb, ltb}
@@ -19,23 +19,25 @@ use Rattle.layout.specs.Layout.{allZero, rowNumbers}
 
 -- ---- limits
 
--- the largest clock, the largest expiry of a row, and the metric of a row that cannot be used
+-- The largest clock.
 abbrev pub maxClock : ℕ
 maxClock = 2 ^ 48 - 1
 
+-- The largest expiry of a row.
 abbrev pub maxExpiry : ℕ
 maxExpiry = 2 ^ 48 + 2 ^ 32
 
+-- The metric of a row that a RERR or a break has raised.
 abbrev pub unreachable : Metric
 unreachable = record { 0 = 2 ^ 32 - 1 }
 
 -- ---- the head
 
--- of a fresh table: the given address and number, the rest zero
+-- Returns the head of a fresh table, which has the given address and number, and zero everywhere else.
 abbrev pub freshHead : Address → SequenceNumber → Head
 freshHead own number = record { own = own; zero2 = 0; number = number; request = record { 0 = 0 }; clock = 0; zero8 = 0 }
 
--- with this own number, request ID and latest clock
+-- Returns the head h with the given own number, request ID and latest clock.
 unfoldable pub headWith : SequenceNumber → RequestId → ℕ → Head → Head
 headWith number request clock h =
     record { own = h .own; zero2 = h .zero2; number = number; request = request; clock = clock; zero8 = h .zero8 }
@@ -59,27 +61,27 @@ freeRow =
       expiry = 0;
     }
 
--- a free row is all zero
+-- A free row is zero in all 32 octets.
 unfoldable pub isFree : Row → Bool
 isFree r = allZero (rowNumbers r)
 
--- what number known 0 asks: number 0, hop count 1, next hop equal to destination
+-- If the number is not known, the number is 0, the hop count is 1, and the next hop equals the destination.
 unfoldable pub isUnnumbered : Row → Bool
 isUnnumbered r = eqb (r .number .0) 0 && eqb (r .hops .0) 1 && same (r .next) (r .destination)
 
--- an individual address other than the own one
+-- Reports whether a is an individual address other than the own address.
 unfoldable pub isOther : Address → Address → Bool
 isOther own a = individual a && not (same a own)
 
--- status 1 or 2, number known 0 or 1, and zero
+-- Reports whether the status is 1 or 2, number known is 0 or 1, and the zero octet is zero.
 unfoldable pub statusOk : Row → Bool
 statusOk r = leb 1 (r .status) && leb (r .status) 2 && leb (r .known) 1 && eqb (r .zero) 0
 
--- metric at least 1, and expiry at most 2^48 + 2^32
+-- Reports whether the metric is at least 1, and the expiry is at most 2^48 + 2^32.
 unfoldable pub boundsOk : Row → Bool
 boundsOk r = leb 1 (r .metric .0) && leb (r .expiry) maxExpiry
 
--- a held row of the point with address own
+-- Reports whether r is a legal held row in the table of the point with address `own`.
 unfoldable pub isHeld : Address → Row → Bool
 isHeld own r =
     statusOk r && isOther own (r .destination) && isOther own (r .next) && boundsOk r
@@ -88,17 +90,17 @@ isHeld own r =
 unfoldable pub rowOk : Address → Row → Bool
 rowOk own r = isFree r || isHeld own r
 
--- a row is active at clock c if its status is 1 and c is below its expiry
+-- A row is active at clock c if its status is 1 and c is below its expiry.
 unfoldable pub active : ℕ → Row → Bool
 active c r = eqb (r .status) 1 && ltb c (r .expiry)
 
--- an active row with this next hop
+-- Reports whether r is active at clock c and has `hop` as its next hop.
 unfoldable pub isThrough : ℕ → Address → Row → Bool
 isThrough c hop r = active c r && same (r .next) hop
 
 -- ---- steps that take a row and give it back
 
--- valid with this next hop, metric, hop count and expiry; an existing number stays
+-- Makes the row valid with the given next hop, metric, hop count and expiry. A number that it has stays.
 unfoldable pub renewed : Address → Metric → HopCount → ℕ → Row → Row
 renewed next metric hops expiry r =
     record {
@@ -113,7 +115,7 @@ renewed next metric hops expiry r =
       expiry = expiry;
     }
 
--- with this number, which is then known
+-- Gives the row a number, which is then known.
 unfoldable pub numbered : SequenceNumber → Row → Row
 numbered number r =
     record {
@@ -128,7 +130,7 @@ numbered number r =
       expiry = r .expiry;
     }
 
--- no longer valid, the rest as it was
+-- Invalidates the row. All fields but the status stay.
 unfoldable pub invalidated : Row → Row
 invalidated r =
     record {
@@ -143,7 +145,7 @@ invalidated r =
       expiry = r .expiry;
     }
 
--- with this number, at metric 4,294,967,295
+-- Gives the row a number and metric 4,294,967,295.
 unfoldable pub raised : SequenceNumber → Row → Row
 raised number r =
     record {

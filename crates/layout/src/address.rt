@@ -3,7 +3,7 @@ ghost use mathlib.Core.Path.{_≡_};
 ghost use Rattle.layout.specs.Address.{addressOf, individual, octetsOf};
 ghost use Rattle.layout.specs.Marks.{mark};
 
-// Six octets as a little-endian number: the first octet is the lowest.
+// Holds six octets as a little-endian number: the first octet is the lowest.
 pub struct Address(pub u64);
 
 pub fn read(s: &[u8; 6]) -> Address
@@ -27,8 +27,8 @@ impl Address {
         (self.0 % 2 == 0) & (self.0 != 0)
     }
 
-    // Returns one of the marks up to the last, which is a power of two less one. The last octets count most, since boxes of one
-    // maker share the first ones.
+    // Returns the mark of the address, a number from 0 to `last`. Callers pass a power of two less one as `last`. The last
+    // octets of the address count most, because boxes of one maker share their first octets.
     pub fn mark(self, last: usize) -> usize
         ensures { λ r. ⌜ r ≡ mark last self ⌝ }
     {

@@ -12,7 +12,7 @@ ghost use Rattle.layout.specs.Row.{active, freeRow, freshHead, headWith,
 ghost use Rattle.layout.specs.Layout.{headAt, headNumbers, place, putHead, putRow, rowAt, rowOctets, Sized};
 ghost use Rattle.octets.specs.LittleEndian.{withFields};
 
-// Octets of the head and of a row, and how many rows there may be.
+// The head has 32 octets, each row has 32 octets, and a table has at most 128 rows.
 pub const HEAD_OCTETS: usize = 32;
 
 pub const ROW_OCTETS: usize = 32;
@@ -22,11 +22,11 @@ pub const MOST_ROWS: usize = 128;
 // Clocks have 48 bits.
 pub const MAX_CLOCK: u64 = 281474976710655;
 
-// The metric of a row that cannot be used.
+// The metric of a row that a RERR or a break has raised.
 const UNREACHABLE: u32 = 4294967295;
 
-// The fields of the head and of a row, in the order of the octets. A table has 0 in those called zero (refusal 21). Of a row,
-// known is 1 if its number is known, hops its hop count and next its next hop.
+// A head and a row have their fields in the order of the octets. In a table, `zero2`, `zero8` and `zero` are 0 (refusal 21). In
+// a row, `known` is 1 if the number is known, `hops` is the hop count, and `next` is the next hop.
 pub struct Head {
     pub own: Address,
     pub zero2: u16,
@@ -49,7 +49,7 @@ pub struct Row {
 }
 
 impl Head {
-    // Of a fresh table.
+    // Returns the head of a fresh table.
     pub fn fresh(own: Address, number: SequenceNumber) -> Self
         ensures { λ r. ⌜ r ≡ freshHead own number ⌝ }
     {
@@ -63,7 +63,7 @@ impl Head {
         }
     }
 
-    // The same head with these counters and this clock, which is all that a call changes of it.
+    // Returns the head with the given counters and clock. No call except fresh changes the other fields.
     pub fn with(mut self, number: SequenceNumber, request: RequestId, clock: u64) -> Self
         ensures { λ r. ⌜ r ≡ headWith number request clock self ⌝ }
     {
@@ -97,14 +97,14 @@ impl Row {
         (self.status == 1) & (clock < self.expiry)
     }
 
-    // Whether the row is active, with this next hop.
+    // Reports whether the row is active and has `hop` as its next hop.
     pub fn is_through(self, clock: u64, hop: Address) -> bool
         ensures { λ r. ⌜ r ≡ isThrough clock hop self ⌝ }
     {
         self.is_active(clock) & (self.next.0 == hop.0)
     }
 
-    // Valid, along this path; the number stays.
+    // Makes the row valid with the given path. The number stays.
     pub fn renewed(mut self, next: Address, metric: Metric, hops: HopCount, expiry: u64) -> Self
         ensures { λ r. ⌜ r ≡ renewed next metric hops expiry self ⌝ }
     {
@@ -116,7 +116,7 @@ impl Row {
         self
     }
 
-    // With this number, which is then known.
+    // Gives the row a number, which is then known.
     pub fn numbered(mut self, number: SequenceNumber) -> Self
         ensures { λ r. ⌜ r ≡ numbered number self ⌝ }
     {
@@ -125,7 +125,7 @@ impl Row {
         self
     }
 
-    // No longer valid; the row stays, and with it its number.
+    // Invalidates the row. It stays held and keeps its number.
     pub fn invalidated(mut self) -> Self
         ensures { λ r. ⌜ r ≡ invalidated self ⌝ }
     {
@@ -133,7 +133,8 @@ impl Row {
         self
     }
 
-    // With this number, at the largest metric: only a newer number, or this one with a smaller metric, is taken again.
+    // Gives a row of known number a new number and the largest metric. From then on, refusal 25 lets through only a newer
+    // number, or an equal number with a smaller metric.
     pub fn raised(mut self, number: SequenceNumber) -> Self
         ensures { λ r. ⌜ r ≡ raised number self ⌝ }
     {
@@ -157,7 +158,7 @@ pub fn read_head(table: &[u8]) -> Head
     }
 }
 
-// The numbers of a head, in the order of the octets.
+// Returns the numbers of a head, in the order of the octets.
 fn head_numbers(h: Head) -> [u64; 6]
     ensures { λ r. ⌜ r ≡ headNumbers h ⌝ }
 {
@@ -212,7 +213,7 @@ pub fn read_row(table: &[u8], i: usize) -> Row
     }
 }
 
-// The first four octets of a row: status, number known, hop count, zero.
+// Writes the first four octets of a row: status, number known, hop count, zero.
 fn write_status(table: &mut [u8], at: usize, row: Row)
     requires { ⌜ at + 4 ≤ length (now table) ⌝ }
     ensures { λ _. ⌜ now (table .exit)
@@ -225,7 +226,7 @@ fn write_status(table: &mut [u8], at: usize, row: Row)
     octets::write_u8(table, at + 3, row.zero);
 }
 
-// Field by field, and not by a list of widths: the compiler then stores each field whole.
+// Writes a row field by field, not by a list of widths, because the compiler then stores each field whole.
 pub fn write_row(table: &mut [u8], i: usize, row: Row)
     requires { ⌜ place i + rowOctets ≤ length (now table) ⌝ }
     ensures { λ _. ⌜ now (table .exit) ≡ putRow (now (table .entry)) i row ⌝ }

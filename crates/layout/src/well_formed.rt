@@ -1,4 +1,4 @@
-// Tests of a head and of a row: what refusal 21 asks of each alone.
+// Tests what refusal 21 asks of a head alone and of a row alone.
 use crate::address::Address;
 use crate::row::Head;
 use crate::row::MAX_CLOCK;

@@ -1,4 +1,4 @@
--- Steps 1 and 2, case by case, as the code asks it.
+-- Steps 1 and 2, case by case, in the form that the proofs of the code need.
 use Prim.Native.Nat.{ℕ, _+_}
 use mathlib.Core.Path.{_≡_, refl, sym, ap, _∙_}
 use mathlib.Core.Bool.{Bool, true, false, not, _&&_, _||_}
@@ -38,7 +38,7 @@ row-or-new-destination t d = by (rowFor t d) refl
     by none e = refl
     by (some r) e = row-destination t d r e
 
--- its place is still that of its destination, if a step leaves this
+-- The place found is still that of the row's destination, if the step leaves the destination as it is.
 place-stays : (t : List ℕ) (d : Address) (f : Found) → f ≡ findRow t d → (r : Row) → r ≡ rowOrNew d (rowFor t d) → (s : Row) → s .destination ≡ r .destination
     → f ≡ findRow t (s .destination)
 place-stays t d f fe r re s same-one =
@@ -87,7 +87,7 @@ module _ (a : Arrival) where
   transmitter-renewed lifetime r expiry ee s se = se ∙ ap (λ (e : ℕ). renewed (a .transmitter) (a .link) (record { 0 = 1 }) e r) ee
 
   module _ (t : List ℕ) (f : Found) (fe : f ≡ findRow t (a .transmitter)) (r : Row) (re : r ≡ rowOrNew (a .transmitter) (rowFor t (a .transmitter))) where
-    -- a row that is to be made takes the link
+    -- An absent row is always made.
     taken : (isNothing f || rowTakesLink a r) ≡ takesLink a (rowFor t (a .transmitter))
     unfolding takesLink
     taken = rw re (by f fe)
@@ -111,7 +111,7 @@ module _ (a : Arrival) where
         unfolding transmitterLearnt
         transmitter-stored u ue = rw (sym taken ∙ sym be ∙ not-false b takes) (ue ∙ ap (store t) (se ∙ ap (transmitterRow a lifetime) re))
 
--- ---- both
+-- ---- both steps
 
 module _ (a : Arrival) (p : PathInfo) (t u : List ℕ) (ue : u ≡ subjectLearnt a p t) where
   pub subject-alone : a .transmitter .0 ≡ p .subject .0 → u ≡ learnt a p t

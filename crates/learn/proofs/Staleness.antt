@@ -1,4 +1,4 @@
--- Refusal 25, case by case, as the code asks it.
+-- Refusal 25, case by case, in the form that the proofs of the code need.
 use Prim.Native.Nat.{ℕ, _+_}
 use mathlib.Core.Path.{_≡_}
 use mathlib.Core.Bool.{Bool, true, false, _&&_}

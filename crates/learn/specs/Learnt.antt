@@ -1,4 +1,5 @@
--- What becomes of the table where the rows are judged and a point learns in one function. For the code's own functions.
+-- Defines the table that `learn_by_rows` leaves. That function both checks the rows and learns. The definition serves only the
+-- contracts of the code.
 use Prim.Native.Nat.{ℕ}
 use mathlib.Core.List.{List}
 use Rattle.element.specs.declared.PathInfo.{PathInfo}
@@ -7,7 +8,8 @@ use Rattle.rules.specs.Learn.{learnt}
 use Rattle.calls.specs.declared.Answer.{Answer}
 use Rattle.calls.specs.declared.Answer.the-variants.{Accepted, Refused}
 
--- Returns the table t after the checks of an element with the path p: with what is learnt from it where they accept.
+-- Returns the table t after the checks of an element with the path p. If the checks accept, the point learns from the element. If
+-- the checks refuse, t is unchanged.
 abbrev pub learntIf : Answer → Arrival → PathInfo → List ℕ → List ℕ
 learntIf Accepted a p t = learnt a p t
 learntIf (Refused n) a p t = t

@@ -1,5 +1,5 @@
-// What a received RANN, RREQ or RREP has to do with rows: whether it is stale, whether there are enough free
-// rows, and what a point learns from it.
+// Checks a received RANN, RREQ or RREP against the rows, and learns from it. The checks ask whether the element is stale, and
+// whether enough rows are free.
 mod room;
 mod stale;
 mod steps;
@@ -20,7 +20,7 @@ ghost use Rattle.rules.specs.Receive.{rowChecks};
 ghost use Rattle.calls.specs.Answers.{answerTo};
 ghost use Rattle.learn.specs.Learnt.{learntIf};
 
-// Refuses by the rows, 24, 25 and 27, or does steps 1 and 2 where the subject was found.
+// Checks refusals 24, 25 and 27. If none applies, does steps 1 and 2. It looks for the subject's row only once.
 pub fn learn_by_rows(table: &mut [u8], a: Arrival, p: PathInfo) -> Answer
     requires { ⌜ Sized (now table) ⌝ }
     requires { ⌜ a .clock ≤ maxClock ⌝ }

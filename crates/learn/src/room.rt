@@ -1,4 +1,4 @@
-// Refusal 27: more new rows are needed than are free.
+// Checks refusal 27: the element needs more new rows than are free.
 use element::PathInfo;
 use rules::Arrival;
 use table::search;
@@ -12,7 +12,7 @@ ghost use Rattle.table.specs.Table.{findRow, freeRows};
 ghost use Rattle.layout.specs.Layout.{Sized};
 ghost use Rattle.rules.specs.Receive.{rowsNeeded};
 
-// How many new rows a destination needs where its row was looked for: one if it has none.
+// Returns how many new rows a destination needs, from the search for its row: one if it has none, otherwise zero.
 fn new_rows(found: Found) -> usize
     ensures { λ r. ⌜ r ≡ cond (isNothing found) 1 0 ⌝ }
     ensures { λ r. ⌜ r ≤ 1 ⌝ }
@@ -23,7 +23,8 @@ fn new_rows(found: Found) -> usize
     }
 }
 
-// For the subject, by the place where it was found, and for the transmitter if that is a different address.
+// Returns how many new rows the subject needs, plus those of the transmitter if it is a different address. `found` is the result
+// of the search for the subject's row.
 fn rows_needed(table: &[u8], found: Found, a: Arrival, p: PathInfo) -> usize
     requires { ⌜ Sized (now table) ⌝ }
     requires { ⌜ found ≡ findRow (now table) (p .subject) ⌝ }

@@ -1,4 +1,4 @@
-// Refusal 25: an older number than that of the subject's row, or an equal one with a metric that is not smaller.
+// Checks refusal 25: the received number is older than the known number of the subject's row, or equal without a smaller metric.
 use element::PathInfo;
 use layout::row;
 use layout::row::Row;
@@ -9,7 +9,8 @@ ghost use Rattle.rules.specs.Receive.{isStale, isStaleFor};
 ghost use Rattle.layout.specs.Layout.{Sized};
 ghost use Rattle.table.specs.Table.{findRow};
 
-// By the row, active or not: an older number, or an equal one with a metric that is not smaller.
+// Reports whether the row r, active or not, makes the element stale: its number is known, and the received number is older, or
+// equal with a metric that is not smaller.
 fn is_stale_for(a: Arrival, p: PathInfo, r: Row) -> bool
     ensures { λ b. ⌜ b ≡ isStaleFor a p r ⌝ }
 {
@@ -25,7 +26,7 @@ fn is_stale_for(a: Arrival, p: PathInfo, r: Row) -> bool
     (received.0 == stored.0) & (r.metric.0 as u64 <= metric)
 }
 
-// By the place where the subject was found.
+// Reports whether the subject's row makes the element stale. `found` is the result of the search for the subject's row.
 pub fn is_stale(table: &[u8], found: Found, a: Arrival, p: PathInfo) -> bool
     requires { ⌜ Sized (now table) ⌝ }
     requires { ⌜ found ≡ findRow (now table) (p .subject) ⌝ }

@@ -1,4 +1,4 @@
-// Steps 1 and 2 of receiving: the rows of the subject and of the transmitter.
+// Does steps 1 and 2 of docs/PROTOCOL.md, 'Learning': the subject's row and the transmitter's row.
 use calls::here;
 use counters::HopCount;
 use counters::Metric;
@@ -21,7 +21,7 @@ ghost use Rattle.layout.specs.Layout.{Sized};
 ghost use Rattle.rules.specs.Learn.{expiryOf, Extends, learnt, newRow, rowOrNew, rowTakesLink};
 ghost use Rattle.rules.specs.Learn.{subjectLearnt, subjectRow, transmitterLearnt, transmitterRow};
 
-// A row that is to be made, with number unknown.
+// Returns the row that a step starts from if the destination has none. Its number is unknown.
 fn new_row(destination: Address) -> Row
     ensures { λ r. ⌜ r ≡ newRow destination ⌝ }
 {
@@ -38,7 +38,7 @@ fn new_row(destination: Address) -> Row
     }
 }
 
-// The row that a step changes, where its destination was found.
+// Returns the row that a step starts from: the row at `found`, otherwise a new row.
 fn row_or_new(table: &[u8], found: Found, destination: Address) -> Row
     requires { ⌜ Sized (now table) ⌝ }
     requires { ⌜ found ≡ findRow (now table) destination ⌝ }
@@ -50,7 +50,7 @@ fn row_or_new(table: &[u8], found: Found, destination: Address) -> Row
     }
 }
 
-// Clock + lifetime, or the stored expiry if the row was active and that is larger.
+// Returns clock + lifetime, or the stored expiry if the row was active and its stored expiry is larger.
 fn expiry_of(clock: u64, lifetime: u32, r: Row) -> u64
     requires { ⌜ clock ≤ maxClock ⌝ }
     ensures { λ e. ⌜ e ≡ expiryOf clock lifetime r ⌝ }
@@ -63,7 +63,7 @@ fn expiry_of(clock: u64, lifetime: u32, r: Row) -> u64
     expiry
 }
 
-// Step 1: valid with the received number, over the transmitter.
+// Step 1: makes the row valid with the received number and the transmitter as next hop.
 fn subject_row(a: Arrival, p: PathInfo, r: Row) -> Row
     requires { ⌜ a .clock ≤ maxClock ⌝ }
     requires { ⌜ Extends a p ⌝ }
@@ -87,8 +87,8 @@ fn learn_subject(table: &mut [u8], found: Found, a: Arrival, p: PathInfo)
     store::put_row(table, found, subject_row(a, p, r));
 }
 
-// An inactive row takes the link if its number is unknown or the link metric is at most its metric; an active one if that is
-// below it.
+// Reports whether step 2 changes the row. An inactive row is changed if its number is unknown or the link metric is at most its
+// metric. An active row is changed if the link metric is below its metric.
 fn row_takes_link(a: Arrival, r: Row) -> bool
     ensures { λ b. ⌜ b ≡ rowTakesLink a r ⌝ }
 {
@@ -98,14 +98,14 @@ fn row_takes_link(a: Arrival, r: Row) -> bool
     (r.known == 0) | (a.link.0 <= r.metric.0)
 }
 
-// So does one that is to be made.
+// Reports whether step 2 makes or changes the row. An absent row is always made.
 fn takes_link(a: Arrival, found: Found, r: Row) -> bool
     ensures { λ b. ⌜ b ≡ (isNothing found || rowTakesLink a r) ⌝ }
 {
     search::is_nothing(found) | row_takes_link(a, r)
 }
 
-// Step 2: valid over the link itself; an existing number stays.
+// Step 2: makes the row valid over the link itself. A number that it has stays.
 fn transmitter_row(a: Arrival, lifetime: u32, r: Row) -> Row
     requires { ⌜ a .clock ≤ maxClock ⌝ }
     ensures { λ s. ⌜ s ≡ transmitterRow a lifetime r ⌝ }
@@ -127,8 +127,8 @@ fn learn_transmitter(table: &mut [u8], a: Arrival, lifetime: u32)
     store::put_row(table, found, transmitter_row(a, lifetime, r));
 }
 
-// Step 1 where the subject was found, and step 2 if the transmitter is a different address. The subject comes first: it takes
-// the lower of two free rows.
+// Does step 1, and step 2 if the transmitter is not the subject. `found` is the result of the search for the subject's row.
+// Step 1 comes first, so that the subject's row takes the lower of two free rows.
 pub fn learn(table: &mut [u8], found: Found, a: Arrival, p: PathInfo)
     requires { ⌜ Sized (now table) ⌝ }
     requires { ⌜ found ≡ findRow (now table) (p .subject) ⌝ }

@@ -1,4 +1,4 @@
--- The matches written one after another, and the RERR that they make, as the code asks it.
+-- Laws of writing the matches one after another, and of the RERR that they make, in the form that the proofs of the code need.
 use Prim.Native.Nat.{ℕ, _+_, _-_, _*_, _/_, _<_, _≤_}
 use mathlib.Core.Path.{_≡_, refl, sym, ap, _∙_}
 use mathlib.Core.Bool.{Bool, true, false, not, cond}
@@ -36,7 +36,7 @@ use Rattle.rules.proofs.FrameOctets.{one-frame}
 use Rattle.matches.specs.Report.{matchOctets, octetsIf}
 use Rattle.matches.proofs.LostBy.{match-absent, match-found}
 
--- those of these destinations that match
+-- Returns the matches among the destinations named.
 abbrev matched : List ℕ → Arrival → List LostDestination → List LostDestination
 matched t a named = filter (matches t (a .clock) (a .transmitter)) named
 
@@ -94,7 +94,7 @@ pub reporting-more : (t : List ℕ) (a : Arrival) (part out₀ : List ℕ) (at n
 reporting-more t a part out₀ at n i place out so-far l =
     listing-more (matchOctets t a) (lostAt part) n 10 out₀ at i place out so-far l (match-short t a (lostAt part i))
 
--- ---- the RERR from place at on, by the place after the matches
+-- ---- the RERR from place `at` on, by the place after the matches
 
 module _ (t : List ℕ) (a : Arrival) (part : List ℕ) (at end : ℕ) (pe : end ≡ at + 10 + length (flatMap lostOctets (matched t a (lostIn part)))) where
   many : end ≡ at + 10 + 10 * length (matched t a (lostIn part))

@@ -1,4 +1,4 @@
--- Which destinations match, case by case and one after another, as the code asks it.
+-- Which destinations match, case by case and one after another, in the form that the proofs of the code need.
 use Prim.Native.Nat.{ℕ, _+_, _-_, _<_, _≤_}
 use mathlib.Core.Path.{_≡_, sym, ap, _∙_}
 use mathlib.Core.Bool.{Bool, true, false, not, _&&_}
@@ -31,7 +31,7 @@ module _ (t : List ℕ) (c : ℕ) (hop : Address) (m : LostDestination) (f : Fou
   unfolding matches
   match-found i e r re b be = rw (row-at t (m .address) f fe i e r re) be
 
--- one after another: g says whether some match
+-- For a loop over the destinations: g says whether any of them is a match.
 module _ (t : List ℕ) (c : ℕ) (hop : Address) (part : List ℕ) (n i : ℕ) (g : Bool) where
   module _ (l : i < n) (m : LostDestination) (me : m ≡ lostAt part i) (b : Bool) (be : b ≡ matches t c hop m) where
     pub this-matches : b ≡ true → any (matches t c hop) (each (lostAt part) i (n - i)) ≡ g → false ≡ not g

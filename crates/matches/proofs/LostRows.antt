@@ -1,4 +1,4 @@
--- What becomes of the rows of the matches, case by case, as the code asks it.
+-- What a RERR does to the rows of its matches, case by case, in the form that the proofs of the code need.
 use Prim.Native.Nat.{ℕ, _+_, _-_, _<_, _≤_}
 use mathlib.Core.Path.{_≡_, sym, ap, _∙_}
 use mathlib.Core.Bool.{Bool, true, false, not, cond}
@@ -24,7 +24,7 @@ use Rattle.matches.specs.declared.rows.Beside.{Beside}
 use Rattle.matches.specs.declared.rows.Beside.the-variants.{Number, Nothing}
 use Rattle.matches.specs.Rows.{numberIn}
 
--- ---- the number beside a destination: g is what all entries give
+-- ---- the number next to a destination: g is the result for all entries
 
 module _ (part : List ℕ) (d : Address) (n : ℕ) where
   abbrev besideFrom : ℕ → Option SequenceNumber

@@ -1,5 +1,5 @@
--- What the RERR that goes on has of a destination. For the code's own functions: `matches-octets` says that all of these are
--- the octets of those that match.
+-- Defines the octets that a destination has in the forwarded RERR. It serves only the contracts of the code. The law
+-- `matches-octets` says that the octets for all destinations, put together, are the octets of the matches.
 use Prim.Native.Nat.{ℕ}
 use mathlib.Core.Bool.{Bool, cond}
 use mathlib.Core.List.{List, []}
@@ -8,10 +8,10 @@ use Rattle.element.specs.Entries.{lostOctets}
 use Rattle.rules.specs.declared.Arrival.{Arrival}
 use Rattle.rules.specs.Errors.{matches}
 
--- the octets of a destination that goes on; none of another
+-- Returns the octets of a destination that is forwarded. A destination that is not forwarded has none.
 unfoldable pub octetsIf : (goesOn : Bool) → LostDestination → List ℕ
 octetsIf goesOn m = cond goesOn (lostOctets m) []
 
--- a destination goes on if it matches
+-- A destination is forwarded if it matches.
 unfoldable pub matchOctets : List ℕ → Arrival → LostDestination → List ℕ
 matchOctets t a m = octetsIf (matches t (a .clock) (a .transmitter) m) m

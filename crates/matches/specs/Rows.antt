@@ -1,4 +1,4 @@
--- The number beside a destination. For the code's own functions.
+-- Defines the number that an answer of `number_beside` stands for. It serves only the contracts of the code.
 use mathlib.Core.Option.{Option, none, some}
 use Rattle.counters.specs.declared.SequenceNumber.{SequenceNumber}
 use Rattle.matches.specs.declared.rows.Beside.{Beside}

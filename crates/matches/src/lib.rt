@@ -1,5 +1,5 @@
-// What a received RERR does: which of its destinations match, the RERR that goes on with these, and what becomes of their rows.
-// The RERR is written before the rows are changed, since a row that is lost matches no more.
+// Handles a received RERR: finds the matches, writes the RERR that the point forwards, and invalidates the rows of the matches.
+// The caller must write the RERR before it changes the rows, because an invalidated row no longer matches.
 pub mod matching;
 pub mod report;
 pub mod rows;

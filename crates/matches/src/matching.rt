@@ -1,4 +1,4 @@
-// The matches of a RERR: destinations that this point reaches through its transmitter.
+// Finds the matches of a RERR: destinations with an active row of known number whose next hop is the transmitter.
 use element::LostDestination;
 use element::list;
 use layout::row;
@@ -13,7 +13,7 @@ ghost use Rattle.rules.specs.Errors.{isLostBy, matches};
 ghost use Rattle.rules.specs.Lists.{any};
 ghost use Rattle.layout.specs.Layout.{Sized};
 
-// Whether the row is active, of known number, with the transmitter as next hop.
+// Reports whether the row is active, has a known number, and has the transmitter as its next hop.
 pub fn is_lost_by(a: Arrival, r: Row) -> bool
     ensures { λ b. ⌜ b ≡ isLostBy (a .clock) (a .transmitter) r ⌝ }
 {
@@ -30,7 +30,7 @@ pub fn is_match(table: &[u8], a: Arrival, m: LostDestination) -> bool
     is_lost_by(a, row::read_row(table, i))
 }
 
-// Refusal 26.
+// Checks refusal 26: no destination in `part` is a match.
 pub fn matches_nothing(table: &[u8], a: Arrival, part: &[u8]) -> bool
     requires { ⌜ Sized (now table) ⌝ }
     ensures { λ b. ⌜ b ≡ not (any (matches (now (table .entry)) (a .clock) (a .transmitter)) (lostIn (now (part .entry)))) ⌝ }

@@ -1,4 +1,4 @@
-// The RERR that goes on: the matches, to all ones, with flags as received.
+// Writes the RERR that the point forwards to all ones: the matches, with flags as received.
 use crate::matching;
 use element::LostDestination;
 use element::RerrFields;
@@ -26,7 +26,7 @@ ghost use Rattle.rules.specs.Exit.{frameOctets};
 ghost use Rattle.matches.specs.Report.{matchOctets, octetsIf};
 ghost use Rattle.layout.specs.Layout.{Sized};
 
-// Writes the destination m if the RERR loses m's row r; returns the place after it.
+// Writes the destination m if its row r is lost by the RERR. Returns the place after what it wrote.
 fn write_if_lost(output: &mut [u8], at: usize, a: Arrival, r: Row, m: LostDestination) -> usize
     requires { ⌜ at + sizeOf ListKind.LostDestinations ≤ length (now output) ⌝ }
     ensures { λ p. ⌜ p ≡ at + length (octetsIf (isLostBy (a .clock) (a .transmitter) r) m) ⌝ }
@@ -39,7 +39,7 @@ fn write_if_lost(output: &mut [u8], at: usize, a: Arrival, r: Row, m: LostDestin
     writing::write_lost(output, at, m)
 }
 
-// Writes the destination m if it matches; returns the place after it.
+// Writes the destination m if it is a match. Returns the place after what it wrote.
 fn write_if_match(
     output: &mut [u8],
     at: usize,
@@ -58,7 +58,7 @@ fn write_if_match(
     }
 }
 
-// The matches of part, from place at on; answers the place after them.
+// Writes the matches in `part` from place `at` on. Returns the place after them.
 fn write_matches(output: &mut [u8], at: usize, table: &[u8], a: Arrival, part: &[u8]) -> usize
     requires { ⌜ Sized (now table) ⌝ }
     requires { ⌜ at + length (now part) ≤ length (now output) ⌝ }
@@ -80,8 +80,8 @@ fn write_matches(output: &mut [u8], at: usize, table: &[u8], a: Arrival, part: &
     place
 }
 
-// The RERR with the matches from place at on; answers its octets. Its start has the count of matches, and so is written
-// when these are counted.
+// Writes the frame of the RERR with the matches from place `at` on. Returns how many octets the frame has. It writes the start
+// of the RERR last, because the start has the count of matches.
 pub fn write_error(
     output: &mut [u8],
     at: usize,

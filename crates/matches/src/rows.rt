@@ -1,4 +1,4 @@
-// What a RERR makes of the rows of its matches.
+// Invalidates the rows of the matches of a RERR.
 use crate::matching;
 use counters::SequenceNumber;
 use element::list;
@@ -17,7 +17,7 @@ ghost use Rattle.element.specs.Entries.{lostIn};
 ghost use Rattle.rules.specs.Errors.{erred, erredWith, isMatch, numberBeside};
 ghost use Rattle.matches.specs.Rows.{numberIn};
 
-// The number beside a destination that the RERR names, if it does.
+// The number next to a destination in the RERR, or nothing if the RERR does not name the destination.
 pub enum Beside {
     Number(SequenceNumber),
     Nothing,
@@ -39,7 +39,8 @@ fn number_beside(part: &[u8], d: Address) -> Beside
     Beside::Nothing
 }
 
-// The row stays held; a received number that is newer is taken, so that what was learnt under the old one is stale.
+// Invalidates the row, which stays held. If the received number is newer, the row takes it, so that elements with the old
+// number are stale.
 fn erred_with(number: SequenceNumber, r: Row) -> Row
     ensures { λ s. ⌜ s ≡ erredWith (some number) r ⌝ }
 {
@@ -51,7 +52,7 @@ fn erred_with(number: SequenceNumber, r: Row) -> Row
     lost.raised(number)
 }
 
-// Row i, if it is that of a match.
+// Invalidates row i if it is the row of a match.
 fn lose_row(table: &mut [u8], i: usize, a: Arrival, part: &[u8])
     requires { ⌜ place i + rowOctets ≤ length (now table) ⌝ }
     ensures { λ _. ⌜ now (table .exit)
@@ -68,7 +69,7 @@ fn lose_row(table: &mut [u8], i: usize, a: Arrival, part: &[u8])
     row::write_row(table, i, erred_with(number, r));
 }
 
-// Those of the n first rows.
+// Invalidates each of the first n rows that is the row of a match.
 fn lose_rows(table: &mut [u8], n: usize, a: Arrival, part: &[u8])
     requires { ⌜ place n ≤ length (now table) ⌝ }
     ensures { λ _. ⌜ now (table .exit)

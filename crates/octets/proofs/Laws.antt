@@ -1,4 +1,4 @@
--- Laws of numbers in octets and of runs of fields, each once for all widths.
+-- Laws of numbers in octets and of runs of fields. Each law holds for all widths.
 use Prim.Native.Nat.{ℕ, zero, suc, _+_, _-_, _*_, _/_, _%_, _^_, _<_, _≤_}
 use mathlib.Core.Path.{_≡_, refl, sym, ap, ap₂, _∙_}
 use mathlib.Core.Logic.{_⊎_, inl, inr, ⊎-elim}
@@ -17,7 +17,7 @@ use Rattle.octets.specs.LittleEndian.{numberAt, numberOctets, overwrite,
 
 -- ---- numbers that fields can hold
 
--- there is one number for each field, and each fits its field
+-- States that there is one number for each field, and that each number fits its field.
 unfoldable pub FitFields : List ℕ → List ℕ → Type 0
 FitFields [] [] = Unit {0}
 FitFields [] (x ∷ xs) = ⊥
@@ -26,13 +26,13 @@ FitFields (w ∷ ws) (x ∷ xs) = (x < 256 ^ w) × FitFields ws xs
 
 -- ---- one number
 
--- a number of m + n octets is the number of its first m and that of its last n
+-- A number of m + n octets is the number in its first m octets and, above it, the number in its last n octets.
 pub split : (m n : ℕ) (s : List ℕ) (at : ℕ) → numberAt (m + n) s at ≡ numberAt m s at + 256 ^ m * numberAt n s (at + m)
 unfolding numberAt
 split zero n s at = rw (zero-add, add-zero) (omega arith)
 split (suc m) n s at = rw (suc-add, add-suc, ← suc-add, pow-suc) (omega (arith, split m n s (suc at)))
 
--- and so two numbers that were read one after the other make one
+-- Two numbers that are read one after the other make one number.
 module _ (s : List ℕ) (at a b : ℕ) where
   joined : (m n : ℕ) → a ≡ numberAt m s at → b ≡ numberAt n s (at + m) → a + 256 ^ m * b ≡ numberAt (m + n) s at
   joined m n ae be = rw (ae, be, split m n s at)
@@ -49,7 +49,7 @@ module _ (s : List ℕ) (at a b : ℕ) where
   pub read-8 : a ≡ numberAt 4 s at → b ≡ numberAt 4 s (at + 4) → a + 4294967296 * b ≡ numberAt 8 s at
   read-8 = joined 4 4
 
--- the clauses of `withNumber` as equations: `rw` sees a call only where the definition is shut
+-- The clauses of `withNumber` as equations. `rw` sees a call only where the definition is not unfolded.
 with-zero : (s : List ℕ) (at x : ℕ) → withNumber zero s at x ≡ s
 unfolding withNumber overwrite numberOctets
 with-zero s at x = refl
@@ -58,7 +58,7 @@ with-suc : (n : ℕ) (s : List ℕ) (at x : ℕ) → withNumber (suc n) s at x �
 unfolding withNumber overwrite numberOctets
 with-suc n s at x = refl
 
--- a number written in two parts, the low one in m octets and the high one in the n after them
+-- Writing a low part in m octets, and a high part in the n octets after them, writes the whole number.
 pub number-parts : (m n : ℕ) (s : List ℕ) (at low high : ℕ) → low < 256 ^ m
     → withNumber n (withNumber m s at low) (at + m) high ≡ withNumber (m + n) s at (low + 256 ^ m * high)
 number-parts zero n s at low high small = rw (with-zero, add-zero, zero-add) (ap (withNumber n s at) (omega arith))
@@ -76,7 +76,7 @@ number-parts (suc m) n s at low high small =
     others : low / 256 + 256 ^ m * high ≡ (low + 256 ^ suc m * high) / 256
     others = rw pow-suc (omega arith)
 
--- the same of a number that has these parts
+-- Applies `number-parts` to a number x with the parts low and high.
 parted : (m n : ℕ) (s t u : List ℕ) (at x low high : ℕ) → low < 256 ^ m → x ≡ low + 256 ^ m * high
     → t ≡ withNumber m s at low → u ≡ withNumber n t (at + m) high → u ≡ withNumber (m + n) s at x
 parted m n s t u at x low high small xe te ue =
@@ -86,7 +86,7 @@ pub written-1 : (s : List ℕ) (at x : ℕ) → x < 256 → set s at x ≡ withN
 unfolding withNumber overwrite numberOctets
 written-1 s at x small = ap (set s at) (omega arith)
 
--- the second of two octets has its place when the first is written
+-- The second of two octets still has its place after the first octet is written.
 pub second-in : (s : List ℕ) (at x : ℕ) → at + 2 ≤ length s → at + 1 < length (set s at x)
 second-in s at x l = omega (arith, length-set s at x)
 
@@ -101,7 +101,7 @@ module _ (s t u : List ℕ) (at x : ℕ) where
   pub written-8 : t ≡ withNumber 4 s at (x % 4294967296) → u ≡ withNumber 4 t (at + 4) (x / 4294967296) → u ≡ withNumber 8 s at x
   written-8 = parted 4 4 s t u at x (x % 4294967296) (x / 4294967296) (omega arith) (omega arith)
 
--- what lies above the octets written plays no part
+-- The part of x above the octets written plays no part.
 lowest-alone : (m : ℕ) (s u : List ℕ) (at x low high : ℕ) → low < 256 ^ m → x ≡ low + 256 ^ m * high → u ≡ withNumber m s at low → u ≡ withNumber m s at x
 lowest-alone m s u at x low high small xe ue =
     parted m 0 s u u at x low high small xe ue (sym (with-zero u (at + m) high)) ∙ ap (λ (k : ℕ). withNumber k s at x) (add-zero m)
@@ -120,7 +120,7 @@ length-number (suc n) s at x = length-number n (set s at (x % 256)) (suc at) (x 
 
 -- ---- read after write
 
--- an octet outside of what is written stays
+-- An octet outside the octets written stays.
 octet-other : (n : ℕ) (s : List ℕ) (at x k : ℕ) → (k < at) ⊎ (at + n ≤ k) → getD (withNumber n s at x) k 0 ≡ getD s k 0
 unfolding withNumber overwrite numberOctets
 octet-other zero s at x k h = refl
@@ -128,7 +128,7 @@ octet-other (suc n) s at x k h =
     octet-other n (set s at (x % 256)) (suc at) (x / 256) k (⊎-elim (λ l. inl (omega arith)) (λ l. inr (omega arith)) h)
     ∙ getD-set-other s at k (x % 256) 0 (⊎-elim (λ l. omega arith) (λ l. omega arith) h)
 
--- one inside does not depend on what stood there
+-- An octet inside the octets written does not depend on what stood there.
 octet-overwrite : (n : ℕ) (s u : List ℕ) (at x k : ℕ) → length s ≡ length u → at + n ≤ length s → at ≤ k → k < at + n
     → getD (withNumber n s at x) k 0 ≡ getD (withNumber n u at x) k 0
 unfolding withNumber overwrite numberOctets
@@ -142,14 +142,14 @@ octet-overwrite (suc n) s u at x k e l h g =
     first : (v : List ℕ) → at < length v → getD (withNumber n (set v at (x % 256)) (suc at) (x / 256)) at 0 ≡ x % 256
     first v m = octet-other n (set v at (x % 256)) (suc at) (x / 256) at (inl (omega arith)) ∙ getD-set-same v at (x % 256) 0 m
 
--- numbers that lie in octets that agree are equal
+-- If the octets of two numbers agree, the numbers are equal.
 agree : (n : ℕ) (s t : List ℕ) (at : ℕ) → ((k : ℕ) → at ≤ k → k < at + n → getD s k 0 ≡ getD t k 0) → numberAt n s at ≡ numberAt n t at
 unfolding numberAt
 agree zero s t at h = refl
 agree (suc n) s t at h =
     ap₂ (λ (b x : ℕ). b + 256 * x) (h at (omega arith) (omega arith)) (agree n s t (suc at) (λ k l g. h k (omega arith) (omega arith)))
 
--- a number that is written is read back
+-- Reading returns the number that was written.
 pub number-same : (n : ℕ) (s : List ℕ) (at x : ℕ) → at + n ≤ length s → x < 256 ^ n → numberAt n (withNumber n s at x) at ≡ x
 unfolding numberAt withNumber overwrite numberOctets
 number-same zero s at x h b = omega arith
@@ -160,7 +160,7 @@ number-same (suc n) s at x h b =
     let rest = number-same n t (suc at) (x / 256) (rw length-set (omega arith)) (omega arith) in
     omega arith
 
--- a number of n octets is below 256 ^ n
+-- A number of n octets is below 256 ^ n.
 pub number-bound : (n : ℕ) (s : List ℕ) (at : ℕ) → Octets s → numberAt n s at < 256 ^ n
 unfolding numberAt Octets
 number-bound zero s at o = omega arith
@@ -175,7 +175,7 @@ octet-zero zero k = refl
 octet-zero (suc n) zero = refl
 octet-zero (suc n) (suc k) = octet-zero n k
 
--- every number in them is zero
+-- Every number in zero octets is zero.
 pub number-zero : (w n at : ℕ) → numberAt w (zeros n) at ≡ 0
 unfolding numberAt
 number-zero zero n at = refl
@@ -202,7 +202,7 @@ pub octets-zero : (n : ℕ) → Octets (zeros n)
 unfolding Octets
 octets-zero n k = rw (octet-zero n k) (omega arith)
 
--- ---- the same of fields
+-- ---- the laws above, for fields
 
 pub length-fields : (ws s : List ℕ) (at o : ℕ) (xs : List ℕ) → length (withFields ws s at o xs) ≡ length s
 unfolding withFields
@@ -210,7 +210,7 @@ length-fields [] s at o xs = refl
 length-fields (w ∷ ws) s at o [] = refl
 length-fields (w ∷ ws) s at o (x ∷ xs) = length-fields ws (withNumber w s (at + o) x) at (o + w) xs ∙ length-number w s (at + o) x
 
--- an octet outside of the fields that are written stays
+-- An octet outside the fields written stays.
 pub octet-apart : (ws s : List ℕ) (k at o : ℕ) (xs : List ℕ) → (k < at + o) ⊎ (at + o + total ws ≤ k) → getD (withFields ws s at o xs) k 0 ≡ getD s k 0
 unfolding withFields total
 octet-apart [] s k at o xs h = refl
@@ -219,7 +219,7 @@ octet-apart (w ∷ ws) s k at o (x ∷ xs) h =
     octet-apart ws (withNumber w s (at + o) x) k at (o + w) xs (⊎-elim (λ a. inl (omega arith)) (λ b. inr (omega arith)) h)
     ∙ octet-other w s (at + o) x k (⊎-elim (λ a. inl (omega arith)) (λ b. inr (omega arith)) h)
 
--- an octet inside them does not depend on what stood there
+-- An octet inside the fields written does not depend on what stood there.
 pub octet-inside : (ws s u : List ℕ) (k at o : ℕ) (xs : List ℕ) → length s ≡ length u → length ws ≡ length xs → at + o + total ws ≤ length s
     → at + o ≤ k → k < at + o + total ws → getD (withFields ws s at o xs) k 0 ≡ getD (withFields ws u at o xs) k 0
 unfolding withFields total
@@ -242,13 +242,13 @@ octet-inside (w ∷ ws) s u k at o (x ∷ xs) e f l h g =
         ∙ sym (octet-apart ws (withNumber w u (at + o) x) k at (o + w) xs (inl (omega arith)))
     by false q rest = rest (ltb-false k (at + o + w) q)
 
--- a number that stands apart from fields that are written stays
+-- A number that stands apart from the fields written stays.
 pub apart : (m : ℕ) (ws s : List ℕ) (p at o : ℕ) (xs : List ℕ) → (p + m ≤ at + o) ⊎ (at + o + total ws ≤ p) → numberAt m (withFields ws s at o xs) p ≡ numberAt m s p
 apart m ws s p at o xs h =
     agree m (withFields ws s at o xs) s p
     (λ k l g. octet-apart ws s k at o xs (⊎-elim (λ a. inl (omega arith)) (λ b. inr (omega arith)) h))
 
--- and so do fields that stand apart
+-- Fields that stand apart from the fields written stay.
 pub fields-other : (vs ws s : List ℕ) (p q at o : ℕ) (xs : List ℕ) → (p + q + total vs ≤ at + o) ⊎ (at + o + total ws ≤ p + q) → fieldsAt vs (withFields ws s at o xs) p q ≡ fieldsAt vs s p q
 unfolding fieldsAt total
 fields-other [] ws s p q at o xs h = refl
@@ -257,7 +257,7 @@ fields-other (v ∷ vs) ws s p q at o xs h =
     (apart v ws s (p + q) at o xs (⊎-elim (λ a. inl (omega arith)) (λ b. inr (omega arith)) h))
     (fields-other vs ws s p (q + v) at o xs (⊎-elim (λ a. inl (omega arith)) (λ b. inr (omega arith)) h))
 
--- fields that are written are read back
+-- Reading returns the fields that were written.
 pub fields-same : (ws s : List ℕ) (at o : ℕ) (xs : List ℕ) → at + o + total ws ≤ length s → FitFields ws xs → fieldsAt ws (withFields ws s at o xs) at o ≡ xs
 unfolding fieldsAt withFields total FitFields
 fields-same [] s at o [] h f = refl
@@ -268,7 +268,7 @@ fields-same (w ∷ ws) s at o (x ∷ xs) h f =
     (apart w ws (withNumber w s (at + o) x) (at + o) at (o + w) xs (inl (omega arith)) ∙ number-same w s (at + o) x (omega arith) (f .0))
     (fields-same ws (withNumber w s (at + o) x) at (o + w) xs (rw length-number (omega arith)) (f .1))
 
--- fields of octets fit
+-- Numbers that are read from octets fit their fields.
 pub fields-fit : (ws s : List ℕ) (at o : ℕ) → Octets s → FitFields ws (fieldsAt ws s at o)
 unfolding fieldsAt FitFields
 fields-fit [] s at o h = tt
@@ -285,7 +285,7 @@ unfolding fieldsAt
 fields-zero [] n at o = refl
 fields-zero (w ∷ ws) n at o = ap₂ _∷_ (number-zero w n (at + o)) (fields-zero ws n at (o + w))
 
--- ---- loops that write, by what is left to write: g is the whole
+-- ---- loops that write: writing what is left gives the whole result g
 
 pub number-start : (n : ℕ) (s : List ℕ) (at x : ℕ) → withNumber (n - 0) s (at + 0) x ≡ withNumber n s at x
 number-start n s at x = rw (sub-zero, add-zero at)
@@ -302,7 +302,7 @@ number-ended n j s g at x l h =
     let p : n - j ≡ 0 = omega arith in
     rw (p, with-zero) at h
 
--- the clauses of `total` and `withFields` as equations
+-- The clauses of `total` and `withFields` as equations.
 total-cons : (w : ℕ) (ws : List ℕ) → total (w ∷ ws) ≡ w + total ws
 unfolding total
 total-cons w ws = refl
@@ -315,7 +315,7 @@ fields-cons : (w : ℕ) (ws s : List ℕ) (at o x : ℕ) (xs : List ℕ) → wit
 unfolding withFields
 fields-cons w ws s at o x xs = refl
 
--- the widths that are left take what is left of the octets
+-- After one more field, the octets written and the octets of the fields left still make the total.
 pub total-more : (ws : List ℕ) (i o : ℕ) → i < length ws → o + total (drop i ws) ≡ total ws → o + getD ws i 0 + total (drop (i + 1) ws) ≡ total ws
 total-more ws i o l h = let e = rw (drop-cons ws i 0 l, total-cons) at h in rw add-one (omega arith)
 

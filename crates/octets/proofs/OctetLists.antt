@@ -1,4 +1,4 @@
--- Laws of numbers and fields as lists of octets: written over others, read from a longer list, and made of what is read.
+-- Laws of numbers and fields as lists of octets: written over other octets, read from a longer list, rebuilt from what was read.
 use Prim.Native.Nat.{ℕ, zero, suc, _+_, _*_, _/_, _%_, _^_, _<_, _≤_}
 use mathlib.Core.Path.{_≡_, refl, sym, ap, ap₂, _∙_}
 use mathlib.Core.List.{List, [], _∷_, _++_, append-assoc}
@@ -12,7 +12,7 @@ use Rattle.octets.proofs.Laws.{FitFields}
 
 -- ---- written over other octets
 
--- the clauses of `overwrite` as equations
+-- The clauses of `overwrite` as equations.
 overwrite-nil : (s : List ℕ) (at : ℕ) → overwrite s at [] ≡ s
 unfolding overwrite
 overwrite-nil s at = refl
@@ -21,20 +21,20 @@ overwrite-cons : (s : List ℕ) (at x : ℕ) (p : List ℕ) → overwrite s at (
 unfolding overwrite
 overwrite-cons s at x p = refl
 
--- one after the other
+-- Writing p ++ q is writing p and then q after it.
 pub overwrite-append : (s : List ℕ) (at : ℕ) (p q : List ℕ) → overwrite s at (p ++ q) ≡ overwrite (overwrite s at p) (at + length p) q
 overwrite-append s at [] q = rw (overwrite-nil, add-zero at)
 overwrite-append s at (x ∷ p) q =
     let place : suc at + length p ≡ at + suc (length p) = omega arith in
     rw (overwrite-cons s at x (p ++ q), overwrite-cons s at x p, overwrite-append (set s at x) (suc at) p q, place)
 
--- an octet before a place, and octets from there on
+-- Setting an octet before a place, and writing octets from that place on, may be done in either order.
 set-before : (s : List ℕ) (i at x : ℕ) (p : List ℕ) → i < at → set (overwrite s at p) i x ≡ overwrite (set s i x) at p
 set-before s i at x [] l = rw (overwrite-nil, overwrite-nil)
 set-before s i at x (y ∷ p) l =
     rw (overwrite-cons s at y p, overwrite-cons (set s i x) at y p, set-before (set s at y) i (suc at) x p (omega arith), set-comm s at i y x (λ q. omega arith))
 
--- the second part may be written before the first
+-- The second part may be written before the first part.
 pub overwrite-before : (s : List ℕ) (at : ℕ) (p q : List ℕ) → overwrite (overwrite s (at + length p) q) at p ≡ overwrite s at (p ++ q)
 overwrite-before s at [] q = overwrite-nil (overwrite s (at + 0) q) at ∙ ap (λ (k : ℕ). overwrite s k q) (add-zero at)
 overwrite-before s at (x ∷ p) q =
@@ -45,7 +45,7 @@ overwrite-before s at (x ∷ p) q =
     ∙ overwrite-before (set s at x) (suc at) p q
     ∙ sym (overwrite-cons s at x (p ++ q))
 
--- of what was written, the first part once more
+-- Writing q over the first part of p ++ r gives q ++ r.
 pub overwrite-again : (s : List ℕ) (at : ℕ) (p q r : List ℕ) → length p ≡ length q → overwrite (overwrite s at (p ++ r)) at q ≡ overwrite s at (q ++ r)
 overwrite-again s at [] [] r e = overwrite-nil (overwrite s at r) at
 overwrite-again s at [] (y ∷ q) r e = absurd (omega arith)
@@ -74,7 +74,7 @@ pub octet-itself : (x : ℕ) → x < 256 → numberOctets 1 x ≡ x ∷ []
 unfolding numberOctets
 octet-itself x l = let e : x % 256 ≡ x = omega arith in ap (λ (v : ℕ). v ∷ []) e
 
--- the clause of `fieldOctets` as an equation
+-- The clause of `fieldOctets` as an equation.
 pub field-octets-cons : (w : ℕ) (ws : List ℕ) (x : ℕ) (xs : List ℕ) → fieldOctets (w ∷ ws) (x ∷ xs) ≡ numberOctets w x ++ fieldOctets ws xs
 unfolding fieldOctets
 field-octets-cons w ws x xs = refl
@@ -88,7 +88,7 @@ field-octets-append (w ∷ ws) vs (x ∷ xs) ys e =
     ap (λ (l : List ℕ). numberOctets w x ++ l) (field-octets-append ws vs xs ys (omega arith))
     ∙ sym (append-assoc (numberOctets w x) (fieldOctets ws xs) (fieldOctets vs ys))
 
--- fields that are written are their octets, written over what stood there
+-- Writing fields is writing their octets over what stood there.
 pub fields-overwrite : (ws s : List ℕ) (at o : ℕ) (xs : List ℕ) → withFields ws s at o xs ≡ overwrite s (at + o) (fieldOctets ws xs)
 unfolding withFields withNumber fieldOctets
 fields-overwrite [] s at o xs = sym (overwrite-nil s (at + o))
@@ -99,7 +99,7 @@ fields-overwrite (w ∷ ws) s at o (x ∷ xs) =
     ∙ ap (λ (k : ℕ). overwrite (overwrite s (at + o) (numberOctets w x)) k (fieldOctets ws xs)) place
     ∙ sym (overwrite-append s (at + o) (numberOctets w x) (fieldOctets ws xs))
 
--- a loop that writes octets, by what is left to write: g is the whole
+-- For a loop that writes octets: writing what is left gives the whole result g.
 pub overwrite-start : (s : List ℕ) (at : ℕ) (p : List ℕ) → overwrite s (at + 0) (drop 0 p) ≡ overwrite s at p
 overwrite-start s at p = rw (add-zero at)
 
@@ -129,7 +129,7 @@ number-read (suc n) x q b =
     let rest = number-after n (x % 256 ∷ []) (numberOctets n (x / 256) ++ q) 0 ∙ number-read n (x / 256) q (omega arith) in
     omega arith
 
--- the octets of fields are read as these fields, whatever stands before and after
+-- Reading the octets of fields returns the fields, whatever stands before and after them.
 pub fields-read : (ws xs p q : List ℕ) (at o : ℕ) → at + o ≡ length p → FitFields ws xs → fieldsAt ws (p ++ (fieldOctets ws xs ++ q)) at o ≡ xs
 unfolding fieldsAt fieldOctets FitFields
 fields-read [] [] p q at o e f = refl
@@ -149,7 +149,7 @@ fields-read (w ∷ ws) (x ∷ xs) p q at o e f =
         ap (λ (l : List ℕ). p ++ l) (append-assoc (numberOctets w x) (fieldOctets ws xs) q)
         ∙ sym (append-assoc p (numberOctets w x) (fieldOctets ws xs ++ q))
 
--- ---- made of what is read
+-- ---- rebuilt from what was read
 
 number-made : (n : ℕ) (s : List ℕ) (at : ℕ) → Octets s → at + n ≤ length s → numberOctets n (numberAt n s at) ≡ take n (drop at s)
 unfolding numberAt numberOctets Octets
@@ -163,7 +163,7 @@ number-made (suc n) s at o h =
     ∙ ap (λ (l : List ℕ). getD s at 0 ∷ l) (number-made n s (suc at) o (omega arith))
     ∙ ap (λ (l : List ℕ). take (suc n) l) (sym (drop-cons s at 0 (omega arith)))
 
--- the fields that are read from octets make these octets again
+-- The octets of fields that were read are the octets that they were read from.
 pub fields-made : (ws s : List ℕ) (at o : ℕ) → Octets s → at + o + total ws ≤ length s → fieldOctets ws (fieldsAt ws s at o) ≡ take (total ws) (drop (at + o) s)
 unfolding fieldsAt fieldOctets total
 fields-made [] s at o h l = refl
@@ -206,7 +206,7 @@ octets-of-fields [] xs = octets-nil
 octets-of-fields (w ∷ ws) [] = octets-nil
 octets-of-fields (w ∷ ws) (x ∷ xs) = octets-append (numberOctets w x) (fieldOctets ws xs) (octets-of-number w x) (octets-of-fields ws xs)
 
--- a loop that reads p has seen, once it has read any, that all are octets
+-- States that all of p are octets, once a loop has read at least one of them.
 pub record Seen (p : List ℕ) (j : ℕ) : Type 0 where
   pub octets : 0 < j → Octets p
 

@@ -1,5 +1,5 @@
-// Little-endian numbers in lent octets: read at the widths that layouts have, written at any width, alone or side by side;
-// and octets written as they are.
+// Reads and writes little-endian numbers in lent octets. The reads have the widths that layouts need. The writes also take any
+// width, for one number or for several side by side. Other functions read, copy and clear plain octets.
 ghost use mathlib.Core.Path.{_≡_};
 ghost use Prim.Native.Nat.{_+_, _<_, _≤_};
 ghost use lib.ListN.{getD, length};
@@ -63,7 +63,7 @@ pub fn write_u32(s: &mut [u8], at: usize, x: u32)
     write_u16(s, at + 2, (x / 65536) as u16);
 }
 
-// The lowest six octets of x.
+// Writes the lowest six octets of x.
 pub fn write_u48(s: &mut [u8], at: usize, x: u64)
     requires { ⌜ at + 6 ≤ length (now s) ⌝ }
     ensures { λ _. ⌜ now (s .exit) ≡ withNumber 6 (now (s .entry)) at x ⌝ }
@@ -80,7 +80,7 @@ pub fn write_u64(s: &mut [u8], at: usize, x: u64)
     write_u32(s, at + 4, (x / 4294967296) as u32);
 }
 
-// The lowest n octets of x, the least significant first.
+// Writes the lowest n octets of x, least significant octet first.
 pub fn write_number(s: &mut [u8], at: usize, n: usize, x: u64)
     requires { ⌜ at + n ≤ length (now s) ⌝ }
     ensures { λ _. ⌜ now (s .exit) ≡ withNumber n (now (s .entry)) at x ⌝ }
@@ -94,7 +94,7 @@ pub fn write_number(s: &mut [u8], at: usize, n: usize, x: u64)
     }
 }
 
-// The numbers of values side by side from place at, each in as many octets as widths says.
+// Writes the numbers in `values` side by side from place `at` on, each in as many octets as `widths` says.
 pub fn write_fields(s: &mut [u8], at: usize, widths: &[u8], values: &[u64])
     requires { ⌜ at + total (now widths) ≤ length (now s) ⌝ }
     requires { ⌜ length (now widths) ≡ length (now values) ⌝ }
@@ -110,7 +110,7 @@ pub fn write_fields(s: &mut [u8], at: usize, widths: &[u8], values: &[u64])
     }
 }
 
-// The octet at a place. Through the cast it is known that each of them is below 256.
+// Returns the octet at a place. The cast lets the proof conclude that every octet of s is below 256.
 pub fn octet(s: &[u8], at: usize) -> u8
     requires { ⌜ at < length (now s) ⌝ }
     ensures { λ r. ⌜ r ≡ getD (now (s .entry)) at 0 ⌝ }
@@ -120,8 +120,8 @@ pub fn octet(s: &[u8], at: usize) -> u8
     wide as u8
 }
 
-// The octets p from place at on. That they are octets, below 256, is what their type says; it is ensured for callers whose
-// definition has them as the octets of fields.
+// Writes the octets p from place `at` on. The contract repeats what the type of p says, that each octet is below 256. Callers
+// whose definition has p as the octets of fields need it.
 pub fn write_octets(s: &mut [u8], at: usize, p: &[u8])
     requires { ⌜ at + length (now p) ≤ length (now s) ⌝ }
     ensures { λ _. ⌜ Octets (now (p .entry)) ⌝ }
@@ -134,7 +134,7 @@ pub fn write_octets(s: &mut [u8], at: usize, p: &[u8])
     }
 }
 
-// Every octet becomes zero.
+// Sets every octet to zero.
 pub fn clear(s: &mut [u8])
     ensures { λ _. ⌜ now (s .exit) ≡ zeros (length (now (s .entry))) ⌝ }
 {

@@ -1,4 +1,4 @@
--- Tests of a table's own address and latest clock, by the head that was read.
+-- Tests of a table's own address and latest clock, by the head that the code has read.
 use Prim.Native.Nat.{ℕ, _<_, _≤_}
 use mathlib.Core.Path.{_≡_, sym, ap, _∙_}
 use mathlib.Core.Bool.{true, false}

@@ -1,4 +1,5 @@
--- The definitions of `specs/` by cases, each as a `return` asks it: from what the calls before it gave, by `search`.
+-- The definitions of `specs/` by cases, in the form that the proof of a `return` needs: `search` applies each case to the results
+-- of the calls before the `return`.
 use Prim.Native.Nat.{ℕ, _+_, _-_, _%_, _≤_}
 use lib.Dec.{eqb, leb}
 use lib.ListN.{length}
@@ -20,13 +21,13 @@ use Rattle.table.proofs.Places.{first-below}
 use Rattle.table.specs.Places.{first, every, isNothing, orElse}
 use Rattle.table.specs.Table.{vacant, holds, findRow, rowFor, activeNext, firstFree, putAt, placeFor, store, alone, passes, isTable}
 
--- a part that is the last one under the second
+-- If a equals d whenever b holds, the conjunction may have d at its end in place of a.
 and-moved : (a b c d : Bool) → (b ≡ true → a ≡ d) → ((a && b) && c) ≡ (b && (c && d))
 and-moved a true c d h = ap (λ (e : Bool). e && c) (and-true a ∙ h refl) ∙ and-comm d c
 and-moved a false c d h = ap (λ (e : Bool). e && c) (and-false a)
 
 module _ (t : List ℕ) where
-  -- what check 1 tells of the length
+  -- Check 1 bounds the length.
   pub of-size : (b : Bool) → b ≡ sized t → b ≡ true → Sized t
   unfolding sized
   of-size b e yes-b =
@@ -39,7 +40,7 @@ module _ (t : List ℕ) where
         not-longer = leb-true n (place mostRows) (both (leb n (place mostRows)) (eqb ((n - headOctets) % rowOctets) 0) (all .1) .0);
       }
 
-  -- that check without a subtraction: where the first bound holds, a head and whole rows leave the same rest
+  -- Check 1 without a subtraction. If the first bound holds, the remainder is the same with and without the head.
   pub size-is : ((eqb (length t % rowOctets) 0 && leb (place 1) (length t)) && leb (length t) (place mostRows)) ≡ sized t
   unfolding sized
   size-is =
@@ -50,7 +51,7 @@ module _ (t : List ℕ) where
       ap (λ (k : ℕ). eqb k 0) rest in
       and-moved (eqb (n % rowOctets) 0) (leb (place 1) n) (leb n (place mostRows)) (eqb ((n - headOctets) % rowOctets) 0) same-rest
 
-  -- a row that is found lies in the table
+  -- A row that is found lies inside the table.
   within : (p : ℕ → Bool) (i : ℕ) → first p (rows t) ≡ At i → Sized t → place i + rowOctets ≤ length t
   within p i e h = let l = first-below p (rows t) i e in omega arith
 
@@ -58,7 +59,7 @@ module _ (t : List ℕ) where
   unfolding findRow
   found-within d f i e at-i h = within (holds t d) i (sym e ∙ at-i) h
 
-  -- the row of a destination, by the place where it was found
+  -- The row of a destination, by the place where it was found.
   pub row-at : (d : Address) (f : Found) → f ≡ findRow t d → (i : ℕ) → f ≡ At i → (r : Row) → r ≡ rowAt t i → rowFor t d ≡ some r
   unfolding rowFor
   row-at d f fe i at-i r re = rw (← fe, at-i, re)
@@ -67,7 +68,7 @@ module _ (t : List ℕ) where
   unfolding rowFor
   row-none d f fe no-row = rw (← fe, no-row)
 
-  -- its active next hop
+  -- The active next hop of a destination, by cases.
   module _ (c : ℕ) (d : Address) (f : Found) (fe : f ≡ findRow t d) where
     pub next-absent : f ≡ Nothing → none ≡ activeNext c (rowFor t d)
     unfolding activeNext
@@ -113,7 +114,7 @@ module _ (t : List ℕ) where
   unfolding alone
   alone-held i b r d f e no-b de fe re = cc
 
-  -- a table by its head, and then its rows
+  -- The head decides whether octets are a table, and then the rows.
   module _ (h : Head) (a : Bool) (he : h ≡ headAt t) (ae : a ≡ headOk h) where
     pub bad-head : a ≡ false → false ≡ isTable t
     unfolding isTable
@@ -123,7 +124,7 @@ module _ (t : List ℕ) where
     unfolding isTable
     table-is n b yes-a ne be = cc
 
-  -- row i is held for d
+  -- Whether row i is held for d, by cases.
   module _ (d e : Address) (i : ℕ) (ee : e ≡ rowAt t i .destination) where
     pub holds-not : (e .0 ≡ d .0 → ⊥) → false ≡ holds t d i
     unfolding holds
@@ -133,7 +134,7 @@ module _ (t : List ℕ) where
     unfolding holds
     holds-if b q be = rw (← ee, eq-eqb (e .0) (d .0) q, ← be)
 
-  -- row i passes, by its mark m
+  -- Whether row i passes, by cases of its mark m.
   module _ (own : Address) (i m : ℕ) (a : Bool) (ae : a ≡ rowOk own (rowAt t i)) where
     pub row-bad : a ≡ false → false ≡ (rowOk own (rowAt t i) && (eqb m 0 || alone t i))
     row-bad no-a = cc
@@ -145,7 +146,7 @@ module _ (t : List ℕ) where
       pub row-marked : (m ≡ 0 → ⊥) → (b : Bool) → b ≡ alone t i → b ≡ (rowOk own (rowAt t i) && (eqb m 0 || alone t i))
       row-marked n b be = cc (ne-eqb m 0 n)
 
--- row i is free or held
+-- Whether row i is legal, by cases: free or held.
 module _ (t : List ℕ) (own : Address) (i : ℕ) (a b : Bool) (ae : a ≡ vacant t i) where
   pub row-free : a ≡ true → b ≡ isFree (rowAt t i) → b ≡ rowOk own (rowAt t i)
   unfolding rowOk isHeld statusOk vacant

@@ -1,5 +1,4 @@
--- A table after the rows that pass a test are changed: every row is what the change makes of it, and each destination keeps
--- its row.
+-- Laws of a table after each row that passes a test is changed. Each destination keeps its row, changed or as it was.
 use Prim.Native.Nat.{ℕ, zero, suc, _+_, _<_, _≤_}
 use mathlib.Core.Path.{_≡_, refl, sym, ap, _∙_}
 use mathlib.Core.Bool.{Bool, true, false, cond, or-true}
@@ -25,14 +24,15 @@ use Rattle.table.proofs.Places.{first-cong, count-cong}
 use Rattle.table.proofs.WellFormed.{Legal}
 use Rattle.table.proofs.Lookup.{found-here, held-of}
 
--- a change of some held rows that leaves each of them held for its destination, in values that its octets can hold
+-- States that a change applies only to held rows, and leaves each of them held for its destination, in values that its octets
+-- can hold.
 pub record KeepsRows (p : Row → Bool) (f : Row → Row) : Type 0 where
   pub was-held : (r : Row) → p r ≡ true → eqb (r .status) 0 ≡ false
   pub held : (r : Row) → p r ≡ true → eqb (f r .status) 0 ≡ false
   pub destination : (r : Row) → p r ≡ true → f r .destination ≡ r .destination
   pub fits : (r : Row) → p r ≡ true → FitRow r → FitRow (f r)
 
--- what the change makes of any row
+-- Returns any row after the change.
 abbrev pub changed : (Row → Bool) → (Row → Row) → Row → Row
 changed p f r = cond (p r) (f r) r
 
@@ -40,7 +40,7 @@ either : (P : List ℕ → Type 0) (b : Bool) {t u : List ℕ} → P t → P u �
 either P true p q = p
 either P false p q = q
 
--- what holds of a row that stays and of one that is changed
+-- A property holds after the change if it holds for a row that stays and for a row that is changed.
 pub by-test : (p : Row → Bool) (f : Row → Row) (P : Row → Type 0) (r : Row) → P r → (p r ≡ true → P (f r)) → P (changed p f r)
 by-test p f P r stays changes = by (p r) changes
   where
@@ -70,7 +70,7 @@ module _ (p : Row → Bool) (f : Row → Row) where
       let u : List ℕ = changeBelow p f n t in
       either Octets (p (rowAt u n)) (row-octets u n _ (below-octets n t o)) (below-octets n t o)
 
-  -- the rows from n on are what they were
+  -- The rows from n on stay.
   pub below-other : (n k : ℕ) (t : List ℕ) → n ≤ k → rowAt (changeBelow p f n t) k ≡ rowAt t k
   unfolding changeBelow
   below-other zero k t l = refl
@@ -80,7 +80,7 @@ module _ (p : Row → Bool) (f : Row → Row) where
       (row-other u n k _ (λ q. omega arith) ∙ below-other n k t (omega arith))
       (below-other n k t (omega arith))
 
-  -- as code asks it that goes from row to row: row i stays, or is changed
+  -- Row i stays or is changed, in the form that code needs that goes from row to row.
   module _ (t : List ℕ) (i : ℕ) (r : Row) (re : r ≡ rowAt t i) where
     pub row-stays : p r ≡ false → t ≡ changeAt p f i t
     row-stays e = rw (← re, e)
@@ -88,7 +88,7 @@ module _ (p : Row → Bool) (f : Row → Row) where
     pub row-changed : p r ≡ true → (s : Row) → s ≡ f r → (u : List ℕ) → u ≡ putRow t i s → u ≡ changeAt p f i t
     row-changed e s se u ue = rw (← re, e, ← se) ue
 
-  -- the rows below i are done; then row i is, and in the end all of them
+  -- For a loop: the rows below i are done, then row i is done, and in the end all rows are done.
   pub below-start : (t : List ℕ) → t ≡ changeBelow p f 0 t
   unfolding changeBelow
   below-start t = refl
@@ -125,7 +125,7 @@ module _ (p : Row → Bool) (f : Row → Row) where
         by true e = row-same u n (f (rowAt u n)) l (keeps .fits (rowAt u n) e (row-fits u n o))
         by false e = refl
 
-    -- the rows below n are changed
+    -- The rows below n are changed.
     below-same : (n k : ℕ) (t : List ℕ) → Octets t → place n ≤ length t → k < n → rowAt (changeBelow p f n t) k ≡ changed p f (rowAt t k)
     unfolding changeBelow
     below-same zero k t o l h = absurd (not-suc-le-zero h)
@@ -168,7 +168,7 @@ module _ (p : Row → Bool) (f : Row → Row) where
       unfolding findRow
       change-place d = rw change-length (first-cong (holds (changeWhere p f t) d) (holds t d) (rows t) (change-holds d))
 
-      -- each destination keeps its row, changed
+      -- Each destination keeps its row, changed or as it was.
       pub change-found : (d : Address) → rowFor (changeWhere p f t) d ≡ Option·map (changed p f) (rowFor t d)
       unfolding rowFor
       change-found d = ap (rowIn (changeWhere p f t)) (change-place d) ∙ by (findRow t d) refl
@@ -177,12 +177,12 @@ module _ (p : Row → Bool) (f : Row → Row) where
           by Nothing e = refl
           by (At k) e = ap some (change-at k (found-here t d k e .0))
 
-      -- as many rows are free
+      -- As many rows are free as before.
       pub change-free : freeRows (changeWhere p f t) ≡ freeRows t
       unfolding freeRows
       change-free = rw change-length (count-cong (vacant (changeWhere p f t)) (vacant t) (rows t) change-vacant)
 
-      -- a table stays a table where a changed row stays as it should be
+      -- A table stays a table if each changed row stays a legal held row.
       pub change-legal : Legal t → ((r : Row) → p r ≡ true → isHeld (own t) r ≡ true → isHeld (own t) (f r) ≡ true) → Legal (changeWhere p f t)
       change-legal legal ok =
           record {

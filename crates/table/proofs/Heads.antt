@@ -1,4 +1,4 @@
--- A table after its head is put, and a fresh table.
+-- Laws of a table after its head is put, and of a fresh table.
 use Prim.Native.Nat.{ℕ, _+_, _-_, _^_, _<_, _≤_}
 use mathlib.Core.Path.{_≡_, refl, sym, ap, _∙_}
 use mathlib.Core.Bool.{Bool, true, false, and-false}
@@ -41,7 +41,7 @@ module _ (t : List ℕ) (h : Head) where
   unfolding findRow
   same-place d = rw length-head (first-cong (holds (putHead t h) d) (holds t d) (rows t) (λ k l. same-holds d k))
 
-  -- each destination keeps its row
+  -- Each destination keeps its row.
   pub head-found : (d : Address) → rowFor (putHead t h) d ≡ rowFor t d
   unfolding rowFor
   head-found d = ap (rowIn (putHead t h)) (same-place d) ∙ by (findRow t d)
@@ -50,12 +50,12 @@ module _ (t : List ℕ) (h : Head) where
       by Nothing = refl
       by (At k) = rw row-stays
 
-  -- as many rows are free
+  -- As many rows are free as before.
   pub head-free : freeRows (putHead t h) ≡ freeRows t
   unfolding freeRows
   head-free = rw length-head (count-cong (vacant (putHead t h)) (vacant t) (rows t) (λ k l. same-vacant k))
 
-  -- a table stays a table under a head of the same point
+  -- A table stays a table under a legal head of the same point.
   pub head-legal : headOctets ≤ length t → FitHead h → headOk h ≡ true → h .own ≡ own t → Legal t → Legal (putHead t h)
   head-legal long fit ok same-own legal =
       let is-h = head-same t h long fit in
@@ -70,7 +70,7 @@ module _ (t : List ℕ) (h : Head) where
 
 -- ---- a fresh table
 
--- a head that is put over any octets, with zeros after it, is that head on zeros
+-- Putting a head over any octets, and zeros after it, gives the same octets as putting the head over zeros.
 module _ (t u y : List ℕ) (h : Head) (long : headOctets ≤ length t) (ue : u ≡ putHead t h) (ye : y ≡ zeros (length (midOf 32 (length u - 32) u))) where
   same-length : length u ≡ length t
   same-length = ap length ue ∙ length-head t h
@@ -135,7 +135,7 @@ module _ (n : ℕ) (a : Address) (s : SequenceNumber) where
   unfolding fresh
   fresh-octets = head-octets (zeros n) (freshHead a s) (octets-zero n)
 
-  -- every row is free
+  -- Every row is free.
   fresh-row : (k : ℕ) → rowAt (fresh n a s) k ≡ freeRow
   unfolding fresh
   fresh-row k = row-stays (zeros n) (freshHead a s) k ∙ row-zero n k
@@ -161,7 +161,7 @@ module _ (n : ℕ) (a : Address) (s : SequenceNumber) where
     unfolding fresh FitFields
     fresh-head = head-same (zeros n) (freshHead a s) (rw length-replicate long) (fit-head (freshHead a s) (omega arith))
 
-    -- a fresh table passes refusal 21
+    -- A fresh table passes refusal 21.
     pub fresh-legal : individual a ≡ true → Legal (fresh n a s)
     unfolding headOk rowOk isFree allZero
     fresh-legal one =

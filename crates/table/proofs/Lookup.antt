@@ -1,4 +1,4 @@
--- The row of a destination and the free rows, after a row is stored or freed.
+-- Laws of the row of a destination and of the free rows, after a row is stored or freed.
 use Prim.Native.Nat.{ℕ, suc, _+_, _<_, _≤_}
 use mathlib.Core.Path.{_≡_, refl, sym, ap, _∙_}
 use mathlib.Core.Bool.{Bool, true, false, _&&_, not, cond, and-false, or-true}
@@ -25,7 +25,7 @@ use Rattle.layout.proofs.HeadAndRows.{FitRow, fit-row, length-row, row-same, ro
 use Rattle.table.proofs.Places.{first-below, first-true, first-not, first-only, first-nowhere, first-cong, count-cong, count-drop, count-nowhere}
 use Rattle.table.proofs.WellFormed.{Legal, true-not-false, false-of, same-is, same-itself, held-row}
 
--- ---- what a place that was found is
+-- ---- the place that a search found
 
 module _ (t : List ℕ) (d : Address) where
   pub found-here : (i : ℕ) → findRow t d ≡ At i → (i < rows t) × (holds t d i ≡ true)
@@ -36,19 +36,19 @@ module _ (t : List ℕ) (d : Address) where
   unfolding findRow
   found-nowhere e k l = first-not (holds t d) (rows t) k e l
 
-  -- no other row is held for its destination
+  -- In a table, no row other than the one found is held for d.
   pub found-only : Legal t → (i : ℕ) → findRow t d ≡ At i → (k : ℕ) → k < rows t → (k ≡ i → ⊥) → holds t d k ≡ false
   found-only legal i e k l n =
       let here = found-here i e in
       false-of (holds t d k) (λ h. n (legal .once d k i l (here .0) h (here .1)))
 
--- a row of another status than 0 is held
+-- A legal row is held if its status is not 0.
 pub held-of : (a : Address) (r : Row) → rowOk a r ≡ true → eqb (r .status) 0 ≡ false → isHeld a r ≡ true
 unfolding rowOk isFree allZero
 held-of a r ok e = rw e at ok
 
 module _ (t : List ℕ) (d : Address) (r : Row) (e : rowFor t d ≡ some r) where
-  -- where the row of a destination stands
+  -- The place where the row of d stands.
   row-place : (i : ℕ) × (findRow t d ≡ At i) × (rowAt t i ≡ r)
   unfolding rowFor
   row-place = by (findRow t d) refl
@@ -57,7 +57,7 @@ module _ (t : List ℕ) (d : Address) (r : Row) (e : rowFor t d ≡ some r) wher
       by (At i) q = (i, q, cc)
       by Nothing q = clash cc
 
-  -- it has that destination, and in a table it is as a held row should be
+  -- The row has destination d. In a table it is a legal held row.
   pub row-destination : r .destination ≡ d
   row-destination =
       let p = row-place in
@@ -76,7 +76,7 @@ module _ (t : List ℕ) (d : Address) (r : Row) (e : rowFor t d ≡ some r) wher
 -- ---- a row that is put
 
 module _ (t : List ℕ) (i : ℕ) (r : Row) (within : place i + rowOctets ≤ length t) (fit : FitRow r) where
-  -- what row i now says
+  -- Whether row i is held or free after the put.
   here : (d : Address) → holds (putRow t i r) d i ≡ (same (r .destination) d && not (eqb (r .status) 0))
   unfolding holds vacant
   here d = rw (row-same t i r within fit)
@@ -85,7 +85,7 @@ module _ (t : List ℕ) (i : ℕ) (r : Row) (within : place i + rowOctets ≤ le
   unfolding vacant
   vacant-here = rw (row-same t i r within fit)
 
-  -- the other rows say what they said
+  -- The other rows are held or free as before.
   there : (d : Address) (k : ℕ) → (k ≡ i → ⊥) → holds (putRow t i r) d k ≡ holds t d k
   unfolding holds vacant
   there d k n = rw (row-other t i k r n)
@@ -94,7 +94,7 @@ module _ (t : List ℕ) (i : ℕ) (r : Row) (within : place i + rowOctets ≤ le
   unfolding vacant
   vacant-there k n = rw (row-other t i k r n)
 
-  -- a destination that only row i is held for now
+  -- If only row i is held for d after the put, the row of d is r.
   put-found : (d : Address) → holds (putRow t i r) d i ≡ true → ((k : ℕ) → k < rows t → (k ≡ i → ⊥) → holds t d k ≡ false)
       → rowFor (putRow t i r) d ≡ some r
   unfolding rowFor findRow
@@ -105,7 +105,7 @@ module _ (t : List ℕ) (i : ℕ) (r : Row) (within : place i + rowOctets ≤ le
         row-same t i r within fit,
       )
 
-  -- a destination that no row is held for now
+  -- If no row is held for d after the put, d has no row.
   put-gone : (d : Address) → holds (putRow t i r) d i ≡ false → ((k : ℕ) → k < rows t → (k ≡ i → ⊥) → holds t d k ≡ false)
       → rowFor (putRow t i r) d ≡ none
   unfolding rowFor findRow
@@ -116,7 +116,7 @@ module _ (t : List ℕ) (i : ℕ) (r : Row) (within : place i + rowOctets ≤ le
       by k l (yes q) = rw q h
       by k l (no q) = there d k q ∙ none-else k l q
 
-  -- a destination that row i is not held for, before or now
+  -- If row i is held for d neither before nor after the put, d keeps its row.
   module _ (d : Address) (before : holds t d i ≡ false) (now : holds (putRow t i r) d i ≡ false) where
     agree : (k : ℕ) → holds (putRow t i r) d k ≡ holds t d k
     agree k = at (ℕ-discrete k i)
@@ -137,7 +137,7 @@ module _ (t : List ℕ) (i : ℕ) (r : Row) (within : place i + rowOctets ≤ le
         by Nothing e = refl
         by (At k) e = rw (row-other t i k r (λ q. true-not-false (rw q at (found-here t d k e .1)) before))
 
-  -- how many rows are free then
+  -- How many rows are free after the put.
   put-level : vacant t i ≡ eqb (r .status) 0 → freeRows (putRow t i r) ≡ freeRows t
   unfolding freeRows
   put-level e = rw length-row (count-cong (vacant (putRow t i r)) (vacant t) (rows t) (λ k l. by k (ℕ-discrete k i)))
@@ -158,7 +158,7 @@ module _ (t : List ℕ) (i : ℕ) (r : Row) (within : place i + rowOctets ≤ le
       rw length-row
       (count-drop (vacant (putRow t i r)) (vacant t) (rows t) i (omega arith) (λ k l n. vacant-there k n) (vacant-here ∙ h) v)
 
-  -- a row that is as it should be, and for whose destination no other row is held if it is held, keeps a table a table
+  -- A table stays a table if the row is legal and, where it is held, no other row is held for its destination.
   module _ (legal : Legal t) (ok : rowOk (own t) r ≡ true)
       (single : eqb (r .status) 0 ≡ false → (k : ℕ) → k < rows t → (k ≡ i → ⊥) → holds t (r .destination) k ≡ false) where
     row-kept : (k : ℕ) → k < rows t → rowOk (own t) (rowAt (putRow t i r) k) ≡ true
@@ -191,25 +191,25 @@ module _ (t : List ℕ) (i : ℕ) (r : Row) (within : place i + rowOctets ≤ le
           once = λ d j k lj lk. once-kept d j k (rw length-row at lj) (rw length-row at lk);
         }
 
--- ---- where a row goes that is stored
+-- ---- where a stored row goes
 
--- the place, and what was there
+-- The place for a row with destination d, and what stood there.
 record Spot (t : List ℕ) (d : Address) : Type 0 where
   at : ℕ
   is : placeFor t d ≡ At at
   below : at < rows t
-  -- no other row is held for d, and this one for no other destination
+  -- No other row is held for d, and the row at this place is held for no other destination.
   single : (k : ℕ) → k < rows t → (k ≡ at → ⊥) → holds t d k ≡ false
   apart : (e : Address) → same d e ≡ false → holds t e at ≡ false
-  -- it is a new row where it was free
+  -- A new row is needed exactly if the place is free.
   fresh : newRows (rowFor t d) ≡ cond (vacant t at) 1 0
 
--- a free row is held for nobody
+-- A free row is held for no destination.
 vacant-holds : (t : List ℕ) (d : Address) (i : ℕ) → vacant t i ≡ true → holds t d i ≡ false
 unfolding holds
 vacant-holds t d i v = rw v (and-false (same (rowAt t i .destination) d))
 
--- a held row is held for one destination
+-- A held row is held for only one destination.
 held-for-one : (t : List ℕ) (d e : Address) (i : ℕ) → holds t d i ≡ true → same d e ≡ false → holds t e i ≡ false
 held-for-one t d e i hd n =
     false-of (holds t e i)
@@ -261,7 +261,7 @@ held-ok : (a : Address) (r : Row) → isHeld a r ≡ true → rowOk a r ≡ true
 unfolding rowOk
 held-ok a r e = rw e (or-true (isFree r))
 
--- A row of the point that is held, where there is room for it: its destination has a row, or a row is free, wherever it lies.
+-- Laws of storing a legal held row if there is room for it: its destination has a row, or some row is free, wherever it lies.
 module _ (t : List ℕ) (r : Row) (legal : Legal t) (held : isHeld (own t) r ≡ true) (fit : FitRow r)
     (room : newRows (rowFor t (r .destination)) ≤ freeRows t) where
   place-of : Spot t (r .destination)
@@ -277,7 +277,7 @@ module _ (t : List ℕ) (r : Row) (legal : Legal t) (held : isHeld (own t) r ≡
   status : eqb (r .status) 0 ≡ false
   status = held-status (own t) r held
 
-  -- its destination's row is this row
+  -- The row of the destination is the stored row.
   pub store-found : rowFor (store t r) (r .destination) ≡ some r
   store-found =
       rw stored
@@ -285,14 +285,14 @@ module _ (t : List ℕ) (r : Row) (legal : Legal t) (held : isHeld (own t) r ≡
       (here t (place-of .at) r inside fit (r .destination) ∙ rw (status, same-itself (r .destination)))
       (place-of .single))
 
-  -- the rows of all other destinations are what they were
+  -- The rows of all other destinations stay.
   pub store-other : (d : Address) → same (r .destination) d ≡ false → rowFor (store t r) d ≡ rowFor t d
   store-other d n =
       rw stored
       (put-other t (place-of .at) r inside fit d (place-of .apart d n)
       (here t (place-of .at) r inside fit d ∙ rw n))
 
-  -- a new row takes one of the free rows
+  -- A new row takes one of the free rows.
   pub store-free : freeRows (store t r) + newRows (rowFor t (r .destination)) ≡ freeRows t
   store-free = rw stored (by (vacant t (place-of .at)) refl)
     where
@@ -300,12 +300,12 @@ module _ (t : List ℕ) (r : Row) (legal : Legal t) (held : isHeld (own t) r ≡
       by true v = let e = rw v at (place-of .fresh) in let f = put-takes t (place-of .at) r inside fit v status in omega arith
       by false v = let e = rw v at (place-of .fresh) in let f = put-level t (place-of .at) r inside fit (v ∙ sym status) in omega arith
 
-  -- a table stays a table
+  -- A table stays a table.
   pub store-legal : Legal (store t r)
   store-legal =
       rw stored (put-legal t (place-of .at) r inside fit legal (held-ok (own t) r held) (λ _. place-of .single))
 
--- ---- what a row that is put anywhere leaves alone
+-- ---- what putting a row at any place leaves alone
 
 module _ (t : List ℕ) (r : Row) where
   put-length : (f : Found) → length (putAt t r f) ≡ length t
@@ -346,8 +346,8 @@ module _ (t : List ℕ) (d : Address) where
 differs : (a b : Address) → same a b ≡ false → same b a ≡ false
 differs a b n = false-of (same b a) (λ e. true-not-false (rw (same-is b a e) (same-itself a)) n)
 
--- Two rows of different destinations, where no more new rows are needed than rows are free, wherever those lie: both are found
--- afterwards, and the rows of all other destinations are what they were.
+-- Laws of storing two rows with different destinations, if no more new rows are needed than are free, wherever the free rows lie.
+-- Both rows are found afterwards, and the rows of all other destinations stay.
 module _ (t : List ℕ) (r s : Row) (legal : Legal t) (held : isHeld (own t) r ≡ true) (fit : FitRow r)
     (held′ : isHeld (own t) s ≡ true) (fit′ : FitRow s) (differ : same (r .destination) (s .destination) ≡ false)
     (room : newRows (rowFor t (r .destination)) + newRows (rowFor t (s .destination)) ≤ freeRows t) where
@@ -391,12 +391,12 @@ free-ok : (a : Address) → rowOk a freeRow ≡ true
 unfolding rowOk isFree allZero
 free-ok a = refl
 
--- a free row is held for nobody
+-- After row i is freed, it is held for no destination.
 free-holds : (t : List ℕ) (i : ℕ) → place i + rowOctets ≤ length t → (d : Address) → holds (putRow t i freeRow) d i ≡ false
 free-holds t i within d = here t i freeRow within free-fits d ∙ and-false (same (freeRow .destination) d)
 
 module _ (t : List ℕ) (d : Address) (legal : Legal t) where
-  -- its destination has no row
+  -- The destination has no row.
   pub freed-gone : rowFor (freed t d) d ≡ none
   unfolding freed rowFor
   freed-gone = by (findRow t d) refl
@@ -407,7 +407,7 @@ module _ (t : List ℕ) (d : Address) (legal : Legal t) where
           let found = found-here t d i e in
           put-gone t i freeRow (omega arith) free-fits d (free-holds t i (omega arith) d) (found-only t d legal i e)
 
-  -- the rows of all other destinations are what they were
+  -- The rows of all other destinations stay.
   pub freed-other : (e : Address) → same d e ≡ false → rowFor (freed t d) e ≡ rowFor t e
   unfolding freed
   freed-other e n = by (findRow t d) refl
@@ -418,7 +418,7 @@ module _ (t : List ℕ) (d : Address) (legal : Legal t) where
           let found = found-here t d i q in
           put-other t i freeRow (omega arith) free-fits e (held-for-one t d e i (found .1) n) (free-holds t i (omega arith) e)
 
-  -- a row more is free
+  -- One more row is free if the destination had a row.
   pub freed-free : freeRows (freed t d) + newRows (rowFor t d) ≡ suc (freeRows t)
   unfolding freed rowFor
   freed-free = by (findRow t d) refl

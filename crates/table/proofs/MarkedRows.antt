@@ -1,4 +1,4 @@
--- The destinations of rows, marked from the first row on: that of a row is looked for among those of the rows below it.
+-- Laws of marking the destinations of rows from the first row on. A marked destination is looked for in the rows before.
 use Prim.Native.Nat.{ℕ, _+_, _<_}
 use mathlib.Core.Path.{_≡_, refl, sym, ap, _∙_}
 use mathlib.Core.Bool.{Bool, true, false, _&&_, _||_, or-true}
@@ -15,7 +15,7 @@ use Rattle.layout.specs.declared.address.Address.{Address}
 use Rattle.layout.proofs.Marks.{Marked, marked-up, unmarked}
 use Rattle.table.proofs.Places.{first-nowhere}
 
--- a test may be spared where another implies it
+-- A test may be skipped if another test implies it.
 spared : (x a : Bool) → (x ≡ true → a ≡ true) → (x || a) ≡ a
 spared true a f = sym (f refl)
 spared false a f = refl
@@ -25,7 +25,7 @@ destinationIn t i = rowAt t i .destination
 
 module _ (t seen : List ℕ) (last i : ℕ) (d : Address) (de : d ≡ rowAt t i .destination) (h : ℕ) (he : h ≡ mark last d)
     (m : Marked (destinationIn t) seen last 0 i) where
-  -- a row whose destination is not marked has another one than each row below it, and so stands alone
+  -- If the destination of row i is not marked, no row before row i is held for it, and row i stands alone.
   other : getD seen h 0 ≡ 0 → (k : ℕ) → k < i → holds t (rowAt t i .destination) k ≡ false
   unfolding holds destinationIn
   other e k l =
@@ -37,7 +37,7 @@ module _ (t seen : List ℕ) (last i : ℕ) (d : Address) (de : d ≡ rowAt t i 
   unfolding alone
   stands-alone e = rw (first-nowhere (holds t (rowAt t i .destination)) i (other e)) (or-true (vacant t i))
 
-  -- so a test of the mark spares that of the rows before
+  -- If the mark is not set, the search of the rows before may be skipped.
   pub passes-by : (a : Address) (b : Bool) → b ≡ (rowOk a (rowAt t i) && (eqb (getD seen h 0) 0 || alone t i)) → b ≡ passes t a i
   passes-by a b be =
       be ∙ ap (_&&_ (rowOk a (rowAt t i))) (spared (eqb (getD seen h 0) 0) (alone t i) (λ q. stands-alone (eqb-true (getD seen h 0) 0 q)))

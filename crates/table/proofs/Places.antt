@@ -1,5 +1,5 @@
--- Laws of `first`, `count` and `every`: what a loop that tests the places below n in turn knows at place i, where b is what
--- the test said there. Each is stated as a loop's proof asks it, so that `search` applies it.
+-- Laws of `first`, `count` and `every`. They say what a loop that tests the places below n in turn knows at place i, where b is
+-- the result of the test. Each law has the form that the proof of a loop needs, so that `search` can apply it.
 use Prim.Native.Nat.{ℕ, zero, suc, _+_, _<_, _≤_}
 use mathlib.Core.Path.{_≡_, refl, sym}
 use mathlib.Core.Bool.{Bool, true, false, cond, and-eq-true-iff}
@@ -87,7 +87,7 @@ module _ (p : ℕ → Bool) where
   pub count-ended : (n i found : ℕ) → found ≡ count p i → i ≤ n → n ≤ i → found ≡ count p n
   count-ended n i found h l g = rw (le-antisymm g l) h
 
-  -- ---- what a caller reads out of them, and puts in
+  -- ---- what follows from `every`, `first` and `count`, and what they follow from
   pub every-at : (n k : ℕ) → every p n ≡ true → k < n → p k ≡ true
   unfolding every
   every-at zero k e l = absurd (not-suc-le-zero l)
@@ -120,12 +120,12 @@ module _ (p : ℕ → Bool) where
       go Nothing fe true be ih = let q : n ≡ i = cc in rw (← q) be
       go Nothing fe false be ih = clash cc
 
-  -- the only place is the first
+  -- If only one place passes, it is the first.
   pub first-only : (n i : ℕ) → i < n → p i ≡ true → ((k : ℕ) → k < n → (k ≡ i → ⊥) → p k ≡ false) → first p n ≡ At i
   first-only n i l e h =
       sym (first-here n i true (sym e) refl (first-nowhere i (λ k g. h k (omega arith) (λ q. omega arith))) l)
 
-  -- where none passes, none is counted, and where all do, all
+  -- If no place passes, the count is 0. If every place passes, the count is n.
   pub count-nowhere : (n : ℕ) → ((k : ℕ) → k < n → p k ≡ false) → count p n ≡ 0
   unfolding count
   count-nowhere zero h = refl
@@ -136,7 +136,7 @@ module _ (p : ℕ → Bool) where
   count-all zero h = refl
   count-all (suc n) h = rw (count-all n (λ k l. h k (omega arith)), h n (omega arith)) (omega arith)
 
--- two tests that agree below n
+-- Laws of two tests that agree below n.
 module _ (p q : ℕ → Bool) where
   pub first-cong : (n : ℕ) → ((k : ℕ) → k < n → p k ≡ q k) → first p n ≡ first q n
   unfolding first
@@ -148,7 +148,7 @@ module _ (p q : ℕ → Bool) where
   count-cong zero h = refl
   count-cong (suc n) h = rw (count-cong n (λ k l. h k (omega arith)), h n (omega arith))
 
-  -- two tests that agree but at i, which p alone passes
+  -- If two tests agree except at i, where only p passes, p counts one place more.
   pub count-drop : (n i : ℕ) → i < n → ((k : ℕ) → k < n → (k ≡ i → ⊥) → p k ≡ q k) → p i ≡ true → q i ≡ false → count p n ≡ suc (count q n)
   unfolding count
   count-drop zero i l h yes-i no-i = absurd (not-suc-le-zero l)

@@ -1,4 +1,4 @@
--- A table by its parts, and the row of a destination by its place.
+-- Laws of a table by its parts, and of the row of a destination by its place.
 use Prim.Native.Nat.{ℕ, _<_}
 use mathlib.Core.Path.{_≡_, refl, ap}
 use mathlib.Core.Bool.{Bool, true, false, not, and-eq-true-iff}
@@ -66,14 +66,14 @@ module _ (t : List ℕ) (d : Address) (k : ℕ) where
 
 -- ---- a table
 
--- `isTable` as what it says of the head, of each row and of two rows
+-- What `isTable` says about the head, about each row, and about two rows.
 pub record Legal (t : List ℕ) : Type 0 where
   pub head : headOk (headAt t) ≡ true
   pub row : (k : ℕ) → k < rows t → rowOk (own t) (rowAt t k) ≡ true
-  -- no destination stands twice
+  -- No two held rows have one destination.
   pub once : (d : Address) (j k : ℕ) → j < rows t → k < rows t → holds t d j ≡ true → holds t d k ≡ true → j ≡ k
 
--- a held row that is alone is the first that is held for its destination
+-- If a held row stands alone, the search of the rows before it finds nothing.
 alone-first : (t : List ℕ) (k : ℕ) → alone t k ≡ true → vacant t k ≡ false → first (holds t (rowAt t k .destination)) k ≡ Nothing
 unfolding alone
 alone-first t k a v = go (first (holds t (rowAt t k .destination)) k) refl
@@ -82,14 +82,14 @@ alone-first t k a v = go (first (holds t (rowAt t k .destination)) k) refl
     go Nothing e = e
     go (At j) e = clash cc
 
--- so no row before it is held for the same destination
+-- If row k stands alone, no row before it is held for the destination that row k is held for.
 not-before : (t : List ℕ) (d : Address) (j k : ℕ) → alone t k ≡ true → j < k → holds t d j ≡ true → holds t d k ≡ true → ⊥
 not-before t d j k a l hj hk =
     let row = held-row t d k hk in
     let none = first-not (holds t (rowAt t k .destination)) k j (alone-first t k a (row .0)) l in
     true-not-false hj (rw (row .1) at none)
 
--- what passes at a place
+-- If every row passes, row k is legal and stands alone.
 row-passes : (t : List ℕ) (k : ℕ) → every (passes t (own t)) (rows t) ≡ true → k < rows t → (rowOk (own t) (rowAt t k) ≡ true) × (alone t k ≡ true)
 row-passes t k e l = and-eq-true-iff (rowOk (own t) (rowAt t k)) (alone t k) .0 (every-at (passes t (own t)) (rows t) k e l)
 

@@ -1,4 +1,4 @@
--- The places below n at which a test holds: the first, how many, and whether all.
+-- Defines, for a test on the places below n: the first place that passes, how many pass, and whether every place passes.
 use Prim.Native.Nat.{ℕ, zero, suc, _+_}
 use mathlib.Core.Bool.{Bool, true, false, _&&_, cond}
 use Rattle.table.specs.declared.search.Found.{Found}

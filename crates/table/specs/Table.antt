@@ -1,10 +1,10 @@
--- What makes octets a table, what is to be seen of one, and what calls do to it. What is defined here:
+-- Defines what makes octets a table (PROTOCOL, 'Table'), what can be read from a table, and what calls do to it.
 --   own, number, requestId, clock         the fields of the head
---   vacant, holds, findRow, rowFor        rows by destination, and the row held for one
+--   vacant, holds, findRow, rowFor        rows by destination, and the row held for a destination
 --   activeNext                            the next hop of a row that is there and active
---   freeRows, firstFree, newRows          free rows, and how many rows a destination needs
+--   freeRows, firstFree, newRows          free rows, and how many new rows a destination needs
 --   alone, passes, isTable                what refusal 21 asks
---   fresh, store, freed, changeWhere      a fresh table; a row stored, freed; the rows that pass a test changed
+--   fresh, store, freed, changeWhere      a fresh table; a row stored; a row freed; the rows that pass a test changed
 use Prim.Native.Nat.{ℕ, zero, suc}
 use mathlib.Core.Bool.{Bool, _&&_, _||_, not, cond}
 use mathlib.Core.List.{List}
@@ -40,15 +40,15 @@ clock t = headAt t .clock
 
 -- ---- rows by destination
 
--- row i is free, by its status; 21 asks that the rest is zero
+-- Reports whether row i is free, by its status. Refusal 21 asks that the rest of a free row is zero.
 unfoldable pub vacant : List ℕ → ℕ → Bool
 vacant t i = eqb (rowAt t i .status) 0
 
--- row i is held for d
+-- Reports whether row i is held for d.
 unfoldable pub holds : List ℕ → Address → ℕ → Bool
 holds t d i = same (rowAt t i .destination) d && not (vacant t i)
 
--- the place of the row that is held for d
+-- Returns the place of the row held for d.
 unfoldable pub findRow : List ℕ → Address → Found
 findRow t d = first (holds t d) (rows t)
 
@@ -56,7 +56,7 @@ abbrev pub rowIn : List ℕ → Found → Option Row
 rowIn t (At i) = some (rowAt t i)
 rowIn t Nothing = none
 
--- the row that is held for d
+-- Returns the row held for d.
 unfoldable pub rowFor : List ℕ → Address → Option Row
 rowFor t d = rowIn t (findRow t d)
 
@@ -70,35 +70,36 @@ abbrev pub hopIn : NextHop → Option Address
 hopIn (To next) = some next
 hopIn Nobody = none
 
--- how many new rows a destination needs that has this row, or none
+-- Returns how many new rows a destination needs: 0 if it has a row, 1 if it has none.
 abbrev pub newRows : Option Row → ℕ
 newRows (some r) = 0
 newRows none = 1
 
--- how many rows are free, and the free row of lowest place
+-- Returns how many rows are free.
 unfoldable pub freeRows : List ℕ → ℕ
 freeRows t = count (vacant t) (rows t)
 
+-- Returns the free row of lowest place.
 unfoldable pub firstFree : List ℕ → Found
 firstFree t = first (vacant t) (rows t)
 
 -- ---- refusal 21: the octets are a table
 
--- row i is free, or no row before it is held for its destination
+-- Reports whether row i is free, or no row before it is held for its destination.
 unfoldable pub alone : List ℕ → ℕ → Bool
 alone t i = vacant t i || isNothing (first (holds t (rowAt t i .destination)) i)
 
--- row i is as it should be in the table of the point with this address
+-- Reports whether row i is legal in the table of the point with address `self`, and stands alone.
 abbrev pub passes : List ℕ → Address → ℕ → Bool
 passes t self i = rowOk self (rowAt t i) && alone t i
 
--- the head and each row are as they should be, and no destination stands twice
+-- Octets are a table if the head and each row are legal, and no two held rows have one destination.
 unfoldable pub isTable : List ℕ → Bool
 isTable t = headOk (headAt t) && every (passes t (own t)) (rows t)
 
 -- ---- what calls do to a table
 
--- so many octets as a fresh table
+-- Returns a fresh table of the given number of octets.
 unfoldable pub fresh : ℕ → Address → SequenceNumber → List ℕ
 fresh octets address sequence = putHead (zeros octets) (freshHead address sequence)
 
@@ -106,26 +107,26 @@ abbrev pub putAt : List ℕ → Row → Found → List ℕ
 putAt t r (At i) = putRow t i r
 putAt t r Nothing = t
 
--- a row goes in the place of its destination's row, else in the free row of lowest place
+-- A row goes to the place of its destination's row. If there is none, it goes to the free row of lowest place.
 unfoldable pub placeFor : List ℕ → Address → Found
 placeFor t d = orElse (findRow t d) (firstFree t)
 
 unfoldable pub store : List ℕ → Row → List ℕ
 store t r = putAt t r (placeFor t (r .destination))
 
--- the row of a destination is freed
+-- Frees the row of a destination.
 unfoldable pub freed : List ℕ → Address → List ℕ
 freed t d = putAt t freeRow (findRow t d)
 
--- row i is changed by f if it passes the test p
+-- Changes row i by f if it passes the test p.
 abbrev pub changeAt : (Row → Bool) → (Row → Row) → ℕ → List ℕ → List ℕ
 changeAt p f i t = cond (p (rowAt t i)) (putRow t i (f (rowAt t i))) t
 
--- so is each row below n
+-- Changes by f each row below n that passes the test p.
 unfoldable pub changeBelow : (Row → Bool) → (Row → Row) → ℕ → List ℕ → List ℕ
 changeBelow p f zero t = t
 changeBelow p f (suc n) t = changeAt p f n (changeBelow p f n t)
 
--- and each row; those that fail the test stay as they are, octet by octet
+-- Changes by f each row that passes the test p. Rows that fail the test stay as they are, octet by octet.
 unfoldable pub changeWhere : (Row → Bool) → (Row → Row) → List ℕ → List ℕ
 changeWhere p f t = changeBelow p f (rows t) t

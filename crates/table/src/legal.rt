@@ -1,4 +1,4 @@
-// Whether octets are a table.
+// Tests whether octets are a table.
 use crate::search;
 use layout::address::Address;
 use layout::row;
@@ -15,7 +15,7 @@ ghost use Rattle.layout.specs.Layout.{place, rowAt, rowOctets, sized, Sized};
 ghost use Rattle.table.specs.Places.{every};
 ghost use Rattle.table.specs.Table.{alone, isTable, passes};
 
-// Octets of the shortest table and of the longest.
+// How many octets the shortest and the longest table have.
 const SHORTEST: usize = HEAD_OCTETS + ROW_OCTETS;
 
 const LONGEST: usize = HEAD_OCTETS + ROW_OCTETS * MOST_ROWS;
@@ -27,7 +27,7 @@ pub fn is_sized(table: &[u8]) -> bool
     (octets % ROW_OCTETS == HEAD_OCTETS % ROW_OCTETS) & (SHORTEST <= octets) & (octets <= LONGEST)
 }
 
-// Whether row i is all zero, eight octets at a time.
+// Reports whether row i is all zero, reading eight octets at a time.
 fn is_blank(table: &[u8], i: usize) -> bool
     requires { ⌜ place i + rowOctets ≤ length (now table) ⌝ }
     ensures { λ r. ⌜ r ≡ isFree (rowAt (now (table .entry)) i) ⌝ }
@@ -49,7 +49,7 @@ fn is_row(table: &[u8], own: Address, i: usize) -> bool
     row::read_row(table, i).is_held(own)
 }
 
-// Whether row i is free, or no row before it is held for its destination.
+// Reports whether row i is free, or no row before it is held for its destination.
 fn is_alone(table: &[u8], i: usize) -> bool
     requires { ⌜ place i + rowOctets ≤ length (now table) ⌝ }
     ensures { λ r. ⌜ r ≡ alone (now (table .entry)) i ⌝ }
@@ -61,7 +61,8 @@ fn is_alone(table: &[u8], i: usize) -> bool
     search::is_nothing(search::find_below(table, i, d))
 }
 
-// Whether row i passes, where mark 0 says that no row before i has its destination.
+// Reports whether row i passes. By mark 0 the caller says that no row before i has the destination of row i. The search for such
+// a row is then skipped.
 fn passes_by(table: &[u8], own: Address, i: usize, mark: u8) -> bool
     requires { ⌜ place i + rowOctets ≤ length (now table) ⌝ }
     ensures { λ r. ⌜ r ≡ (rowOk own (rowAt (now (table .entry)) i) && (eqb mark 0 || alone (now (table .entry)) i)) ⌝ }
@@ -75,7 +76,8 @@ fn passes_by(table: &[u8], own: Address, i: usize, mark: u8) -> bool
     is_alone(table, i)
 }
 
-// Marks the destination of each row passed in seen. Two destinations may share a mark: then the rows before are searched.
+// Reports whether the first n rows pass. It marks in `seen` the destination of each row that passes. Two destinations may share
+// a mark. If the mark of a row is already set, the rows before that row are searched.
 fn rows_pass_by(table: &[u8], own: Address, n: usize, seen: &mut [u8], last: usize) -> bool
     requires { ⌜ place n ≤ length (now table) ⌝ }
     requires { ⌜ length (now seen) ≡ last + 1 ⌝ }
@@ -93,7 +95,7 @@ fn rows_pass_by(table: &[u8], own: Address, n: usize, seen: &mut [u8], last: usi
     true
 }
 
-// Few rows take few marks, since all marks have to be cleared first.
+// Reports whether the first n rows pass. A table of few rows uses few marks, because all marks must be cleared first.
 fn rows_pass(table: &[u8], own: Address, n: usize) -> bool
     requires { ⌜ place n ≤ length (now table) ⌝ }
     ensures { λ r. ⌜ r ≡ every (passes (now (table .entry)) own) n ⌝ }

@@ -1,4 +1,4 @@
-// The table of a mesh point in lent octets: a head of 32 octets, and rows of 32.
+// The table of a point in lent octets: a head of 32 octets, and rows of 32 octets.
 pub mod legal;
 pub mod search;
 pub mod store;

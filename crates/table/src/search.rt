@@ -1,4 +1,4 @@
-// Rows by destination, and free rows.
+// Finds rows by destination, and finds and counts free rows.
 use layout::address::Address;
 use layout::row;
 use layout::row::HEAD_OCTETS;
@@ -11,7 +11,7 @@ ghost use Rattle.layout.specs.Layout.{mostRows, place, rowOctets, rows, Sized};
 ghost use Rattle.table.specs.Places.{count, first, isNothing, orElse};
 ghost use Rattle.table.specs.Table.{activeNext, findRow, firstFree, freeRows, holds, hopIn, rowFor, vacant};
 
-// A place of the table, or none.
+// The place of a row in the table, or none.
 pub enum Found {
     At(usize),
     Nothing,
@@ -26,7 +26,7 @@ pub fn is_nothing(f: Found) -> bool
     }
 }
 
-// How many rows the table has.
+// Returns how many rows the table has.
 pub fn rows_of(table: &[u8]) -> usize
     requires { ⌜ Sized (now table) ⌝ }
     ensures { λ r. ⌜ r ≡ rows (now (table .entry)) ⌝ }
@@ -41,7 +41,7 @@ pub fn is_vacant(table: &[u8], i: usize) -> bool
     row::status_at(table, i) == 0
 }
 
-// Whether row i is held for d.
+// Reports whether row i is held for d.
 fn is_held_for(table: &[u8], i: usize, d: Address) -> bool
     requires { ⌜ place i + rowOctets ≤ length (now table) ⌝ }
     ensures { λ r. ⌜ r ≡ holds (now (table .entry)) d i ⌝ }
@@ -52,7 +52,7 @@ fn is_held_for(table: &[u8], i: usize, d: Address) -> bool
     !is_vacant(table, i)
 }
 
-// The first of the n first rows that is held for d.
+// Returns the place of the first row held for d among the first n rows.
 pub fn find_below(table: &[u8], n: usize, d: Address) -> Found
     requires { ⌜ place n ≤ length (now table) ⌝ }
     ensures { λ r. ⌜ r ≡ first (holds (now (table .entry)) d) n ⌝ }
@@ -80,7 +80,7 @@ pub enum NextHop {
     Nobody,
 }
 
-// Answers the next hop of the destination's row, if that is active.
+// Returns the next hop of the destination's row, if that row is active.
 pub fn active_next(table: &[u8], clock: u64, destination: Address) -> NextHop
     requires { ⌜ Sized (now table) ⌝ }
     ensures { λ r. ⌜ hopIn r ≡ activeNext clock (rowFor (now (table .entry)) destination) ⌝ }
@@ -96,7 +96,7 @@ pub fn active_next(table: &[u8], clock: u64, destination: Address) -> NextHop
     NextHop::To(next)
 }
 
-// The first of the n first rows that is free.
+// Returns the place of the first free row among the first n rows.
 fn vacant_below(table: &[u8], n: usize) -> Found
     requires { ⌜ place n ≤ length (now table) ⌝ }
     ensures { λ r. ⌜ r ≡ first (vacant (now (table .entry))) n ⌝ }
@@ -118,7 +118,7 @@ fn first_free(table: &[u8]) -> Found
     vacant_below(table, rows_of(table))
 }
 
-// Where a row goes whose destination was looked for.
+// Returns the place where a row goes: the place `found` of its destination's row, otherwise that of the first free row.
 pub fn place_for(table: &[u8], found: Found) -> Found
     requires { ⌜ Sized (now table) ⌝ }
     ensures { λ r. ⌜ r ≡ orElse found (firstFree (now (table .entry))) ⌝ }
@@ -129,7 +129,7 @@ pub fn place_for(table: &[u8], found: Found) -> Found
     }
 }
 
-// Free rows count wherever they lie, so a held row between them leaves the count as it is.
+// Adds a free row to the count. A held row leaves the count as it is, so that free rows count wherever they lie.
 fn counted(found: usize, free: bool) -> usize
     requires { ⌜ found < mostRows ⌝ }
     ensures { λ r. ⌜ r ≡ found + cond free 1 0 ⌝ }
@@ -137,7 +137,7 @@ fn counted(found: usize, free: bool) -> usize
     if free { found + 1 } else { found }
 }
 
-// How many of the n first rows are free.
+// Returns how many of the first n rows are free.
 fn count_vacant(table: &[u8], n: usize) -> usize
     requires { ⌜ (place n ≤ length (now table)) × (n ≤ mostRows) ⌝ }
     ensures { λ r. ⌜ r ≡ count (vacant (now (table .entry))) n ⌝ }

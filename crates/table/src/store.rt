@@ -1,4 +1,4 @@
-// What calls do to a table.
+// Writes a fresh table, and writes a row to its place.
 use crate::search;
 use crate::search::Found;
 use counters::SequenceNumber;
@@ -12,7 +12,7 @@ ghost use lib.ListN.{length};
 ghost use Rattle.table.specs.Table.{findRow, fresh, store};
 ghost use Rattle.layout.specs.Layout.{Sized};
 
-// Makes a fresh table of whatever stood there.
+// Overwrites the octets with a fresh table, whatever they were.
 pub fn make_fresh(table: &mut [u8], own: Address, number: SequenceNumber)
     requires { ⌜ Sized (now table) ⌝ }
     ensures { λ _. ⌜ now (table .exit) ≡ fresh (length (now (table .entry))) own number ⌝ }
@@ -21,7 +21,8 @@ pub fn make_fresh(table: &mut [u8], own: Address, number: SequenceNumber)
     octets::clear(&mut table[HEAD_OCTETS..]);
 }
 
-// Puts a row where its destination was found, else in the free row of lowest place; where there is none, nothing changes.
+// Writes a row where its destination was found, otherwise to the free row of lowest place. If there is no place, nothing
+// changes.
 pub fn put_row(table: &mut [u8], found: Found, r: Row)
     requires { ⌜ Sized (now table) ⌝ }
     requires { ⌜ found ≡ findRow (now table) (r .destination) ⌝ }

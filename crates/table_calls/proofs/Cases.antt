@@ -1,4 +1,5 @@
--- The definitions of the calls by cases, each as a `return` asks it. Each section adds the test that was passed.
+-- The definitions of the calls by cases, in the form that the proof of a `return` needs. Each nested module adds a test that was
+-- passed.
 use Prim.Native.Nat.{ℕ, _+_, _≤_, _<_}
 use mathlib.Core.Path.{_≡_, refl}
 use mathlib.Core.Bool.{Bool, true, false, not}

@@ -1,4 +1,5 @@
--- What the check of forget says of the call: for the code's own functions, no part of what a call is.
+-- Defines what the check of forget says about the call. It serves only the contracts of the code, and is no part of what a call
+-- is.
 use Prim.Native.Nat.{ℕ, _+_, _≤_}
 use mathlib.Core.List.{List}
 use lib.ListN.{length}
@@ -8,12 +9,12 @@ use Rattle.rules.specs.Decision.{Decision, refused, accepted}
 use Rattle.table_calls.specs.declared.forget.Check.{Check}
 use Rattle.table_calls.specs.declared.forget.Check.the-variants.{Row, Refused}
 
--- a forget is refused with this number, or frees the row at this place of the table
+-- A forget is refused with a number, or frees the row at a place of the table.
 abbrev pub forgetDecision : List ℕ → Check → Decision (List ℕ)
 forgetDecision t (Refused n) = refused n
 forgetDecision t (Row i) = accepted (putRow t i freeRow)
 
--- the row to free lies inside the table
+-- States that the row to free lies inside the table.
 abbrev pub Inside : List ℕ → Check → Type 0
 Inside t (Refused n) = Unit {0}
 Inside t (Row i) = place i + rowOctets ≤ length t

@@ -1,4 +1,4 @@
-// Forget a destination.
+// Forgets a destination.
 use calls::Answer;
 use layout::address::Address;
 use layout::row;

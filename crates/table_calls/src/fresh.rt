@@ -1,4 +1,4 @@
-// Make a fresh table.
+// Makes a fresh table.
 use calls::Answer;
 use counters::SequenceNumber;
 use layout::address::Address;

@@ -1,4 +1,4 @@
-// Find a next hop.
+// Finds a next hop.
 use layout::address::Address;
 use layout::row;
 use table::legal;

@@ -1,4 +1,4 @@
--- `answering::answering_row` meets its contract: by the row, or without one.
+-- `answering::answering_row` meets its contract: it returns the row that answers, or nobody.
 use borrow.Author.Needs.{needs}
 use Rattle.table.proofs.Cases.{found-within}
 use Rattle.answering.proofs.AnsweringRows.{nobody-do, nobody-absent, nobody-stale, row-answers}

@@ -1,4 +1,4 @@
--- `counters::one_more` meets its contract: by what it calls.
+-- `counters::one_more` meets its contract, by the contracts of the functions that it calls.
 use borrow.Author.Needs.{needs}
 use Rattle.counters.proofs.one_more.Statement.{statement}
 use Rattle.counters.proofs.one_more.Tie as tie

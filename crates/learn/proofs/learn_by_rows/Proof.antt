@@ -1,11 +1,11 @@
--- `learn::learn_by_rows` meets its contract: one check of the list after another, and then what is learnt.
+-- `learn::learn_by_rows` meets its contract: it goes through the list check by check, and then learns.
 use borrow.Author.Needs.{needs}
 use Rattle.table.proofs.ByHead.{is-own, is-other}
 use Rattle.calls.proofs.Checks.{applies, passes, all-passed, as-tested}
 use Rattle.learn.proofs.learn_by_rows.Statement.{statement}
 use Rattle.learn.proofs.learn_by_rows.Tie as tie
 
--- what these checks need of `checking` and `by-head`: with all of both, a search for a wrong answer meets its bound
+-- The part of `checking` and `by-head` that these checks need. With all of both, a search for a wrong answer reaches its bound.
 ruleset judging = (applies, passes, all-passed, as-tested, is-own, is-other)
 
 pub learn-by-rows-spec : {M : Type 1} → statement M

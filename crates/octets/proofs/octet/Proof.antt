@@ -1,4 +1,4 @@
--- `octets::octet` meets its contract: an octet is below 256, at whatever place.
+-- `octets::octet` meets its contract: the octet at every place is below 256.
 use borrow.Author.Needs.{needs}
 use Prim.Native.Nat.{ℕ}
 use mathlib.Core.List.{List}

@@ -1,4 +1,4 @@
--- `octets::write_fields` meets its contract: the fields that are left to write make the whole.
+-- `octets::write_fields` meets its contract: writing the fields that are left gives the whole result.
 use Prim.Native.Nat.{_+_, _-_, _≤_}
 use mathlib.Core.Path.{_≡_}
 use lib.ListN.{length, getD, drop}
@@ -17,7 +17,7 @@ Inv-loop s₀ at widths values o₀ i₀ s o i =
 abbrev μ-loop : tie.MeasureT-loop
 μ-loop s₀ at widths values o₀ i₀ s o i = length widths - i
 
--- in a turn, the octets left after this field
+-- After the current field, the octets written and the octets of the fields left still make the total.
 after : (c : tie.In-loop Inv-loop μ-loop)
     → c .before .loop .o + getD (c .before .before .before .before .before .args .widths .now) (c .before .loop .i) 0
     + total (drop (c .before .loop .i + 1) (c .before .before .before .before .before .args .widths .now))

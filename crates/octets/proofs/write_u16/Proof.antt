@@ -1,4 +1,4 @@
--- `octets::write_u16` meets its contract: its octets make the whole.
+-- `octets::write_u16` meets its contract: the two octets make the number.
 use borrow.Author.Needs.{needs}
 use Rattle.octets.proofs.Laws.{second-in, written-2}
 use Rattle.octets.proofs.write_u16.Statement.{statement}

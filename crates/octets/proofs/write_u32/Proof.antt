@@ -1,4 +1,4 @@
--- `octets::write_u32` meets its contract: its halves make the whole.
+-- `octets::write_u32` meets its contract: the two halves make the number.
 use borrow.Author.Needs.{needs}
 use Rattle.octets.proofs.Laws.{written-4}
 use Rattle.octets.proofs.write_u32.Statement.{statement}

@@ -1,4 +1,4 @@
--- `octets::write_u48` meets its contract: its parts make the whole.
+-- `octets::write_u48` meets its contract: the two parts make the number.
 use borrow.Author.Needs.{needs}
 use Rattle.octets.proofs.Laws.{written-6}
 use Rattle.octets.proofs.write_u48.Statement.{statement}

@@ -1,4 +1,4 @@
--- `octets::write_u64` meets its contract: its halves make the whole.
+-- `octets::write_u64` meets its contract: the two halves make the number.
 use borrow.Author.Needs.{needs}
 use Rattle.octets.proofs.Laws.{written-8}
 use Rattle.octets.proofs.write_u64.Statement.{statement}

@@ -1,4 +1,4 @@
--- `calls::Emitted::nothing` meets its contract: no frame takes no octet.
+-- `calls::Emitted::nothing` meets its contract: an empty list of frames has no octets.
 use Rattle.rules.proofs.FrameOctets.{no-frame}
 use Rattle.calls.proofs.Emitted.nothing.Statement.{statement}
 use Rattle.calls.proofs.Emitted.nothing.Tie as tie

@@ -1,4 +1,4 @@
--- `calls::clocked::check_state` meets its contract: one check of the list after another.
+-- `calls::clocked::check_state` meets its contract, by one check of the list after another.
 use borrow.Author.Needs.{needs}
 use Rattle.rules.specs.Checks.{stateChecks}
 use Rattle.table.proofs.ByHead.{by-head}

@@ -1,4 +1,4 @@
--- `calls::clocked::store_head` meets its contract: by what it calls.
+-- `calls::clocked::store_head` meets its contract, by the contracts of the functions that it calls.
 use borrow.Author.Needs.{needs}
 use Rattle.calls.proofs.Neighbours.{head-stored}
 use Rattle.calls.proofs.clocked.store_head.Statement.{statement}

@@ -1,4 +1,4 @@
--- `counters::RequestId::next` meets its contract: one more is the next request ID.
+-- `counters::RequestId::next` meets its contract: `one_more` gives the next request ID.
 use borrow.Author.Needs.{needs}
 use Rattle.counters.specs.Numbers.{stepped}
 use Rattle.counters.proofs.RequestId.next.Statement.{statement}

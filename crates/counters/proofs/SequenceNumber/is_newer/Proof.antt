@@ -1,4 +1,4 @@
--- `counters::SequenceNumber::is_newer` meets its contract: the distance lies in the lower half.
+-- `counters::SequenceNumber::is_newer` meets its contract: a newer number has its distance in the lower half, above 0.
 use borrow.Author.Needs.{needs}
 use Rattle.counters.proofs.Laws.{newer-at}
 use Rattle.counters.proofs.SequenceNumber.is_newer.Statement.{statement}

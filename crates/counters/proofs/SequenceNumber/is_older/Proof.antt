@@ -1,4 +1,4 @@
--- `counters::SequenceNumber::is_older` meets its contract: the distance lies in the upper half.
+-- `counters::SequenceNumber::is_older` meets its contract: an older number has its distance in the upper half.
 use borrow.Author.Needs.{needs}
 use Rattle.counters.proofs.Laws.{older-at}
 use Rattle.counters.proofs.SequenceNumber.is_older.Statement.{statement}

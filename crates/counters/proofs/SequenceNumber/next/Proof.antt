@@ -1,4 +1,4 @@
--- `counters::SequenceNumber::next` meets its contract: one more is the next number.
+-- `counters::SequenceNumber::next` meets its contract: `one_more` gives the next number.
 use borrow.Author.Needs.{needs}
 use Rattle.counters.specs.Numbers.{stepped}
 use Rattle.counters.proofs.SequenceNumber.next.Statement.{statement}

@@ -1,6 +1,6 @@
--- `counters::own::advance` meets its contract: a walk of its MIR, by hand. The borrow is opened, the record behind it is read
--- whole and passed to `advanced`, and what that returns is stored; the borrow is closed at the record returned.
--- All that the proof knows of `advanced` is that it meets its contract.
+-- `counters::own::advance` meets its contract. The proof goes through its MIR by hand. It opens the borrow, reads the whole
+-- record behind it, passes the record to `advanced`, and stores the record that `advanced` returns. It then closes the borrow
+-- at the record returned. Of `advanced` the proof uses only the contract.
 use mathlib.Core.Path.{_≡_, refl}
 use Prim.Native.Nat.{ℕ}
 use mathlib.Core.Bool.{Bool}
@@ -62,7 +62,7 @@ abbrev mach : OwnCounters → Val
 mach h = LL.tuple-val T.the-type T′.the-laws (T.the-type .to h)
 
 module _ {M : Type 1} (𝓤 : URA M) (H : Heap 𝓤) (A : Atoms 𝓤) (at-mem : Memory → SProp 𝓤) (run : Routine → Fun 𝓤) where
-  -- the contract that the proof cites, and of what it ensures the clause alone
+  -- The contract of `advanced`, and below it the one clause that the contract ensures.
   abbrev G : Contract 𝓤
   G = tripleOf 𝓤 H A g.signature (g.spec 𝓤 H A at-mem run)
 

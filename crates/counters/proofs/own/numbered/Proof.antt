@@ -1,7 +1,6 @@
--- `counters::own::numbered` meets its contract: a walk of its MIR, by hand. The parameter is copied to a local in memory, which
--- is lent to `advance` for a lifetime that is made for the call; the lifetime is ended, the local is back at its last value,
--- and that is returned.
--- All that the proof knows of `advance` is that it meets its contract.
+-- `counters::own::numbered` meets its contract. The proof goes through its MIR by hand. It copies the operand to a local in
+-- memory, and lends the local to `advance` for a lifetime that is made for the call. When the lifetime ends, the local is back
+-- with its last value, which is returned. Of `advance` the proof uses only the contract.
 use mathlib.Core.Path.{_≡_, refl, sym, ap, subst}
 use Prim.Native.Nat.{ℕ}
 use mathlib.Core.Bool.{Bool}
@@ -64,12 +63,12 @@ vals = LL.vals T.the-type T′.the-laws
 abbrev mach : OwnCounters → Val
 mach h = LL.tuple-val T.the-type T′.the-laws (T.the-type .to h)
 
--- the contract that the proof cites
+-- The contract of `advance`.
 abbrev G : {M : Type 1} (𝓤 : URA M) (H : Heap 𝓤) (A : Atoms 𝓤) (at-mem : Memory → SProp 𝓤) (run : Routine → Fun 𝓤) → Contract 𝓤
 G 𝓤 H A at-mem run = tripleOf 𝓤 H A g.signature (g.spec 𝓤 H A at-mem run)
 
 module _ {M : Type 1} (𝓤 : URA M) (H : Heap 𝓤) (A : Atoms 𝓤) (W : Given 𝓤 H A) (l : ℕ) (h : OwnCounters) where
-  -- a local of the struct with what it owns, as what can be lent; and back
+  -- Turns a local of the struct, with what it owns, into memory that can be lent, and back.
   lies : ent 𝓤 (sep 𝓤 (sem 𝓤 H A (fat fullShare T′.mir l 0 (mach h))) (sem 𝓤 H A (T.the-row .own h (mach h ∷ [])))) (sem 𝓤 H A (mem T.the-row .lies h l 0))
   unfolding partOf
   lies =
@@ -98,7 +97,7 @@ module _ {M : Type 1} (𝓤 : URA M) (H : Heap 𝓤) (A : Atoms 𝓤) (W : Given
       suffices ! _ (ends-at 𝓤 H A f.ended stayed (f.clauses 𝓤 H A at-mem run) W ((tt, tt, tt, args, at), tt) (mach r) r (tt, (tt, tt)) (tt, (tt, tt))) $ says ! e $
       nothing ! $ owned ! bool (Is bool) (bool-makes 𝓤 H A W) t _ refl $ fjoin ! $ owned ! T.the-row (Is T.the-row) (LL.makes T.the-type T′.the-plain 𝓤 H A) h _ is $ fjoin ! $ nothing ! $ done !
 
-  -- what `advance`'s triple binds outside, at a local l lent for the lifetime ν under the name γ
+  -- What the triple of `advance` binds outside, for a local l that is lent under the name γ.
   abbrev x : ℕ → GName → RefT OwnCounters × (Bool × Unit {0})
   x l γ = (record { ptr = (l, 0); name = γ; now = h }, (t, tt))
 
@@ -118,7 +117,7 @@ module _ {M : Type 1} (𝓤 : URA M) (H : Heap 𝓤) (A : Atoms 𝓤) (W : Given
         pass1 ! (init ! 8 refl (LL.lawful T.the-type T′.the-laws 𝓤 H A W .typed h _ is .0)) $ pass1 ! (init ! 6 refl (tt, tt)) $ pass0 ! $
         assigns ! (of-opd ! (load ! (from ! (stop !)) (look ! 8 refl))) (from ! (stop !)) (init ! 4 refl (LL.lawful T.the-type T′.the-laws 𝓤 H A W .typed h _ is .0)) $
         assigns ! (addr ! (from ! (stop !))) (from ! (stop !)) (init ! 0 refl (tt, tt)) $
-        -- the local is lent for a lifetime ν of the call
+        -- The local is lent for a lifetime ν of the call.
         owned ! T.the-row (Is T.the-row) (LL.makes T.the-type T′.the-plain 𝓤 H A) h _ is $ move ! (5 ∷ 0 ∷ []) $ use2 W (‵ (mem T.the-row .lies h l₃ 0)) (lies 𝓤 H A W l₃ h) $
         lft-new ! tt (λ ν. move ! (1 ∷ []) $
         use1 W (later (some (λ (γ : GName). ‵ (MutRef (named 0) (ν ∷ []) T.the-row .own (x l₃ γ .0) (vptr l₃ 0 ∷ [])) ⊛ ‵ (flent (ν ∷ []) (Body (mem T.the-row) l₃ 0 γ))))) (lends-ref 𝓤 H A W T.the-row (named 0) (ν ∷ []) h l₃ 0) $ await ! tt $ pick ! (λ γ. split ! $
@@ -126,11 +125,11 @@ module _ {M : Type 1} (𝓤 : URA M) (H : Heap 𝓤) (A : Atoms 𝓤) (W : Given
         move ! (2 ∷ 0 ∷ []) $ use2 W (raw (G 𝓤 H A at-mem run .pre (to-g l₃ ν γ))) (goes-g l₃ ν γ) $
         calls-at ! fm (G 𝓤 H A at-mem run) known (to-g l₃ ν γ) (and-then ! (load ! (from ! (stop !)) (look ! 2 refl)) (and-then ! (load ! (from ! (stop !)) (look ! 7 refl)) (no-more !))) (λ v.
         use1 W (later (some (λ (u : Unit {0}). ((‵ (flft (ν ∷ []) fullShare) ⊛ ‵ ftrue) ⊛ ‵ (Nothing .own u (v ∷ []))) ⊛ raw (ensured 𝓤 H A g.ended (g.clauses 𝓤 H A at-mem run) (ν ∷ [], tt) (x l₃ γ) tt u)))) (id⊢ 𝓤 _) $ await ! tt $ pick ! (λ u.
-        -- what `advance` ensures, at some last record
+        -- What `advance` ensures, at some last record.
         split ! $ move ! (1 ∷ []) $ use1 W (some (λ (ws : OwnCounters × (Unit {0} × Unit {0})). ‵ (lasts g.ended (ν ∷ [], tt) (x l₃ γ) ws) ⊛ raw (fact 𝓤 (ws .0 ≡ advancedFor t h)))) (id⊢ 𝓤 _) $ pick ! (λ ws.
         split ! $ move ! (1 ∷ []) $ heard ! (ws .0 ≡ advancedFor t h) (λ e. fsplit ! $ move ! (2 ∷ []) $ split ! $ move ! (1 ∷ []) $ feqL ! (λ e′.
         land ! (from ! (stop !)) (init ! 6 refl (subst (λ (y : Val). Holds (hasTy tyUnit y) × WT y) (sym (ap only e′)) (tt, tt))) $
-        -- the lifetime is ended, and the local is back at that record
+        -- The lifetime is ended, and the local is back with the last record.
         split ! $ lft-end ! tt $ move ! (0 ∷ 4 ∷ 2 ∷ []) $ use3 W (later (‵ (mem T.the-row .lies (ws .0) l₃ 0))) (ref-back 𝓤 H A W T.the-row (ν ∷ []) γ (ws .0) l₃ 0) $ await ! tt $
         use1 W (‵ (fat fullShare T′.mir l₃ 0 (mach (ws .0))) ⊛ ‵ (T.the-row .own (ws .0) (mach (ws .0) ∷ []))) (back 𝓤 H A W l₃ (ws .0)) $ split ! $
         move ! (1 ∷ []) $ peeks ! T.the-row (Is T.the-row) (shows 𝓤 H A T.the-row) (ws .0) (mach (ws .0) ∷ []) (λ is′.

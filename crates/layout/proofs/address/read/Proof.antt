@@ -1,4 +1,4 @@
--- `layout::address::read` meets its contract: by what it calls.
+-- `layout::address::read` meets its contract, by the contracts of the functions that it calls.
 use borrow.Author.Needs.{needs}
 use Rattle.layout.proofs.address.read.Statement.{statement}
 use Rattle.layout.proofs.address.read.Tie as tie

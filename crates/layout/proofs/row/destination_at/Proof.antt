@@ -1,4 +1,4 @@
--- `layout::row::destination_at` meets its contract: by what its definition unfolds to.
+-- `layout::row::destination_at` meets its contract, by unfolding the definition.
 use borrow.Author.Needs.{needs}
 use Rattle.octets.specs.LittleEndian.{fieldsAt}
 use Rattle.layout.specs.Layout.{rowAt}

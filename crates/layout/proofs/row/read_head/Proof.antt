@@ -1,4 +1,4 @@
--- `layout::row::read_head` meets its contract: by what its definition unfolds to.
+-- `layout::row::read_head` meets its contract, by unfolding the definition.
 use borrow.Author.Needs.{needs}
 use Rattle.octets.specs.LittleEndian.{fieldsAt}
 use Rattle.layout.specs.Layout.{headAt}

@@ -1,4 +1,4 @@
--- `layout::row::read_row` meets its contract: field by field.
+-- `layout::row::read_row` meets its contract: it reads the row field by field.
 use borrow.Author.Needs.{needs}
 use Rattle.layout.proofs.HeadAndRows.{read}
 use Rattle.layout.proofs.row.read_row.Statement.{statement}

@@ -1,4 +1,4 @@
--- `layout::row::status_at` meets its contract: by what its definition unfolds to.
+-- `layout::row::status_at` meets its contract, by unfolding the definition.
 use borrow.Author.Needs.{needs}
 use native.Mathlib.Nat.{add-zero}
 use Rattle.octets.specs.LittleEndian.{fieldsAt}

@@ -1,4 +1,4 @@
--- `learn::room::lacks_rows` meets its contract: none is needed, or as many as are free are compared.
+-- `learn::room::lacks_rows` meets its contract: no row is needed, or the rows needed are compared with the free rows.
 use borrow.Author.Needs.{needs}
 use Rattle.learn.proofs.NewRows.{lacks-none, lacks-some}
 use Rattle.learn.proofs.room.lacks_rows.Statement.{statement}

@@ -1,4 +1,4 @@
--- `learn::room::new_rows` meets its contract: by the row, or without one.
+-- `learn::room::new_rows` meets its contract: the row was found, or there is none.
 use native.Mathlib.Omega.{arith}
 use borrow.Author.Needs.{needs}
 use Rattle.learn.proofs.NewRows.{row-there, row-absent}

@@ -1,4 +1,4 @@
--- `learn::room::rows_needed` meets its contract: of one address, or of two.
+-- `learn::room::rows_needed` meets its contract: it counts for one address, or for two.
 use borrow.Author.Needs.{needs}
 use Rattle.learn.proofs.NewRows.{new-rows, one-address, two-addresses}
 use Rattle.learn.proofs.room.rows_needed.Statement.{statement}

@@ -1,4 +1,4 @@
--- `learn::steps::learn` meets its contract: one step, or both.
+-- `learn::steps::learn` meets its contract: it does step 1 alone, or both steps.
 use borrow.Author.Needs.{needs}
 use Rattle.learn.proofs.Renewals.{subject-alone, both-learnt}
 use Rattle.learn.proofs.steps.learn.Statement.{statement}

@@ -1,4 +1,4 @@
--- `learn::steps::learn_subject` meets its contract: by what it calls.
+-- `learn::steps::learn_subject` meets its contract, by the contracts of the functions that it calls.
 use borrow.Author.Needs.{needs}
 use Rattle.learn.proofs.Renewals.{subject-place, subject-stored}
 use Rattle.learn.proofs.steps.learn_subject.Statement.{statement}

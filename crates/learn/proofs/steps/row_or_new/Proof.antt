@@ -1,4 +1,4 @@
--- `learn::steps::row_or_new` meets its contract: the row, or a new one.
+-- `learn::steps::row_or_new` meets its contract: it returns the row found, or a new row.
 use borrow.Author.Needs.{needs}
 use Rattle.table.proofs.Cases.{found-within}
 use Rattle.learn.proofs.Renewals.{row-found, row-made}

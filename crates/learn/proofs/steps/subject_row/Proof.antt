@@ -1,4 +1,4 @@
--- `learn::steps::subject_row` meets its contract: by what it calls.
+-- `learn::steps::subject_row` meets its contract, by the contracts of the functions that it calls.
 use borrow.Author.Needs.{needs}
 use Rattle.learn.proofs.Renewals.{subject-renewed}
 use Rattle.learn.proofs.steps.subject_row.Statement.{statement}

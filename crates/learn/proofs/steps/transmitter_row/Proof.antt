@@ -1,4 +1,4 @@
--- `learn::steps::transmitter_row` meets its contract: by what it calls.
+-- `learn::steps::transmitter_row` meets its contract, by the contracts of the functions that it calls.
 use borrow.Author.Needs.{needs}
 use Rattle.learn.proofs.Renewals.{transmitter-renewed}
 use Rattle.learn.proofs.steps.transmitter_row.Statement.{statement}

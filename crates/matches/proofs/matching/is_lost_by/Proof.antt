@@ -1,4 +1,4 @@
--- `matches::matching::is_lost_by` meets its contract: by what it calls.
+-- `matches::matching::is_lost_by` meets its contract, by the contracts of the functions that it calls.
 use borrow.Author.Needs.{needs}
 use Rattle.matches.proofs.LostBy.{lost-is}
 use Rattle.matches.proofs.matching.is_lost_by.Statement.{statement}

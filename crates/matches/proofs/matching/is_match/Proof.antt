@@ -1,4 +1,4 @@
--- `matches::matching::is_match` meets its contract: by the row, or without one.
+-- `matches::matching::is_match` meets its contract: the row was found, or there is none.
 use borrow.Author.Needs.{needs}
 use Rattle.table.proofs.Cases.{found-within}
 use Rattle.matches.proofs.LostBy.{match-absent, match-found}

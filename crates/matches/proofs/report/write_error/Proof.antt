@@ -1,4 +1,4 @@
--- `matches::report::write_error` meets its contract: the matches, and the start before them.
+-- `matches::report::write_error` meets its contract: it writes the matches, and then the start in front of them.
 use borrow.Author.Needs.{needs}
 use Rattle.matches.proofs.Listed.{error-few, error-short, error-long, error-written}
 use Rattle.matches.proofs.report.write_error.Statement.{statement}

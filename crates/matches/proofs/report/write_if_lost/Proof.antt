@@ -1,4 +1,4 @@
--- `matches::report::write_if_lost` meets its contract: it is written, or not.
+-- `matches::report::write_if_lost` meets its contract: it writes the destination, or nothing.
 use borrow.Author.Needs.{needs}
 use Rattle.writing.proofs.Listing.{skipped-place, skipped-written, taken-written}
 use Rattle.matches.proofs.Listed.{row-not-lost, row-lost, lost-place}

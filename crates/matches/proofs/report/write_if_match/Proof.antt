@@ -1,4 +1,4 @@
--- `matches::report::write_if_match` meets its contract: by the row, or without one.
+-- `matches::report::write_if_match` meets its contract: the row was found, or there is none.
 use borrow.Author.Needs.{needs}
 use Rattle.table.proofs.Cases.{found-within}
 use Rattle.writing.proofs.Listing.{skipped-place, skipped-written, after-these, taken-written}

@@ -1,4 +1,4 @@
--- `matches::report::write_matches` meets its contract: what is left makes the whole.
+-- `matches::report::write_matches` meets its contract: writing what is left gives the whole result.
 use Prim.Native.Nat.{_-_}
 use mathlib.Core.Path.{_≡_}
 use lib.ListN.{length}

@@ -1,4 +1,4 @@
--- `matches::rows::lose_matches` meets its contract: all rows.
+-- `matches::rows::lose_matches` meets its contract: it goes through all rows.
 use borrow.Author.Needs.{needs}
 use Rattle.table.proofs.Changes.{below-all}
 use Rattle.matches.proofs.rows.lose_matches.Statement.{statement}

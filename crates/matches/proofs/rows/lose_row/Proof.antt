@@ -1,4 +1,4 @@
--- `matches::rows::lose_row` meets its contract: the row is lost, or stays.
+-- `matches::rows::lose_row` meets its contract: the row is invalidated, or stays.
 use borrow.Author.Needs.{needs}
 use Rattle.matches.proofs.LostRows.{elsewhere-stays, unnamed-stays, match-lost}
 use Rattle.matches.proofs.rows.lose_row.Statement.{statement}

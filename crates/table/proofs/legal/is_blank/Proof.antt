@@ -1,4 +1,4 @@
--- `table::legal::is_blank` meets its contract: the fields of the row are zero where the octets are.
+-- `table::legal::is_blank` meets its contract: the fields of a row are zero exactly if its octets are zero.
 use borrow.Author.Needs.{needs}
 use Rattle.layout.proofs.HeadAndRows.{blank}
 use Rattle.table.proofs.legal.is_blank.Statement.{statement}

@@ -1,4 +1,4 @@
--- `table::legal::is_row` meets its contract: a row of status 0 is free or wrong.
+-- `table::legal::is_row` meets its contract: a row of status 0 is legal only if it is all zero.
 use borrow.Author.Needs.{needs}
 use Rattle.table.proofs.Cases.{row-free, row-held}
 use Rattle.table.proofs.legal.is_row.Statement.{statement}

@@ -1,4 +1,4 @@
--- `table::legal::is_table` meets its contract: by its head, and then its rows.
+-- `table::legal::is_table` meets its contract: the head decides first, and then the rows.
 use borrow.Author.Needs.{needs}
 use borrow.Author.Tests.{not-true, not-false}
 use Rattle.table.proofs.Cases.{bad-head, table-is}

@@ -1,4 +1,4 @@
--- `table::legal::passes_by` meets its contract: the mark spares the search.
+-- `table::legal::passes_by` meets its contract: mark 0 makes it skip the search.
 use borrow.Author.Needs.{needs}
 use borrow.Author.Tests.{not-true, not-false}
 use Rattle.table.proofs.Cases.{row-bad, row-unmarked, row-marked}

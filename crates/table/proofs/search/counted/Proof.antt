@@ -1,4 +1,4 @@
--- `table::search::counted` meets its contract: one more where the row is free.
+-- `table::search::counted` meets its contract: a free row adds one.
 use borrow.Author.Needs.{needs}
 use native.Mathlib.Omega.{arith}
 use Rattle.table.proofs.search.counted.Statement.{statement}

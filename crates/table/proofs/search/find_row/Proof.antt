@@ -1,4 +1,4 @@
--- `table::search::find_row` meets its contract: by what it calls.
+-- `table::search::find_row` meets its contract, by the contracts of the functions that it calls.
 use borrow.Author.Needs.{needs}
 use Rattle.table.specs.Table.{findRow}
 use Rattle.table.proofs.search.find_row.Statement.{statement}

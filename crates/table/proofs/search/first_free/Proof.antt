@@ -1,4 +1,4 @@
--- `table::search::first_free` meets its contract: by what it calls.
+-- `table::search::first_free` meets its contract, by the contracts of the functions that it calls.
 use borrow.Author.Needs.{needs}
 use Rattle.table.specs.Table.{firstFree}
 use Rattle.table.proofs.search.first_free.Statement.{statement}

@@ -1,4 +1,4 @@
--- `table::search::free_rows` meets its contract: by what it calls.
+-- `table::search::free_rows` meets its contract, by the contracts of the functions that it calls.
 use borrow.Author.Needs.{needs}
 use Rattle.table.specs.Table.{freeRows}
 use Rattle.table.proofs.search.free_rows.Statement.{statement}

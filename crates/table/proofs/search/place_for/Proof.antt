@@ -1,4 +1,4 @@
--- `table::search::place_for` meets its contract: both cases of `orElse`.
+-- `table::search::place_for` meets its contract: each return is a case of `orElse`.
 use borrow.Author.Needs.{needs}
 use Rattle.table.proofs.search.place_for.Statement.{statement}
 use Rattle.table.proofs.search.place_for.Tie as tie

@@ -1,4 +1,4 @@
--- `table::store::put_row` meets its contract: the row is put in its place, or there is none.
+-- `table::store::put_row` meets its contract: it writes the row to its place, or there is no place.
 use borrow.Author.Needs.{needs}
 use Rattle.table.proofs.Cases.{place-within, stored-row, stored-none}
 use Rattle.table.proofs.store.put_row.Statement.{statement}

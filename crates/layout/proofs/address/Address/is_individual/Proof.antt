@@ -1,4 +1,4 @@
--- `layout::address::Address::is_individual` meets its contract: by what its definition unfolds to.
+-- `layout::address::Address::is_individual` meets its contract, by unfolding the definition.
 use Rattle.layout.specs.Address.{individual}
 use Rattle.layout.proofs.address.Address.is_individual.Statement.{statement}
 use Rattle.layout.proofs.address.Address.is_individual.Tie as tie

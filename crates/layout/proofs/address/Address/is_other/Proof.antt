@@ -1,4 +1,4 @@
--- `layout::address::Address::is_other` meets its contract: by what its definition unfolds to.
+-- `layout::address::Address::is_other` meets its contract, by unfolding the definition.
 use borrow.Author.Needs.{needs}
 use Rattle.layout.specs.Row.{isOther}
 use Rattle.layout.proofs.address.Address.is_other.Statement.{statement}

@@ -1,4 +1,4 @@
--- `layout::address::Address::mark` meets its contract: by what its definition unfolds to.
+-- `layout::address::Address::mark` meets its contract, by unfolding the definition.
 use borrow.Author.Needs.{needs}
 use Rattle.layout.specs.Marks.{mark}
 use Rattle.layout.proofs.address.Address.mark.Statement.{statement}

@@ -1,4 +1,4 @@
--- `layout::row::Head::is_ok` meets its contract: the own address decides, and then the rest.
+-- `layout::row::Head::is_ok` meets its contract: the own address decides first, and then the rest.
 use borrow.Author.Needs.{needs}
 use borrow.Author.Tests.{not-true, not-false}
 use Rattle.layout.proofs.Cases.{head-stranger, head-rest}

@@ -1,4 +1,4 @@
--- `layout::row::Head::with` meets its contract: by what its definition unfolds to.
+-- `layout::row::Head::with` meets its contract, by unfolding the definition.
 use Rattle.layout.specs.Row.{headWith}
 use Rattle.layout.proofs.row.Head.with.Statement.{statement}
 use Rattle.layout.proofs.row.Head.with.Tie as tie

@@ -1,4 +1,4 @@
--- `layout::row::Row::bounds_ok` meets its contract: by what its definition unfolds to.
+-- `layout::row::Row::bounds_ok` meets its contract, by unfolding the definition.
 use Rattle.layout.specs.Row.{boundsOk}
 use Rattle.layout.proofs.row.Row.bounds_ok.Statement.{statement}
 use Rattle.layout.proofs.row.Row.bounds_ok.Tie as tie

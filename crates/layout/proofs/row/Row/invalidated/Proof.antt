@@ -1,4 +1,4 @@
--- `layout::row::Row::invalidated` meets its contract: by what its definition unfolds to.
+-- `layout::row::Row::invalidated` meets its contract, by unfolding the definition.
 use Rattle.layout.specs.Row.{invalidated}
 use Rattle.layout.proofs.row.Row.invalidated.Statement.{statement}
 use Rattle.layout.proofs.row.Row.invalidated.Tie as tie

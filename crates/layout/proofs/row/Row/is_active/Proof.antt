@@ -1,4 +1,4 @@
--- `layout::row::Row::is_active` meets its contract: by what its definition unfolds to.
+-- `layout::row::Row::is_active` meets its contract, by unfolding the definition.
 use Rattle.layout.specs.Row.{active}
 use Rattle.layout.proofs.row.Row.is_active.Statement.{statement}
 use Rattle.layout.proofs.row.Row.is_active.Tie as tie

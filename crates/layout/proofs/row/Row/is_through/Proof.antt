@@ -1,4 +1,4 @@
--- `layout::row::Row::is_through` meets its contract: by what it calls.
+-- `layout::row::Row::is_through` meets its contract, by the contracts of the functions that it calls.
 use borrow.Author.Needs.{needs}
 use Rattle.layout.proofs.Cases.{through-is}
 use Rattle.layout.proofs.row.Row.is_through.Statement.{statement}

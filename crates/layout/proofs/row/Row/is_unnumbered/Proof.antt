@@ -1,4 +1,4 @@
--- `layout::row::Row::is_unnumbered` meets its contract: by what its definition unfolds to.
+-- `layout::row::Row::is_unnumbered` meets its contract, by unfolding the definition.
 use Rattle.layout.specs.Row.{isUnnumbered}
 use Rattle.layout.proofs.row.Row.is_unnumbered.Statement.{statement}
 use Rattle.layout.proofs.row.Row.is_unnumbered.Tie as tie

@@ -1,4 +1,4 @@
--- `layout::row::Row::numbered` meets its contract: by what its definition unfolds to.
+-- `layout::row::Row::numbered` meets its contract, by unfolding the definition.
 use Rattle.layout.specs.Row.{numbered}
 use Rattle.layout.proofs.row.Row.numbered.Statement.{statement}
 use Rattle.layout.proofs.row.Row.numbered.Tie as tie

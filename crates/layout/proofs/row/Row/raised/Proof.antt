@@ -1,4 +1,4 @@
--- `layout::row::Row::raised` meets its contract: by what its definition unfolds to.
+-- `layout::row::Row::raised` meets its contract, by unfolding the definition.
 use Rattle.layout.specs.Row.{raised}
 use Rattle.layout.proofs.row.Row.raised.Statement.{statement}
 use Rattle.layout.proofs.row.Row.raised.Tie as tie

@@ -1,4 +1,4 @@
--- `layout::row::Row::renewed` meets its contract: by what its definition unfolds to.
+-- `layout::row::Row::renewed` meets its contract, by unfolding the definition.
 use Rattle.layout.specs.Row.{renewed}
 use Rattle.layout.proofs.row.Row.renewed.Statement.{statement}
 use Rattle.layout.proofs.row.Row.renewed.Tie as tie

@@ -1,4 +1,4 @@
--- `layout::row::Row::status_ok` meets its contract: by what its definition unfolds to.
+-- `layout::row::Row::status_ok` meets its contract, by unfolding the definition.
 use Rattle.layout.specs.Row.{statusOk}
 use Rattle.layout.proofs.row.Row.status_ok.Statement.{statement}
 use Rattle.layout.proofs.row.Row.status_ok.Tie as tie
