@@ -1,4 +1,4 @@
--- Lengths and counts: which there are, and that each fits its octet.
+-- Lengths and counts: their bounds for each type, and that each fits its octet.
 use Prim.Native.Nat.{ℕ, _<_, _≤_}
 use mathlib.Core.Path.{_≡_}
 use mathlib.Core.Bool.{Bool, true, _&&_}
@@ -10,14 +10,14 @@ use Rattle.element.specs.declared.Kind.{Kind}
 use Rattle.element.specs.declared.Kind.the-variants.{Rann, Rreq, Rrep, Rerr}
 use Rattle.element.specs.Layout.{idOf, lengthWith, fewest, most, countOk}
 
--- ---- how many entries, and how long with these
+-- ---- how many entries an element may have, and how long it then is
 
 pub count-range : (k : Kind) (n : ℕ) → countOk k n ≡ true → (fewest k ≤ n) × (n ≤ most k)
 count-range k n e =
     let b = both (leb (fewest k) n) (leb n (most k)) e in
     (leb-true (fewest k) n (b .0), leb-true n (most k) (b .1))
 
--- as the code asks it, by the type that a branch has found
+-- In the code, a branch has found the type j of k.
 module _ (k j : Kind) (ke : k ≡ j) (n : ℕ) (b : Bool) where
   pub count-is : b ≡ (leb (fewest j) n && leb n (most j)) → b ≡ countOk k n
   count-is e = rw ke e
@@ -40,7 +40,7 @@ length-range Rreq n e = let r = count-range Rreq n e in (omega arith, omega arit
 length-range Rrep n e = let r = count-range Rrep n e in (omega arith, omega arith)
 length-range Rerr n e = let r = count-range Rerr n e in (omega arith, omega arith)
 
--- ID, Length and N fit their octets
+-- ID, Length and N each fit an octet.
 pub id-octet : (k : Kind) → idOf k < 256
 id-octet Rann = omega arith
 id-octet Rreq = omega arith
@@ -59,7 +59,7 @@ count-octet Rreq n e = let r = count-range Rreq n e in omega arith
 count-octet Rrep n e = let r = count-range Rrep n e in omega arith
 count-octet Rerr n e = let r = count-range Rerr n e in omega arith
 
--- an element with entries is no shorter than one without
+-- An element with entries is no shorter than an element without entries.
 pub least-length : (k : Kind) (n : ℕ) → lengthWith k 0 ≤ lengthWith k n
 least-length Rann n = omega arith
 least-length Rreq n = omega arith

@@ -1,4 +1,4 @@
--- The laws of elements, for this crate's proofs and its callers'.
+-- Laws about elements, for the proofs of this crate and of its callers.
 pub mod Lengths
 pub mod Passing
 pub mod Scans

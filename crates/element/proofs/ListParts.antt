@@ -1,5 +1,5 @@
--- Entries as octets one after another: read back from these, and made again of what is read. Once for all kinds of
--- entry.
+-- The octets of entries one after another. Entries are read back from their octets, and writing the entries read gives the octets
+-- again. The laws are proved once for all kinds of entry.
 use Prim.Native.Nat.{ℕ, zero, suc, _+_, _*_, _≤_}
 use mathlib.Core.Path.{_≡_, refl, sym, ap, ap₂, _∙_}
 use mathlib.Core.List.{List, [], _∷_, _++_, append-assoc, flatMap}
@@ -17,14 +17,14 @@ use Rattle.element.specs.Element.{lostNumbers, numberedNumbers, targetNu
 use Rattle.element.specs.Layout.{lostWidths, numberedWidths, targetWidths}
 use Rattle.element.specs.Entries.{each, All, lostFrom, lostAt, lostList, lostOctets, numberedFrom, numberedAt, numberedList, numberedOctets, targetFrom, targetAt, targetList, targetOctets}
 
--- what holds by index holds of all
+-- If a property holds for the entry at every index, it holds for all entries.
 pub all-each : {A : Type 0} (P : A → Type 0) (f : ℕ → A) → ((i : ℕ) → P (f i)) → (i n : ℕ) → All P (each f i n)
 unfolding All each
 all-each P f h i zero = tt
 all-each P f h i (suc n) = (h i, all-each P f h (suc i) n)
 
--- the octets of a list of entries: how many there are, that each is one, that list and octets make each other, and that what is
--- read fits
+-- The laws about the octets of a list of entries: how many octets there are (`long`); each is below 256 (`octets`); a written
+-- list is read back (`read`); writing the list read gives the octets again (`made`); every entry read fits its octets (`fit`).
 pub record ListLaws {A : Type 0} (size : ℕ) (Fit : A → Type 0) (write : A → List ℕ) (list : ℕ → List ℕ → List A) : Type 0 where
   pub long : (xs : List A) → length (flatMap write xs) ≡ size * length xs
   pub octets : (xs : List A) → Octets (flatMap write xs)
@@ -55,7 +55,7 @@ module _ {A : Type 0} (size : ℕ) (ws : List ℕ) (from : List ℕ → A) (numb
   entries-octets [] = octets-nil
   entries-octets (x ∷ xs) = octets-append (entryOctets x) (flatMap entryOctets xs) (octets-of-fields ws (numbers x)) (entries-octets xs)
 
-  -- entries that fit are read back: those from i on, after the octets p of those before
+  -- Entries that fit are read back. Here p is the octets of the entries before entry i, and xs is the entries from i on.
   module _ (back : (x : A) → from (numbers x) ≡ x) where
     entries-read : (p : List ℕ) (xs : List A) (i : ℕ) → length p ≡ size * i → All (λ x. FitFields ws (numbers x)) xs
         → each (entryAt (p ++ flatMap entryOctets xs)) i (length xs) ≡ xs
@@ -69,7 +69,7 @@ module _ {A : Type 0} (size : ℕ) (ws : List ℕ) (from : List ℕ → A) (numb
         (ap from (fields-read ws (numbers x) p (flatMap entryOctets xs) (size * i) 0 place (f .0)) ∙ back x)
         (ap (λ (l : List ℕ). each (entryAt l) (suc i) (length xs)) regroup ∙ entries-read (p ++ entryOctets x) xs (suc i) next (f .1))
 
-  -- the entries of octets make these octets again: n of them from entry i on
+  -- Writing the entries read from octets gives the octets again, for n entries from entry i on.
   module _ (part : List ℕ) (octets : Octets part) (forth : (at : ℕ) → numbers (from (fieldsAt ws part at 0)) ≡ fieldsAt ws part at 0) where
     entries-made : (n i : ℕ) → length part ≡ size * (i + n) → flatMap entryOctets (each (entryAt part) i n) ≡ drop (size * i) part
     unfolding each flatMap

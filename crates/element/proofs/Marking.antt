@@ -1,4 +1,4 @@
--- The search for an address that stands twice in a list, by marks: from the last entry down.
+-- The search by marks for an address that stands twice in a list. It goes from the last entry down.
 use Prim.Native.Nat.{ℕ, zero, suc, _+_, _-_, _<_, _≤_}
 use mathlib.Core.Path.{_≡_, refl, sym, ap, _∙_}
 use mathlib.Core.Bool.{Bool, true, false, _&&_, _||_, not, or-true, true≢false}
@@ -15,7 +15,7 @@ use Rattle.element.specs.Entries.{each, entriesIn}
 use Rattle.element.specs.Lists.{addressIn, addressesFrom, addressesIn, contains, hasDuplicate}
 use Rattle.element.proofs.Scans.{each-next, each-end}
 
--- whether it stands again, by its mark
+-- The result of `is_again`, from the mark m and the result g of the search.
 module _ (m : ℕ) (g : Bool) where
   pub unmarked-not : m ≡ 0 → false ≡ (not (eqb m 0) && g)
   unmarked-not e = cc (eq-eqb m 0 e)
@@ -23,10 +23,10 @@ module _ (m : ℕ) (g : Bool) where
   pub marked-as : (m ≡ 0 → ⊥) → (b : Bool) → b ≡ g → b ≡ (not (eqb m 0) && g)
   marked-as n b be = cc (ne-eqb m 0 n)
 
--- ---- any addresses, by index, up to n
+-- ---- any n addresses, by index
 
 module _ (f : ℕ → Address) (n : ℕ) where
-  -- a list whose end has an address twice has it twice
+  -- If an address stands twice in the end of a list, it stands twice in the list.
   duplicate-within : (i : ℕ) → i ≤ n → hasDuplicate (each f i (n - i)) ≡ true → hasDuplicate (each f 0 (n - 0)) ≡ true
   unfolding hasDuplicate
   duplicate-within zero l e = e
@@ -37,7 +37,7 @@ module _ (f : ℕ → Address) (n : ℕ) where
       later : hasDuplicate (each f (i + 1) (n - (i + 1))) ≡ true
       later = let at : i + 1 ≡ suc i = omega arith in rw at e
 
-  -- an address that is not among those up to n is apart from each
+  -- If an address differs from each address from index i on, the list from i on does not contain it.
   contains-none : (d : Address) (k i : ℕ) → n - i ≡ k → ((j : ℕ) → i ≤ j → j < n → f j .0 ≡ d .0 → ⊥) → contains (each f i (n - i)) d ≡ false
   unfolding contains
   contains-none d zero i e apart = ap (λ (l : List Address). contains l d) (each-end f i n (omega (arith, e)))
@@ -47,14 +47,14 @@ module _ (f : ℕ → Address) (n : ℕ) where
       ∙ ap (λ b. b || contains (each f (i + 1) (n - (i + 1))) d) (ne-eqb (f i .0) (d .0) (apart i (omega arith) l))
       ∙ contains-none d k (i + 1) (omega (arith, e)) (λ j g h. apart j (omega (arith, g)) h)
 
--- ---- as the loop asks it: i is the entry before those from `from` on
+-- ---- the loop: the entries from `from` on are marked, and the entry before them comes next
 
 module _ (k : ListKind) (part : List ℕ) where
   pub no-duplicate : (n : ℕ) → n ≡ entriesIn k part → hasDuplicate (addressesFrom k part n) ≡ false
   unfolding addressesFrom hasDuplicate
   no-duplicate n ne = ap hasDuplicate (each-end (addressIn k part) n (entriesIn k part) (omega (arith, ne)))
 
-  -- an address alone stands once
+  -- In a list with at most one entry no address stands twice.
   pub alone-once : (n : ℕ) → n ≡ entriesIn k part → n ≤ 1 → false ≡ hasDuplicate (addressesIn k part)
   unfolding addressesFrom hasDuplicate contains each
   alone-once n ne l = by (entriesIn k part) (omega (arith, ne))
@@ -75,7 +75,7 @@ module _ (k : ListKind) (part : List ℕ) where
     before-within = omega arith
 
     module _ (a : Address) (ae : a ≡ addressIn k part (from - 1)) where
-      -- the entries from that one on
+      -- The entries from `from` - 1 on are the entry with the address a, and the entries from `from` on.
       with-before : addressesFrom k part (from - 1) ≡ a ∷ addressesFrom k part from
       unfolding addressesFrom
       with-before =

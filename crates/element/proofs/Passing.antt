@@ -1,4 +1,4 @@
--- What octets are that pass refusals 6, 7 and 8.
+-- What holds for octets that pass refusals 6, 7 and 8.
 use Prim.Native.Nat.{ℕ, _+_, _≤_}
 use mathlib.Core.Path.{_≡_, refl, sym, ap, _∙_}
 use mathlib.Core.Bool.{Bool, true, false, _&&_, _||_, not, cond}
@@ -12,7 +12,7 @@ use Rattle.element.specs.Layout.{known, kindWith, fits, idOf, lengthWith
 use Rattle.element.specs.Octets.{kindIn, countAs, wrongLength, otherId, misfit}
 use Rattle.octets.proofs.Tests.{both, neither}
 
--- an ID is known if it is that of the type it gives
+-- An ID is known exactly if it is the ID of the type that `kindWith` gives for it.
 pub known-is : (id : ℕ) → known id ≡ eqb id (idOf (kindWith id))
 unfolding known kindWith
 known-is id = by (eqb id 126) (eqb id 130) (eqb id 131) refl refl refl
@@ -24,14 +24,14 @@ known-is id = by (eqb id 126) (eqb id 130) (eqb id 131) refl refl refl
     by false false true ae be ce = sym ce
     by false false false ae be ce = refl
 
--- octets that pass 6 are as many as Length says
+-- Octets that pass refusal 6 are at least two, and are two more than Length says.
 pub length-right : (s : List ℕ) → wrongLength s ≡ false → (2 ≤ length s) × (2 + getD s 1 0 ≡ length s)
 unfolding wrongLength
 length-right s e =
     let f = neither (ltb (length s) 2) (not (eqb (2 + getD s 1 0) (length s))) e in
     (ltb-false (length s) 2 (f .0), eqb-true (2 + getD s 1 0) (length s) (not-false (eqb (2 + getD s 1 0) (length s)) (f .1)))
 
--- what octets of a type are that pass
+-- What holds for octets of the type k that pass refusals 6, 7 and 8.
 pub record Passed (s : List ℕ) (k : Kind) : Type 0 where
   pub id : idOf k ≡ getD s 0 0
   pub long : getD s 1 0 ≡ lengthWith k (countAs k s)

@@ -1,5 +1,5 @@
--- Read-back: what is written is read as the same fields and list, and passes 6, 7 and 8; and octets that pass these are
--- what writing their fields gives.
+-- Read-back. A written element passes refusals 6, 7 and 8, and is read as the fields and the list that were written. Conversely,
+-- octets that pass refusals 6, 7 and 8 are the octets that writing their fields gives.
 use Prim.Native.Nat.{ℕ, _+_, _<_, _≤_}
 use mathlib.Core.Path.{_≡_, refl, sym, ap, ap₂, _∙_}
 use mathlib.Core.Bool.{true, false}
@@ -31,13 +31,13 @@ EntriesFit (rreq f targets) = All FitsTarget targets
 EntriesFit (rrep f dependents) = All FitsNumbered dependents
 EntriesFit (rerr f destinations) = All FitsLost destinations
 
--- the fields and the entries fit their widths, and there are as many entries as there may be
+-- States that the fields and the entries of an element fit their widths, and that the number of entries is allowed.
 pub record Fits (e : Element) : Type 0 where
   pub fields : FitFields (fieldWidths (kindOf e)) (fieldNumbers e)
   pub entries : EntriesFit e
   pub count : countOk (kindOf e) (countOf e) ≡ true
 
--- ---- the parts of what is written
+-- ---- the parts of a written element
 
 list-there : (e : Element) → listAs (kindOf e) (writeElement e) ≡ listOctets e
 unfolding writeElement
@@ -54,7 +54,7 @@ fields-there e f =
     ap (λ (l : List ℕ). fieldsAt (fieldWidths k) (idOf k ∷ lengthWith k (countOf e) ∷ l) 2 0) regroup
     ∙ fields-read (fieldWidths k) (fieldNumbers e) (idOf k ∷ lengthWith k (countOf e) ∷ []) (countPart k (countOf e) ++ listOctets e) 2 0 refl f
 
--- with the octets of the fields unfolded, N is found by computation
+-- With the octets of the fields unfolded, N computes.
 count-there : (e : Element) → countAs (kindOf e) (writeElement e) ≡ countOf e
 unfolding writeElement fixedOctets fieldOctets numberOctets
 count-there (rann p) = refl
@@ -69,7 +69,7 @@ kind-there (rreq f targets) = refl
 kind-there (rrep f dependents) = refl
 kind-there (rerr f destinations) = refl
 
--- ---- what is written is read back
+-- ---- a written element is read back
 
 made : (e : Element) → EntriesFit e → elementAs (kindOf e) (fieldNumbers e) (countOf e) (listOctets e) ≡ e
 made (rann p) f = refl
@@ -85,12 +85,12 @@ read-back e f =
     ∙ ap₂ (elementAs (kindOf e) (fieldNumbers e)) (count-there e) (list-there e)
     ∙ made e (f .entries)
 
--- and the list part is the octets of its entries
+-- The list part of a written element is the octets of its entries.
 pub part-back : (e : Element) → listPart (writeElement e) ≡ listOctets e
 unfolding listPart
 part-back e = ap (λ (k : Kind). listAs k (writeElement e)) (kind-there e) ∙ list-there e
 
--- ---- and passes 6, 7 and 8
+-- ---- a written element passes refusals 6, 7 and 8
 
 length-there : (e : Element) → getD (writeElement e) 1 0 ≡ lengthWith (kindOf e) (countOf e)
 unfolding writeElement fixedOctets
@@ -123,7 +123,7 @@ unfolding misfit fits
 passes-8 e h =
     rw (kind-there e, count-there e, length-there e, h, eq-eqb (lengthWith (kindOf e) (countOf e)) (lengthWith (kindOf e) (countOf e)) refl) refl
 
--- ---- every octet written is one
+-- ---- every octet of a written element is below 256
 
 list-octets : (e : Element) → Octets (listOctets e)
 list-octets (rann p) = octets-nil
@@ -149,9 +149,9 @@ octets-written e h =
     (octets-append fields (countPart k n) (octets-of-fields (fieldWidths k) (fieldNumbers e)) (count-octets k n (count-octet k n h)))
     (list-octets e)))
 
--- ---- octets that pass are what writing their fields gives
+-- ---- octets that pass refusals 6, 7 and 8 are the octets that writing their fields gives
 
--- octets of a type are the first two, the fields, N, and the list
+-- The octets of an element are ID, Length, the fields, N and the list. After the fields come N and the list.
 after-fields : (s : List ℕ) (k : Kind) → 2 + lengthWith k 0 ≤ length s → drop (2 + total (fieldWidths k)) s ≡ countPart k (countAs k s) ++ listAs k s
 unfolding total
 after-fields s Rann h = refl
@@ -168,7 +168,7 @@ parts s k h =
     ∙ sym (append-assoc (take m (drop 2 s)) (countPart k (countAs k s)) (listAs k s)) in
     drop-cons s 0 0 (omega arith) ∙ ap (λ (l : List ℕ). getD s 0 0 ∷ l) (drop-cons s 1 0 (omega arith) ∙ ap (λ (l : List ℕ). getD s 1 0 ∷ l) rest)
 
--- the parts of what is read
+-- The parts of an element that was read.
 kind-read : (k : Kind) (s : List ℕ) → kindOf (readAs k s) ≡ k
 unfolding readAs
 kind-read Rann s = refl
@@ -216,7 +216,7 @@ pub write-back : (s : List ℕ) → Octets s → wrongLength s ≡ false → oth
 unfolding readElement
 write-back s o a b c = written s (kindIn s) o (passed s a b c)
 
--- ---- and these fields fit
+-- ---- the fields of an element that was read fit their widths
 
 entries-fit : (k : Kind) (s : List ℕ) → Octets s → EntriesFit (readAs k s)
 unfolding readAs

@@ -1,4 +1,4 @@
--- Lists of entries: by index, and the scans over their addresses.
+-- Lists of entries by index, and the loops that scan their addresses.
 use Prim.Native.Nat.{ℕ, zero, suc, _+_, _-_, _*_, _/_, _^_, _<_, _≤_}
 use mathlib.Core.Path.{_≡_, refl, sym, ap, _∙_}
 use mathlib.Core.Bool.{Bool, true, false, _&&_, _||_, not}
@@ -37,7 +37,7 @@ module _ {A : Type 0} (f : ℕ → A) where
   unfolding each
   each-none i = refl
 
-  -- the entries from i on are entry i and those after it
+  -- The entries from i on are entry i and the entries after it.
   pub each-next : (i n : ℕ) → i < n → each f i (n - i) ≡ f i ∷ each f (i + 1) (n - (i + 1))
   each-next i n l =
       let more : n - i ≡ suc (n - (i + 1)) = omega arith in
@@ -47,7 +47,7 @@ module _ {A : Type 0} (f : ℕ → A) where
   pub each-end : (i n : ℕ) → n ≤ i → each f i (n - i) ≡ []
   each-end i n l = let none : n - i ≡ 0 = omega arith in ap (λ (m : ℕ). each f i m) none ∙ each-none i
 
--- the octets of two lists of entries
+-- The octets of two lists joined are the octets of the first and then the octets of the second.
 pub listed-append : {A : Type 0} (write : A → List ℕ) (k l : List A) → flatMap write (k ++ l) ≡ flatMap write k ++ flatMap write l
 unfolding flatMap
 listed-append write [] l = refl
@@ -59,13 +59,13 @@ unfolding each
 map-each g f i zero = refl
 map-each g f i (suc n) = ap (λ (l : List _). g (f i) ∷ l) (map-each g f (suc i) n)
 
--- the addresses of a list part are those of its entries
+-- The addresses of a list part are the addresses of its entries.
 pub target-addresses : (part : List ℕ) → map (λ (t : Target). t .address) (targetsIn part) ≡ addressesIn Targets part
 unfolding addressesFrom
 target-addresses part =
     map-each (λ (t : Target). t .address) (targetAt part) 0 (length part / 11) ∙ ap (each (addressIn Targets part) 0) (sym (sub-zero (length part / 11)))
 
--- as many as entries
+-- A list part has as many addresses as entries.
 pub addresses-many : (k : ListKind) (part : List ℕ) → length (addressesIn k part) ≡ entriesIn k part
 unfolding addressesFrom
 addresses-many k part = each-length (addressIn k part) 0 (entriesIn k part - 0) ∙ sub-zero (entriesIn k part)
@@ -96,7 +96,7 @@ module _ (part : List ℕ) (i : ℕ) where
   unfolding itemAt fieldsAt
   item-read p₁ p₂ = cc (add-zero (7 * i))
 
-  -- the address, by the kind of the entry: z octets an entry, b of them before the address
+  -- The address of entry i, for any kind: an entry has z octets, and b of them stand before the address.
   module _ (k : ListKind) (l : i < entriesIn k part) (z b : ℕ) (ze : z ≡ sizeOf k) where
     in-list : (j : ListKind) → i < entriesIn j part → sizeOf j * i + beforeAddress j + 6 ≤ length part
     in-list Targets h = omega (arith, h)
@@ -127,7 +127,7 @@ module _ (part : List ℕ) (i : ℕ) where
           by LostDestinations h = rw h
           by Items h = rw h
 
--- how many entries
+-- How many entries a list part has, if an entry has z octets.
 module _ (k : ListKind) (part : List ℕ) (z : ℕ) (ze : z ≡ sizeOf k) where
   pub some-size : 0 < z
   some-size = rw ze (by k)
@@ -141,7 +141,7 @@ module _ (k : ListKind) (part : List ℕ) (z : ℕ) (ze : z ≡ sizeOf k) where
   pub entries-many : length part / z ≡ entriesIn k part
   entries-many = rw ze
 
--- ---- scans: F asks p of each entry and those after it, and ends at the first that passes; g is what the whole scan gives
+-- ---- scans: F looks for an entry that, with the entries after it, passes the test p; g is the result of the whole scan
 
 module _ {A : Type 0} (F : List A → Bool) (p : A → List A → Bool) (empty : F [] ≡ false)
     (more : (a : A) (rest : List A) → F (a ∷ rest) ≡ (p a rest || F rest)) (f : ℕ → A) (n i : ℕ) (g : Bool) where
@@ -160,7 +160,7 @@ module _ {A : Type 0} (F : List A → Bool) (p : A → List A → Bool) (empty :
   pub scan-ended : n ≤ i → F (each f i (n - i)) ≡ g → false ≡ g
   scan-ended l e = sym empty ∙ ap F (sym (each-end f i n l)) ∙ e
 
--- over any addresses, as loops ask it: at address i of n
+-- Loops over any n addresses, at address i.
 module _ (f : ℕ → Address) (n i : ℕ) (g : Bool) where
   module _ (l : i < n) (a : Address) (ae : a ≡ f i) where
     module _ (d : Address) where
@@ -196,7 +196,7 @@ module _ (f : ℕ → Address) (n i : ℕ) (g : Bool) where
     unfolding hasDuplicate
     each-duplicate-ended = scan-ended hasDuplicate (λ c rest. contains rest c) refl (λ c rest. refl) f n i g l
 
--- as the loops ask it: n entries, at entry i, and g what the whole scan gives
+-- Loops over the n entries of a list part, at entry i, where g is the result of the whole scan.
 module _ (k : ListKind) (part : List ℕ) (n : ℕ) (ne : n ≡ entriesIn k part) (i : ℕ) (g : Bool) where
   module _ (l : i < n) where
     pub entry-there : i < entriesIn k part

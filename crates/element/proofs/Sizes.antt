@@ -1,4 +1,4 @@
--- How many octets the parts of an element take.
+-- How many octets the parts of an element have.
 use Prim.Native.Nat.{ℕ, _+_}
 use mathlib.Core.Path.{_≡_, refl, ap, _∙_}
 use lib.ListN.{length, length-append}
@@ -19,7 +19,7 @@ as-many (rreq f targets) = refl
 as-many (rrep f dependents) = refl
 as-many (rerr f destinations) = refl
 
--- the fixed part has as many octets as an element without entries
+-- The octets up to the list are as many as an element without entries has.
 fixed-width : (k : Kind) (n : ℕ) → 2 + (total (fieldWidths k) + length (countPart k n)) ≡ 2 + lengthWith k 0
 unfolding total
 fixed-width Rann n = refl
@@ -53,7 +53,7 @@ list-length (rreq f targets) = omega (arith, target-lists .long targets)
 list-length (rrep f dependents) = omega (arith, address-lists .long dependents)
 list-length (rerr f destinations) = omega (arith, loss-lists .long destinations)
 
--- an element has as many octets as its Length says, and two
+-- An element has two octets more than its Length says.
 pub element-length : (e : Element) → length (writeElement e) ≡ 2 + lengthWith (kindOf e) (countOf e)
 unfolding writeElement
 element-length e =

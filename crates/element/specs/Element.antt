@@ -1,4 +1,4 @@
--- The four elements as values, with their lists.
+-- The four elements as values, with their lists. PROTOCOL, 'Elements'.
 use Prim.Native.Nat.{ℕ}
 use mathlib.Core.List.{List, [], _∷_, _++_}
 use lib.ListN.{length}
@@ -24,7 +24,7 @@ kindOf (rreq f targets) = Rreq
 kindOf (rrep f dependents) = Rrep
 kindOf (rerr f destinations) = Rerr
 
--- N, the number of entries in the list
+-- Returns N, the number of entries in the list.
 abbrev pub countOf : Element → ℕ
 countOf (rann p) = 0
 countOf (rreq f targets) = length targets
@@ -33,7 +33,7 @@ countOf (rerr f destinations) = length destinations
 
 -- ---- the numbers of fields, in the order of the octets
 
--- flags, hop count and TTL come first
+-- Flags, hop count and TTL come first in a RANN, a RREQ and a RREP.
 abbrev pub startNumbers : PathInfo → List ℕ
 startNumbers p = p .flags ∷ p .hops .0 ∷ p .ttl ∷ []
 
@@ -61,7 +61,7 @@ rrepNumbers f = startNumbers (f .path) ++ (pathNumbers (f .path) ++ numberedNumb
 abbrev pub rerrNumbers : RerrFields → List ℕ
 rerrNumbers f = f .flags ∷ []
 
--- what stands between Length and N
+-- Returns the fields between Length and N.
 abbrev pub fieldNumbers : Element → List ℕ
 fieldNumbers (rann p) = rannNumbers p
 fieldNumbers (rreq f targets) = rreqNumbers f

@@ -1,5 +1,4 @@
--- Entries of a list: by index, one after another, and what holds of all. Those of an element's list part, and
--- the items of an ask.
+-- The entries in the list part of an element, and the items of an ask: by index, and all of them in order. PROTOCOL, 'Elements'.
 use Prim.Native.Nat.{ℕ, zero, suc, _*_, _/_}
 use mathlib.Core.List.{List, [], _∷_}
 use lib.ListN.{length, getD}
@@ -13,16 +12,16 @@ use Rattle.element.specs.declared.Target.{Target}
 use Rattle.element.specs.Element.{lostNumbers, numberedNumbers, targetNumbers}
 use Rattle.element.specs.Layout.{itemWidths, lostWidths, numberedWidths, sizeOf, targetWidths}
 
--- f i, f (i + 1) and so on, n of them
+-- Returns the list of f i, f (i + 1) and so on, with n entries.
 unfoldable pub each : {A : Type 0} → (ℕ → A) → ℕ → ℕ → List A
 each f i zero = []
 each f i (suc n) = f i ∷ each f (suc i) n
 
--- how many entries a list part has
+-- Returns how many entries a list part has.
 abbrev pub entriesIn : ListKind → List ℕ → ℕ
 entriesIn k part = length part / sizeOf k
 
--- every entry has the property
+-- States that every entry has the property P.
 unfoldable pub All : {A : Type 0} → (A → Type 0) → List A → Type 0
 All P [] = Unit {0}
 All P (x ∷ xs) = P x × All P xs
@@ -38,7 +37,7 @@ numberedAt part i = numberedFrom (fieldsAt numberedWidths part (sizeOf Dependent
 abbrev pub numberedList : ℕ → List ℕ → List NumberedAddress
 numberedList n part = each (numberedAt part) 0 n
 
--- all entries of a list part
+-- Returns all entries of a list part.
 abbrev pub numberedIn : List ℕ → List NumberedAddress
 numberedIn part = numberedList (entriesIn Dependents part) part
 

@@ -1,4 +1,5 @@
--- The bits of flags. Those that are not named here are reserved: ignored and passed on.
+-- The bits of flags. PROTOCOL, 'Elements'. All bits that have no name here are reserved: a point ignores them and passes them on
+-- as received.
 use Prim.Native.Nat.{ℕ, _+_, _*_, _/_, _%_, _^_}
 use mathlib.Core.Bool.{Bool}
 use lib.Dec.{eqb}
@@ -8,20 +9,20 @@ use Rattle.element.specs.declared.Target.{Target}
 unfoldable pub bit : ℕ → ℕ → Bool
 bit k flags = eqb (flags / 2 ^ k % 2) 1
 
--- of a RREQ: bit 0 portal (which no rule reads), bit 1 unicast, bit 2 reply wanted
+-- Flags of a RREQ: bit 0 portal (which no rule reads), bit 1 unicast, bit 2 reply wanted.
 abbrev pub unicast : PathInfo → Bool
 unicast p = bit 1 (p .flags)
 
 abbrev pub replyWanted : PathInfo → Bool
 replyWanted p = bit 2 (p .flags)
 
--- of a destination: bit 0 DO, bit 1 RF
+-- Flags of a RREQ's destination: bit 0 DO, bit 1 RF.
 abbrev pub hasDO : Target → Bool
 hasDO q = bit 0 (q .flags)
 
 abbrev pub hasRF : Target → Bool
 hasRF q = bit 1 (q .flags)
 
--- DO set to 1, the other bits as they were
+-- Sets DO to 1 and leaves the other bits as they were.
 unfoldable pub withDO : Target → Target
 withDO q = record { flags = 2 * (q .flags / 2) + 1; address = q .address; number = q .number }

@@ -1,5 +1,5 @@
--- 'Element octets' of document 01: for each type the ID, the Length with N entries, how many there may be, and the widths
--- of the fields; for each kind of list the octets of an entry.
+-- PROTOCOL, 'Elements'. For each type: the ID, the Length with N entries, how many entries are allowed, and the widths of the
+-- fields. For each kind of list: how many octets an entry has.
 use Prim.Native.Nat.{ℕ, _+_, _*_, _%_, _≤_}
 use mathlib.Core.Path.{_≡_}
 use mathlib.Core.Bool.{Bool, _&&_, _||_, cond}
@@ -17,22 +17,22 @@ idOf Rreq = 130
 idOf Rrep = 131
 idOf Rerr = 132
 
--- an ID that is a type's
+-- Reports whether the ID is one of the four.
 unfoldable pub known : ℕ → Bool
 known id = eqb id (idOf Rann) || eqb id (idOf Rreq) || eqb id (idOf Rrep) || eqb id (idOf Rerr)
 
--- the type with this ID, where it is known
+-- Returns the type with this ID, if the ID is known. For any other ID it returns `Rerr`, and refusal 7 refuses the element.
 unfoldable pub kindWith : ℕ → Kind
 kindWith id = cond (eqb id (idOf Rann)) Rann (cond (eqb id (idOf Rreq)) Rreq (cond (eqb id (idOf Rrep)) Rrep Rerr))
 
--- Length counts what follows it
+-- Returns the Length of an element with n entries. Length counts the octets after itself.
 abbrev pub lengthWith : Kind → ℕ → ℕ
 lengthWith Rann n = 21
 lengthWith Rreq n = 26 + 11 * n
 lengthWith Rrep n = 32 + 10 * n
 lengthWith Rerr n = 2 + 10 * n
 
--- how many entries there may be; a RANN has no list
+-- The fewest and the most entries of each type. A RANN has no list.
 abbrev pub fewest : Kind → ℕ
 fewest Rann = 0
 fewest Rreq = 1
@@ -48,34 +48,36 @@ most Rerr = 25
 abbrev pub countOk : Kind → ℕ → Bool
 countOk k n = leb (fewest k) n && leb n (most k)
 
--- a Length fits type and count
+-- Reports whether a Length fits the type and the count n.
 unfoldable pub fits : Kind → ℕ → ℕ → Bool
 fits k long n = eqb long (lengthWith k n) && countOk k n
 
 -- ---- lists
 
--- octets of an entry
+-- Returns how many octets an entry has.
 abbrev pub sizeOf : ListKind → ℕ
 sizeOf Targets = 11
 sizeOf Dependents = 10
 sizeOf LostDestinations = 10
 sizeOf Items = 7
 
--- octets of an entry before its address
+-- Returns how many octets of an entry stand before its address.
 abbrev pub beforeAddress : ListKind → ℕ
 beforeAddress Targets = 1
 beforeAddress Dependents = 0
 beforeAddress LostDestinations = 0
 beforeAddress Items = 1
 
--- of an entry of this type's list (1 for a RANN, whose empty list part then has 0 / 1 entries)
+-- Returns how many octets an entry has in the list of this type. For a RANN it returns 1, so that the empty list part has
+-- 0 / 1 entries.
 abbrev pub entrySize : Kind → ℕ
 entrySize Rann = 1
 entrySize Rreq = sizeOf Targets
 entrySize Rrep = sizeOf Dependents
 entrySize Rerr = sizeOf LostDestinations
 
--- what functions know of the list part of an element of this type: whole entries, and as many as there may be
+-- States that octets can be the list part of an element of this type: whole entries, and an allowed number of them. Functions
+-- require it.
 pub record PartOf (k : Kind) (part : List ℕ) : Type 0 where
   pub whole : length part % entrySize k ≡ 0
   pub some : fewest k * entrySize k ≤ length part
@@ -83,7 +85,7 @@ pub record PartOf (k : Kind) (part : List ℕ) : Type 0 where
 
 -- ---- widths
 
--- what stands between Length and N
+-- Returns the widths of the fields between Length and N.
 abbrev pub fieldWidths : Kind → List ℕ
 -- flags, hop count, TTL, originator, number, lifetime, metric
 fieldWidths Rann = 1 ∷ 1 ∷ 1 ∷ 6 ∷ 4 ∷ 4 ∷ 4 ∷ []
@@ -94,18 +96,18 @@ fieldWidths Rrep = 1 ∷ 1 ∷ 1 ∷ 6 ∷ 4 ∷ 4 ∷ 4 ∷ 6 ∷ 4 ∷ []
 -- flags
 fieldWidths Rerr = 1 ∷ []
 
--- a destination of a RREQ: flags, address, number
+-- A destination of a RREQ: flags, address, number.
 abbrev pub targetWidths : List ℕ
 targetWidths = 1 ∷ 6 ∷ 4 ∷ []
 
--- an item of an ask: flags, address
+-- An item of an ask: flags, address.
 abbrev pub itemWidths : List ℕ
 itemWidths = 1 ∷ 6 ∷ []
 
--- a dependent: address, number
+-- A dependent of a RREP: address, number.
 abbrev pub numberedWidths : List ℕ
 numberedWidths = 6 ∷ 4 ∷ []
 
--- a destination of a RERR: address, number
+-- A destination of a RERR: address, number.
 abbrev pub lostWidths : List ℕ
 lostWidths = 6 ∷ 4 ∷ []

@@ -1,5 +1,5 @@
--- The addresses in a list part or in the items of an ask, and what can be wrong with them: what refusals 9 and 10 ask of
--- destinations. Receive passes the dependents of a RREP on unread.
+-- The addresses in a list part or in the items of an ask, and what refusals 9 and 10 judge in them. PROTOCOL, 'Refusals'. No call
+-- judges the dependents of a RREP: receive passes them on unread.
 use Prim.Native.Nat.{ℕ, _-_, _^_}
 use mathlib.Core.Bool.{Bool, false, _&&_, _||_, not}
 use mathlib.Core.List.{List, [], _∷_}
@@ -19,19 +19,19 @@ addressIn Dependents part i = numberedAt part i .address
 addressIn LostDestinations part i = lostAt part i .address
 addressIn Items part i = itemAt part i .address
 
--- the addresses of entry i and of those after it
+-- Returns the addresses of entry i and of all entries after it.
 unfoldable pub addressesFrom : ListKind → List ℕ → ℕ → List Address
 addressesFrom k part i = each (addressIn k part) i (entriesIn k part - i)
 
 abbrev pub addressesIn : ListKind → List ℕ → List Address
 addressesIn k part = addressesFrom k part 0
 
--- ---- what can be wrong
+-- ---- faults
 
 abbrev pub allOnes : Address
 allOnes = record { 0 = 2 ^ 48 - 1 }
 
--- a destination is individual; as a RREQ destination all ones is allowed too; an ask may not name all ones
+-- An address in a list must be individual, except that a RREQ's destination may be all ones. An ask may not name all ones.
 unfoldable pub allowed : ListKind → Address → Bool
 allowed Targets a = individual a || same a allOnes
 allowed Dependents a = individual a
@@ -46,11 +46,11 @@ unfoldable pub contains : List Address → Address → Bool
 contains [] a = false
 contains (b ∷ rest) a = same b a || contains rest a
 
--- an address twice
+-- Reports whether an address stands twice.
 unfoldable pub hasDuplicate : List Address → Bool
 hasDuplicate [] = false
 hasDuplicate (a ∷ rest) = contains rest a || hasDuplicate rest
 
--- all ones beside others
+-- Reports whether the list has all ones and anything else.
 unfoldable pub onesBesideOthers : List Address → Bool
 onesBesideOthers l = contains l allOnes && ltb 1 (length l)

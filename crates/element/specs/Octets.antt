@@ -1,9 +1,9 @@
--- Elements as octets: what is turned away (6, 7, 8), what is read, and what is written. What is defined here:
---   wrongLength, otherId, misfit          what refusals 6, 7 and 8 ask
+-- Elements as octets: refusals 6, 7 and 8, reading and writing. PROTOCOL, 'Elements' and 'Refusals'. What is defined here:
+--   wrongLength, otherId, misfit          refusals 6, 7 and 8
 --   kindIn, countAs, listPart             the type, N, and the octets of the list
---   readElement                           the element in octets
+--   readElement                           the element that octets hold
 --   writeElement, writeFrame              the octets of an element, and of a frame
---   fixedOctets, frameStart               those before the list
+--   fixedOctets, frameStart               the octets of an element, and of a frame, up to the list
 use Prim.Native.Nat.{ℕ, _+_}
 use mathlib.Core.Bool.{Bool, _||_, not}
 use mathlib.Core.List.{List, [], _∷_, _++_, flatMap}
@@ -21,34 +21,35 @@ use Rattle.element.specs.Element.{Element, rann, rreq, rrep, rerr, kindO
 use Rattle.element.specs.Layout.{idOf, kindWith, known, lengthWith, fits, fieldWidths}
 use Rattle.element.specs.Entries.{lostOctets, lostList, numberedOctets, numberedList, targetOctets, targetList}
 
--- ---- turned away
+-- ---- refusals 6, 7 and 8
 
--- the type that the ID says
+-- Returns the type that the ID says.
 abbrev pub kindIn : List ℕ → Kind
 kindIn s = kindWith (getD s 0 0)
 
--- N, the last octet before the list, of octets read as a type; where they end before it there is none, and no Length fits
+-- Returns N, the last octet before the list, of octets read as an element of the type. It returns 0 if the octets end before N,
+-- and then no Length that passes refusal 6 fits.
 abbrev pub countAs : Kind → List ℕ → ℕ
 countAs Rann s = 0
 countAs Rreq s = getD s 27 0
 countAs Rrep s = getD s 33 0
 countAs Rerr s = getD s 3 0
 
--- 6. element under 2 octets, or Length differs from the octets after it
+-- 6. The element has fewer than 2 octets, or its Length differs from the number of octets after it.
 unfoldable pub wrongLength : List ℕ → Bool
 wrongLength s = ltb (length s) 2 || not (eqb (2 + getD s 1 0) (length s))
 
--- 7. another ID
+-- 7. The ID is none of the four.
 unfoldable pub otherId : List ℕ → Bool
 otherId s = not (known (getD s 0 0))
 
--- 8. Length doesn't fit type and count
+-- 8. Length does not fit the type and N.
 unfoldable pub misfit : List ℕ → Bool
 misfit s = not (fits (kindIn s) (getD s 1 0) (countAs (kindIn s) s))
 
--- ---- read
+-- ---- reading
 
--- flags, hop count and TTL, and the fields of the path, the first of which is number i of xs
+-- Returns a path from the fields xs: flags, hop count and TTL are the first three, and the subject is field i.
 abbrev pub pathFrom : List ℕ → ℕ → PathInfo
 pathFrom xs i =
     record {
@@ -71,11 +72,11 @@ rrepFrom xs =
 abbrev pub rerrFrom : List ℕ → RerrFields
 rerrFrom xs = record { flags = getD xs 0 0 }
 
--- the fields between Length and N
+-- Returns the fields between Length and N.
 abbrev pub fieldsAs : Kind → List ℕ → List ℕ
 fieldsAs k s = fieldsAt (fieldWidths k) s 2 0
 
--- the list part: what follows the octets that an element without entries has (nothing in a RANN)
+-- Returns the list part: the octets after those of an element without entries. For a RANN there are none.
 abbrev pub listAs : Kind → List ℕ → List ℕ
 listAs k s = drop (2 + lengthWith k 0) s
 
@@ -94,19 +95,20 @@ listPart s = listAs (kindIn s) s
 unfoldable pub readElement : List ℕ → Element
 readElement s = readAs (kindIn s) s
 
--- ---- written
+-- ---- writing
 
--- N, where the type has one
+-- Returns N as an octet, if elements of this type have N.
 abbrev pub countPart : Kind → ℕ → List ℕ
 countPart Rann n = []
 countPart Rreq n = n ∷ []
 countPart Rrep n = n ∷ []
 countPart Rerr n = n ∷ []
 
--- an element with n entries, without these: ID, Length, fields and N, as numbers and as octets
+-- Returns the numbers of an element with n entries up to its list: ID, Length, fields and N.
 abbrev pub fixedNumbers : Kind → ℕ → List ℕ → List ℕ
 fixedNumbers k n xs = idOf k ∷ lengthWith k n ∷ xs ++ countPart k n
 
+-- Returns the octets of an element with n entries up to its list.
 unfoldable pub fixedOctets : Kind → ℕ → List ℕ → List ℕ
 fixedOctets k n xs = idOf k ∷ lengthWith k n ∷ fieldOctets (fieldWidths k) xs ++ countPart k n
 
@@ -119,14 +121,14 @@ listOctets (rerr f destinations) = flatMap lostOctets destinations
 unfoldable pub writeElement : Element → List ℕ
 writeElement e = fixedOctets (kindOf e) (countOf e) (fieldNumbers e) ++ listOctets e
 
--- a frame is receiver address and element
+-- A frame is a receiver address followed by an element.
 unfoldable pub writeFrame : Address → Element → List ℕ
 writeFrame to e = numberOctets 6 (to .0) ++ writeElement e
 
--- octets of the receiver address and of an element without entries
+-- Returns how many octets a frame has up to its list: the receiver address, and an element without entries.
 abbrev pub startOctets : Kind → ℕ
 startOctets k = 8 + lengthWith k 0
 
--- a frame with n entries, without these
+-- Returns the octets of a frame with n entries up to its list.
 abbrev pub frameStart : Address → Kind → ℕ → List ℕ → List ℕ
 frameStart to k n xs = numberOctets 6 (to .0) ++ fixedOctets k n xs

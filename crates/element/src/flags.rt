@@ -1,4 +1,4 @@
-// The bits of a RREQ's flags and of a destination's. Reserved bits are ignored and passed on.
+// The bits in the flags of a RREQ and in the flags of its destinations. Reserved bits are ignored and passed on as received.
 use crate::PathInfo;
 use crate::Target;
 ghost use mathlib.Core.Path.{_≡_};
@@ -16,14 +16,14 @@ pub fn is_reply_wanted(p: PathInfo) -> bool
     p.flags / 4 % 2 == 1
 }
 
-// Whether only the destination itself is to reply.
+// Reports whether only the destination itself may reply.
 pub fn has_do(q: Target) -> bool
     ensures { λ r. ⌜ r ≡ hasDO q ⌝ }
 {
     q.flags % 2 == 1
 }
 
-// Whether a destination that was answered for is kept all the same.
+// Reports whether the destination is kept even after an intermediate reply.
 pub fn has_rf(q: Target) -> bool
     ensures { λ r. ⌜ r ≡ hasRF q ⌝ }
 {

@@ -16,8 +16,8 @@ pub enum Kind {
     Rerr,
 }
 
-// What a RANN, a RREQ and a RREP have in common. The subject is the originator of a RANN or a RREQ and the destination of
-// a RREP: the point to which the path leads.
+// The fields that a RANN, a RREQ and a RREP share. The path leads to the subject: the originator of a RANN or a RREQ, the
+// destination of a RREP.
 pub struct PathInfo {
     pub flags: u8,
     pub hops: HopCount,
@@ -28,32 +28,32 @@ pub struct PathInfo {
     pub metric: Metric,
 }
 
-// An address with the number beside it: the source of a RREP, and each of its dependents.
+// An address and its number: the source of a RREP, and each dependent of a RREP.
 pub struct NumberedAddress {
     pub address: Address,
     pub number: SequenceNumber,
 }
 
-// A destination of a RREQ, with its own flags: a target, as the later standard calls it.
+// A destination of a RREQ, with flags of its own and the requested number. The later standard calls it a target.
 pub struct Target {
     pub flags: u8,
     pub address: Address,
     pub number: SequenceNumber,
 }
 
-// A destination of a RERR, which can no longer be reached, with the number under which it was lost.
+// A destination of a RERR, which the transmitter can no longer reach, with the number that the RERR gives for it.
 pub struct LostDestination {
     pub address: Address,
     pub number: SequenceNumber,
 }
 
-// An item of an ask: a destination to be asked for, with the flags that it gets in the RREQ.
+// An item of an ask: the destination to ask for, and the flags that the destination gets in the RREQ.
 pub struct Item {
     pub flags: u8,
     pub address: Address,
 }
 
-// The fixed fields of a RREQ, of a RREP and of a RERR.
+// The fixed fields of a RREQ. `RrepFields` and `RerrFields` are the fixed fields of a RREP and of a RERR.
 pub struct RreqFields {
     pub request: RequestId,
     pub path: PathInfo,

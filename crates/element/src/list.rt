@@ -1,5 +1,4 @@
-// The list part of an element and the items of an ask: entries by index, and what can be wrong with the addresses of
-// destinations.
+// The list part of an element and the items of an ask: entries by index, and the faults that their addresses can have.
 use crate::Item;
 use crate::LostDestination;
 use crate::NumberedAddress;
@@ -25,10 +24,10 @@ ghost use Rattle.element.specs.Lists.{
   hasDuplicate,
 };
 
-// Every point: as a receiver, and as the destination of a root request.
+// All ones, as a number: the receiver address that means every neighbour, and the destination of a root request.
 pub const ALL_ONES: u64 = 281474976710655;
 
-// Octets of an entry: a destination of a RREQ, a dependent of a RREP, a destination of a RERR, an item of an ask.
+// How many octets an entry has: a destination of a RREQ, a dependent of a RREP, a destination of a RERR, an item of an ask.
 pub const TARGET: usize = 11;
 
 pub const DEPENDENT: usize = 10;
@@ -37,7 +36,7 @@ pub const LOST: usize = 10;
 
 pub const ITEM: usize = 7;
 
-// What the entries are: destinations of a RREQ, dependents of a RREP, destinations of a RERR, or items of an ask.
+// The kind of entries in a list: destinations of a RREQ, dependents of a RREP, destinations of a RERR, or items of an ask.
 pub enum ListKind {
     Targets,
     Dependents,
@@ -89,7 +88,7 @@ pub fn item_at(part: &[u8], i: usize) -> Item
     Item { flags, address }
 }
 
-// Octets of an entry.
+// Returns how many octets an entry has.
 fn size_of(kind: ListKind) -> usize
     ensures { λ r. ⌜ r ≡ sizeOf kind ⌝ }
 {
@@ -101,7 +100,7 @@ fn size_of(kind: ListKind) -> usize
     }
 }
 
-// Octets of an entry before its address: flags, where it has them.
+// Returns how many octets of an entry stand before its address: 1 if the entry has flags, otherwise 0.
 fn before_address(kind: ListKind) -> usize
     ensures { λ r. ⌜ r ≡ beforeAddress kind ⌝ }
 {
@@ -113,14 +112,15 @@ fn before_address(kind: ListKind) -> usize
     }
 }
 
-// How many entries a list part has.
+// Returns how many entries a list part has.
 pub fn entries_in(part: &[u8], kind: ListKind) -> usize
     ensures { λ r. ⌜ r ≡ entriesIn kind (now (part .entry)) ⌝ }
 {
     part.len() / size_of(kind)
 }
 
-// Reads the address alone, at a place that is computed: a loop over a list whose kind the compiler does not know has no branch.
+// Returns the address of entry i. It reads the address alone, at a computed place, so that a loop over a list of any kind has no
+// branch on the kind.
 fn address_at(part: &[u8], kind: ListKind, i: usize) -> Address
     requires { ⌜ i < entriesIn kind (now part) ⌝ }
     ensures { λ r. ⌜ r ≡ addressIn kind (now (part .entry)) i ⌝ }
@@ -139,7 +139,7 @@ fn is_allowed(kind: ListKind, address: Address) -> bool
     }
 }
 
-// Whether some address may not be a destination in such a list.
+// Reports whether the list has an address that a list of this kind may not have (refusal 9).
 pub fn has_forbidden(part: &[u8], kind: ListKind) -> bool
     ensures { λ r. ⌜ r ≡ anyForbidden kind (addressesIn kind (now (part .entry))) ⌝ }
 {
@@ -154,7 +154,7 @@ pub fn has_forbidden(part: &[u8], kind: ListKind) -> bool
     false
 }
 
-// Whether the address stands at entry from or after it.
+// Reports whether the entry `from` or a later entry has the address.
 fn contains_from(part: &[u8], kind: ListKind, from: usize, address: Address) -> bool
     ensures { λ r. ⌜ r ≡ contains (addressesFrom kind (now (part .entry)) from) address ⌝ }
 {
@@ -175,7 +175,8 @@ pub fn contains(part: &[u8], kind: ListKind, address: Address) -> bool
     contains_from(part, kind, 0, address)
 }
 
-// Whether the address stands at entry from or after it, where mark 0 says that it does not.
+// Reports whether the entry `from` or a later entry has the address. If the mark is 0, none has it, and the function does not
+// search.
 fn is_again(part: &[u8], kind: ListKind, from: usize, address: Address, mark: u8) -> bool
     ensures { λ r. ⌜ r ≡ (not (eqb mark 0) && contains (addressesFrom kind (now (part .entry)) from) address) ⌝ }
 {
@@ -185,8 +186,8 @@ fn is_again(part: &[u8], kind: ListKind, from: usize, address: Address, mark: u8
     contains_from(part, kind, from, address)
 }
 
-// Marks the address of each entry in seen, from the last entry down. Two addresses may share a mark: then the entries after are
-// searched.
+// Reports whether an address stands twice. From the last entry down, it marks each address in `seen`. Two addresses may share a
+// mark, so if the mark is already set it searches the later entries for the address.
 fn has_duplicate_by_marks(part: &[u8], kind: ListKind, seen: &mut [u8], last: usize) -> bool
     requires { ⌜ length (now seen) ≡ last + 1 ⌝ }
     ensures { λ r. ⌜ r ≡ hasDuplicate (addressesIn kind (now (part .entry))) ⌝ }
@@ -205,7 +206,7 @@ fn has_duplicate_by_marks(part: &[u8], kind: ListKind, seen: &mut [u8], last: us
     false
 }
 
-// Clears no marks where the list has one address.
+// Reports whether an address stands twice. A list with at most one entry needs no marks.
 pub fn has_duplicate(part: &[u8], kind: ListKind) -> bool
     ensures { λ r. ⌜ r ≡ hasDuplicate (addressesIn kind (now (part .entry))) ⌝ }
 {

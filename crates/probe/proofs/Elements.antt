@@ -1,4 +1,4 @@
--- The numbers of an element: those of its fixed part, and then those of its entries.
+-- The numbers of an element: the numbers of its fixed part, and then the numbers of its entries.
 use Prim.Native.Nat.{ℕ, zero, suc, _/_}
 use mathlib.Core.Path.{_≡_, refl, sym, ap, ap₂, _∙_}
 use mathlib.Core.List.{List, _++_, flatMap}
@@ -20,14 +20,14 @@ use Rattle.reading.specs.Reading.{fixedFields, reading}
 use Rattle.element.proofs.Scans.{each-length}
 use Rattle.probe.specs.Probes.{Probed, entryNumbers, elementNumbers, readNumbers, unlessRefused}
 
--- dependents of a RREP and destinations of a RERR have the same numbers
+-- Octets read as dependents of a RREP and as destinations of a RERR give the same numbers.
 same-numbers : (part : List ℕ) (i n : ℕ) → flatMap numberedNumbers (each (numberedAt part) i n) ≡ flatMap lostNumbers (each (lostAt part) i n)
 unfolding each flatMap numberedAt lostAt
 same-numbers part i zero = refl
 same-numbers part i (suc n) = rw (same-numbers part (suc i) n)
 
 module _ (s t ys : List ℕ) (te : t ≡ overwrite s 0 ys) where
-  -- n entries, put after the fixed part
+  -- The numbers of n entries, written after the numbers of the fixed part.
   numbers-put : (e : Element) (u : List ℕ) (n : ℕ) → n ≡ countOf e → ys ≡ fixedNumbers (kindOf e) n (fieldNumbers e)
       → u ≡ overwrite t (length (fixedNumbers (kindOf e) n (fieldNumbers e))) (entryNumbers e) → u ≡ overwrite s 0 (elementNumbers e)
   unfolding elementNumbers
@@ -56,7 +56,7 @@ module _ (s t ys : List ℕ) (te : t ≡ overwrite s 0 ys) where
         numbers-put (rerr f (lostIn part)) u n (ne ∙ sym (each-length (lostAt part) 0 (length part / 10))) ye
         (ue ∙ ap (overwrite t 4) (same-numbers part 0 (length part / 10)))
 
--- ---- by the reader's answer
+-- ---- each result of the reader
 
 pub not-refused : (e : Element) (was : List ℕ) (made : Probed) → unlessRefused (fixedFields e) was made ≡ made
 not-refused (rann p) was made = refl

@@ -1,4 +1,4 @@
--- Entries written one by one, as the loops here ask it.
+-- Entries written one by one by the loops of this crate.
 use Prim.Native.Nat.{ℕ, _+_, _-_, _*_, _<_, _≤_}
 use mathlib.Core.Path.{_≡_, sym, ap, _∙_}
 use mathlib.Core.List.{List, flatMap}
@@ -8,7 +8,7 @@ use Rattle.element.specs.Entries.{each}
 use Rattle.writing.proofs.Written.{entries-more}
 
 module _ {A : Type 0} (write : A → List ℕ) (w : ℕ) where
-  -- i of n entries, w places each, are written: what is left to write makes the whole
+  -- States that i of n entries are written, w places each, and that writing the rest gives the whole list.
   abbrev pub Left : (entry : ℕ → A) (n at : ℕ) (s₀ s : List ℕ) (place i : ℕ) → Type 0
   Left entry n at s₀ s place i =
       (i ≤ n) × (length s ≡ length s₀) × (place ≡ at + w * i)

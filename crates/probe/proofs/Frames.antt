@@ -54,7 +54,7 @@ module _ (out : List ℕ) (at size : ℕ) where
       unfolding written
       wrote yes-b u ue = rw (pe, ← be, not-false b yes-b, ue) refl
 
--- a start of n octets, and a list part after it
+-- Room for a start of n octets, and for a list part after it.
 module _ (out part : List ℕ) (at n : ℕ) (b : Bool) (be : b ≡ leb (at + (n + length part)) (length out)) (yes-b : not b ≡ false) where
   pub whole-room : at + n + length part ≤ length out
   whole-room = let h = room-there out at (n + length part) b be yes-b in omega arith
@@ -81,7 +81,7 @@ module _ (to : Address) where
     pub rerr-size : (f : RerrFields) → PartOf Rerr part → length (writeFrame to (rerr f (lostIn part))) ≡ 10 + length part
     rerr-size f whole = omega (arith, frame-length to (rerr f (lostIn part)), each-length (lostAt part) 0 (length part / 10))
 
--- ---- by the reader's answer
+-- ---- each result of the reader
 
 module _ (s out : List ℕ) (to : Address) (at : ℕ) (r : Reading) (re : r ≡ reading s) where
   pub again-refused : (n : ℕ) → r ≡ Refused n → record { answer = n; memory = out } ≡ writtenAgain s to out at
@@ -105,7 +105,7 @@ module _ (s : List ℕ) (a : Address) (r : Reading) (re : r ≡ reading s) where
   unfolding faultsIn
   no-faults-refused n e = rw (← re, e) refl
 
-  -- an answer of any type, with the list part that goes with it
+  -- A result of any type, with its list part.
   pub faults-read : (q : Reading) → r ≡ q → (b : Address) → b ≡ a → (part : List ℕ) → part ≡ listPart s → (x : ℕ) → x ≡ faultsRead q part b → x ≡ faultsIn s a
   unfolding faultsIn
   faults-read q e b be part pe x xe = rw (xe, be, ← re, e, pe) refl

@@ -1,4 +1,4 @@
--- What the entries for tests answer and leave in the memory that they are lent.
+-- What the entries for tests and benchmarks answer, and what they leave in their lent memory.
 use Prim.Native.Nat.{ℕ, _+_}
 use mathlib.Core.Bool.{cond}
 use mathlib.Core.List.{List, [], _++_, flatMap}
@@ -31,7 +31,7 @@ pub record Probed : Type 0 where
   pub answer : ℕ
   pub memory : List ℕ
 
--- a refusal leaves the memory as it was
+-- A refusal answers its number and leaves the memory unchanged.
 abbrev pub unlessRefused : Reading → List ℕ → Probed → Probed
 unlessRefused (Announcement p) was made = made
 unlessRefused (Request f) was made = made
@@ -41,13 +41,14 @@ unlessRefused (Refused n) was made = record { answer = n; memory = was }
 
 -- ---- an element as numbers
 
--- all numbers of an element, in the order of its octets
+-- Returns the numbers of all entries of an element, in the order of its octets.
 abbrev pub entryNumbers : Element → List ℕ
 entryNumbers (rann p) = []
 entryNumbers (rreq f targets) = flatMap targetNumbers targets
 entryNumbers (rrep f dependents) = flatMap numberedNumbers dependents
 entryNumbers (rerr f destinations) = flatMap lostNumbers destinations
 
+-- Returns all numbers of an element, in the order of its octets.
 unfoldable pub elementNumbers : Element → List ℕ
 elementNumbers e = fixedNumbers (kindOf e) (countOf e) (fieldNumbers e) ++ entryNumbers e
 
@@ -57,7 +58,8 @@ readNumbers s numbers =
 
 -- ---- an element written again
 
--- octets written from place at on, or 2 if they do not fit in there (a call asks of its output at once what it may need)
+-- Writes the octets p from the place `at` on, or answers 2 if they do not fit. (A call of the library differs: refusal 2 asks for
+-- 1,560 octets, whatever the call would write.)
 unfoldable pub written : List ℕ → ℕ → List ℕ → Probed
 written out at p =
     cond (leb (at + length p) (length out)) (record { answer = 0; memory = overwrite out at p })
@@ -66,8 +68,8 @@ written out at p =
 unfoldable pub writtenAgain : List ℕ → Address → List ℕ → ℕ → Probed
 writtenAgain s to out at = unlessRefused (reading s) out (written out at (writeFrame to (readElement s)))
 
--- ---- what is wrong in a list, as a sum: 1 an address that may not stand there, 2 an address twice, 4 all ones beside others,
--- 8 the given address among them
+-- ---- the faults of a list, as a sum: 1 for an address that the list may not have, 2 for an address that stands twice, 4 for all
+-- ones and anything else, 8 if the given address is in the list
 
 abbrev pub faults : ListKind → Address → List Address → ℕ
 faults k a l = cond (anyForbidden k l) 1 0 + cond (hasDuplicate l) 2 0 + cond (onesBesideOthers l) 4 0 + cond (contains l a) 8 0

@@ -1,4 +1,4 @@
-// An element written again as a frame, if it fits; each function answers 0, or 2 if it does not.
+// Writing an element again as a frame. Each public function answers 0, or 2 if the frame does not fit into the output.
 use element::PathInfo;
 use element::RerrFields;
 use element::RrepFields;
@@ -19,7 +19,7 @@ ghost use Rattle.element.specs.Octets.{writeFrame};
 ghost use Rattle.element.specs.declared.Kind.{Kind};
 ghost use Rattle.probe.specs.Probes.{written};
 
-// Whether so many octets fit from a place on.
+// Reports whether `size` octets fit into the output from the place `at` on.
 fn has_room(out: &[u8], at: usize, size: usize) -> bool
     ensures { λ r. ⌜ r ≡ leb (at + size) (length (now (out .entry))) ⌝ }
 {
@@ -66,7 +66,7 @@ pub fn write_rann(out: &mut [u8], at: usize, to: Address, path: PathInfo) -> u32
     0
 }
 
-// Where singly is 0 its destinations are written from the lent list part, else one by one.
+// If `singly` is 0, writes the destinations as the lent list part has them, otherwise one by one. The octets are the same.
 pub fn write_rreq(
     out: &mut [u8],
     at: usize,

@@ -1,5 +1,5 @@
-// Elements for the tests and benchmarks: what is read of one as numbers, the frame that is written of it, and what is wrong
-// with its list. No part of the library that C links.
+// Entries through which tests and benchmarks reach elements: one reads an element as numbers, one writes an element again as a
+// frame, and one reports the faults of its list. They are no part of the library that C links.
 mod again;
 mod numbers;
 
@@ -15,7 +15,8 @@ ghost use Rattle.layout.specs.Address.{addressOf};
 ghost use Rattle.element.specs.Lists.{addressesIn};
 ghost use Rattle.probe.specs.Probes.{faults, faultsIn, readNumbers, writtenAgain};
 
-// Answers 6, 7 or 8, or 0 and writes the element's numbers in the order of its octets, entries too.
+// Writes the numbers of the element and of its entries, in the order of the octets, and answers 0. Or it answers 6, 7 or 8 and
+// writes nothing.
 #[no_mangle]
 pub extern "C" fn probe_read(element: &[u8], numbers: &mut [u64; 71]) -> u32
     ensures { λ r. ⌜ record { answer = r; memory = now (numbers .exit) }
@@ -30,8 +31,9 @@ pub extern "C" fn probe_read(element: &[u8], numbers: &mut [u64; 71]) -> u32
     }
 }
 
-// Writes the element again as a frame from place at on. Answers 0; 6, 7 or 8; or 2 if it does not fit in there. Where singly
-// is 0 the destinations of a RREQ are written from its list part, else one by one, with the same outcome.
+// Writes the element again as a frame from the place `at` on, and answers 0. Or it answers 6, 7 or 8, or 2 if the frame does not
+// fit, and writes nothing. If `singly` is 0, the destinations of a RREQ are written as its list part has them, otherwise one by
+// one. The octets are the same.
 #[no_mangle]
 pub extern "C" fn probe_write(
     element: &[u8],
@@ -76,8 +78,8 @@ fn faults_of(part: &[u8], kind: ListKind, address: Address) -> u32
         + value_if(list::contains(part, kind, address), 8)
 }
 
-// What is wrong with the addresses of the list, as a sum: 1 one that may not be a destination, 2 one that stands twice, 4
-// all ones beside others, 8 the given address among them.
+// Returns the faults of the list as a sum: 1 for an address that the list may not have, 2 for an address that stands twice, 4 for
+// all ones and anything else, 8 if the given address is in the list. Returns 0 for a refused element.
 #[no_mangle]
 pub extern "C" fn probe_faults(element: &[u8], address: &[u8; 6]) -> u32
     ensures { λ r. ⌜ r ≡ faultsIn (now (element .entry)) (addressOf (now (address .entry))) ⌝ }

@@ -1,4 +1,4 @@
-// The numbers of an element, written side by side; each function answers 0.
+// Writing the numbers of an element one after another. Each public function answers 0.
 use element::PathInfo;
 use element::RerrFields;
 use element::RrepFields;
@@ -44,7 +44,7 @@ fn put_targets(numbers: &mut [u64], at: usize, part: &[u8])
     }
 }
 
-// Puts the dependents of a RREP or the destinations of a RERR: both are an address and a number.
+// Writes the dependents of a RREP or the destinations of a RERR. Each of them is an address and a number.
 fn put_numbered(numbers: &mut [u64], at: usize, part: &[u8])
     requires { ⌜ at + 2 * (length (now part) / 10) ≤ length (now numbers) ⌝ }
     ensures { λ _. ⌜ now (numbers .exit)

@@ -1,4 +1,5 @@
--- The definitions of `specs/` by cases, each as a `return` asks it: from what the calls before it gave, by `search`.
+-- The definitions of `specs/` by cases. Each law serves a `return` of the code: `search` applies it to the results of the calls
+-- before the `return`.
 use Prim.Native.Nat.{ℕ, _+_, _-_, _<_, _≤_}
 use mathlib.Core.Path.{_≡_, refl, sym, ap, _∙_}
 use mathlib.Core.Bool.{Bool, true, false, _&&_, not}
@@ -25,7 +26,7 @@ use Rattle.octets.proofs.Tests.{both}
 use Rattle.element.proofs.Lengths.{least-length}
 use Rattle.element.proofs.Passing.{known-is, length-right}
 
--- an octet is a number of one octet
+-- The number in one octet is the octet.
 one-octet : (s : List ℕ) (at : ℕ) → numberAt 1 s at ≡ getD s at 0
 unfolding numberAt
 one-octet s at = omega arith
@@ -56,7 +57,7 @@ module _ (id : ℕ) where
   unfolding kindWith
   kind-else a b c = rw (ne-eqb id 126 a, ne-eqb id 130 b, ne-eqb id 131 c) refl
 
--- a Length by the type that was found
+-- The Length, if a branch has found the type j of k.
 pub length-is : (k j : Kind) → k ≡ j → (n x : ℕ) → x ≡ lengthWith j n → x ≡ lengthWith k n
 length-is k j ke n x e = rw ke e
 

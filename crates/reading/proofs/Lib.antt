@@ -1,3 +1,3 @@
--- The laws of the reader, for this crate's proofs and its callers'.
+-- Laws about the reader, for the proofs of this crate and of its callers.
 mod Cases
 pub mod Readings

@@ -1,4 +1,4 @@
--- What the reader's answer tells of the octets: their type, their size, and what stands in their list part. For callers.
+-- What callers know from the result of the reader: the type and the size of the octets, and the entries in their list part.
 use Prim.Native.Nat.{ℕ, _+_, _*_, _/_}
 use mathlib.Core.Path.{_≡_, refl, sym, ap, ap₂, subst, _∙_}
 use mathlib.Core.Bool.{Bool, true, false, cond, false≢true}
@@ -22,7 +22,7 @@ use Rattle.element.proofs.Lengths.{least-length, count-range}
 use Rattle.element.proofs.Passing.{Passed, passed}
 use Rattle.element.proofs.ReadBack.{Fits, passes-6, passes-7, passes-8, read-back}
 
--- ---- an answer that is no refusal
+-- ---- a result that is no refusal
 
 abbrev isRefused : Reading → Bool
 isRefused (Announcement p) = false
@@ -31,7 +31,7 @@ isRefused (Reply f) = false
 isRefused (Error f) = false
 isRefused (Refused n) = true
 
--- the type of what was read; of a refusal any
+-- Returns the type of the element that was read. For a refusal the value has no meaning.
 abbrev kindRead : Reading → Kind
 kindRead (Announcement p) = Rann
 kindRead (Request f) = Rreq
@@ -77,7 +77,7 @@ length-nil : (l : List ℕ) → length l ≡ 0 → l ≡ []
 length-nil [] e = refl
 length-nil (x ∷ l) e = absurd (omega arith)
 
--- ---- as callers ask it: r is the answer for s, and part its list part
+-- ---- what callers use: r is the result for the octets s, and part is their list part
 
 by-entries : (k : Kind) (n long : ℕ) → countOk k n ≡ true → long + lengthWith k 0 ≡ lengthWith k n → (long ≡ entrySize k * n) × (n ≡ long / entrySize k)
 by-entries Rann n long c e = let r = count-range Rann n c in (omega arith, omega arith)
@@ -108,7 +108,7 @@ module _ (s : List ℕ) (r : Reading) (re : r ≡ reading s) (q : Reading) (e : 
     pub part-of : PartOf (kindRead q) part
     part-of = of-kind (kindRead q) (countAs (kindRead q) s) part (read-so .passes .count) (entries .0)
 
-    -- the element that was read, by its list part
+    -- The element that was read, in terms of its list part.
     element-is : readElement s ≡ elementAs (kindRead q) (fieldsAs (kindRead q) s) (length part / entrySize (kindRead q)) part
     unfolding readElement readAs
     element-is =
@@ -118,10 +118,10 @@ module _ (s : List ℕ) (r : Reading) (re : r ≡ reading s) (q : Reading) (e : 
   fields-are : q ≡ fixedFields (readAs (kindRead q) s)
   fields-are = sym e ∙ read-so .fields
 
--- answer by answer; that its fields are those of the element follows from its case (`cc`)
+-- The laws for each case of the result. In each case `cc` shows that the fields in the result are the fields of the element.
 module _ (s : List ℕ) (r : Reading) (re : r ≡ reading s) where
   module _ (p : PathInfo) (e : r ≡ Announcement p) where
-    -- the list part of a RANN is empty
+    -- The list part of a RANN is empty.
     pub announcement-list : listPart s ≡ []
     announcement-list = length-nil (listPart s) (omega (arith, entries s r re (Announcement p) e refl (listPart s) refl))
 
@@ -164,9 +164,9 @@ module _ (s : List ℕ) (r : Reading) (re : r ≡ reading s) where
           let same = fields-are s r re (Error f) e refl in
           element-is s r re (Error f) e refl part pe ∙ ap (λ (g : RerrFields). rerr g (lostIn part)) (cc)
 
--- ---- what was written
+-- ---- a written element
 
--- the reader answers the fixed fields that were written
+-- From a written element the reader returns the fixed fields that were written.
 pub reads : (e : Element) → Fits e → reading (writeElement e) ≡ fixedFields e
 unfolding reading
 reads e f = rw (passes-6 e, passes-7 e, passes-8 e (f .count), read-back e f) refl

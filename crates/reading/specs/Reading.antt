@@ -1,4 +1,4 @@
--- What the reader answers.
+-- The result of reading an element: a refusal, or its fixed fields. PROTOCOL, 'Elements', and refusals 6 to 8 of 'Refusals'.
 use mathlib.Core.Bool.{cond}
 use mathlib.Core.List.{List}
 use Prim.Native.Nat.{ℕ}
@@ -7,14 +7,14 @@ use Rattle.element.specs.Octets.{wrongLength, otherId, misfit, readElement}
 use Rattle.reading.specs.declared.Reading.{Reading}
 use Rattle.reading.specs.declared.Reading.the-variants.{Announcement, Request, Reply, Error, Refused}
 
--- the fixed fields of an element that is not refused; its list part stays where it lies
+-- Returns the fixed fields of an element that is not refused. The list part stays in the caller's octets.
 abbrev pub fixedFields : Element → Reading
 fixedFields (rann p) = Announcement p
 fixedFields (rreq f targets) = Request f
 fixedFields (rrep f dependents) = Reply f
 fixedFields (rerr f destinations) = Error f
 
--- the first refusal of 6 to 8 that applies, or the fixed fields
+-- Returns the first of refusals 6 to 8 that applies, or the fixed fields if none applies.
 unfoldable pub reading : List ℕ → Reading
 reading s =
     cond (wrongLength s) (Refused 6)

@@ -1,4 +1,4 @@
-// Reading elements: refusals 6, 7 and 8, the fixed fields by value, and the list part as a part of the octets.
+// Reading elements: refusals 6, 7 and 8, the fixed fields by value, and the list part as that part of the caller's octets.
 use counters::HopCount;
 use counters::Metric;
 use counters::RequestId;
@@ -31,7 +31,7 @@ ghost use Rattle.element.specs.Octets.{
 ghost use Rattle.reading.specs.Reading.{fixedFields, reading};
 ghost use Rattle.element.specs.declared.Kind.{Kind};
 
-// The fixed fields of an element, or a refusal. What follows them is `list_part`.
+// The fixed fields of an element, or a refusal. `list_part` returns the list part.
 pub enum Reading {
     Announcement(PathInfo),
     Request(RreqFields),
@@ -40,7 +40,8 @@ pub enum Reading {
     Refused(u32),
 }
 
-// Of an ID that is not known this is `Rerr`, whose ID it is not; `read` tests that.
+// Returns the type with this ID, and `Rerr` for an ID that is none of the four. `read` then sees that the ID is not that of
+// `Rerr`, and refuses.
 fn kind_with(id: u8) -> Kind
     ensures { λ r. ⌜ r ≡ kindWith id ⌝ }
 {
@@ -78,7 +79,8 @@ fn length_with(kind: Kind, n: u8) -> u32
     }
 }
 
-// Type by type, and not by two look-ups of the bounds: the compiler then compares with numbers.
+// Reports whether an element of this type may have n entries. Each type has its own line, so that the compiler compares n with
+// constants and looks up no bounds.
 fn is_count(kind: Kind, n: u8) -> bool
     ensures { λ r. ⌜ r ≡ countOk kind n ⌝ }
 {
@@ -90,7 +92,7 @@ fn is_count(kind: Kind, n: u8) -> bool
     }
 }
 
-// The octet at a place, or 0 where there is none.
+// Returns the octet at a place, or 0 if the octets end before it.
 fn octet_or_zero(s: &[u8], at: usize) -> u8
     ensures { λ r. ⌜ r ≡ getD (now (s .entry)) at 0 ⌝ }
 {
@@ -120,7 +122,7 @@ fn has_wrong_length(element: &[u8]) -> bool
     2 + octets::read_u8(element, 1) as usize != element.len()
 }
 
-// Length, the second octet, fits type and count.
+// Reports whether Length, the second octet, fits the type and the count.
 fn fits_kind(element: &[u8], kind: Kind) -> bool
     requires { ⌜ 2 ≤ length (now element) ⌝ }
     ensures { λ r. ⌜ r ≡ fits kind (getD (now (element .entry)) 1 0) (countAs kind (now (element .entry))) ⌝ }
@@ -129,7 +131,7 @@ fn fits_kind(element: &[u8], kind: Kind) -> bool
     (octets::read_u8(element, 1) as u32 == length_with(kind, n)) & is_count(kind, n)
 }
 
-// Flags, hop count and TTL, and the path with its subject at place at.
+// Reads flags, hop count and TTL, and the rest of the path, whose subject stands at the place `at`.
 fn read_path(element: &[u8], at: usize) -> PathInfo
     requires { ⌜ at + 18 ≤ length (now element) ⌝ }
     ensures { λ r. ⌜ r ≡ pathFrom
@@ -204,7 +206,7 @@ pub fn read(element: &[u8]) -> Reading
     read_fixed_fields(element, kind)
 }
 
-// Where the list begins: after what an element of this type has without entries.
+// Returns the place where the list begins: after the octets that an element of this type has without entries.
 fn list_start(element: &[u8]) -> usize
     ensures { λ r. ⌜ r ≡ 2 + lengthWith (kindIn (now (element .entry))) 0 ⌝ }
 {
@@ -212,7 +214,8 @@ fn list_start(element: &[u8]) -> usize
     2 + length_with(kind, 0) as usize
 }
 
-// The entries of an element, as that part of the caller's octets; empty for a RANN, and for octets that end before the list.
+// Returns the list part of an element, as that part of the caller's octets. It is empty for a RANN, and for octets that end
+// before the list.
 pub fn list_part(element: &[u8]) -> &[u8]
     ensures { λ r. ⌜ now r ≡ listPart (now (element .entry)) ⌝ }
 {

@@ -1,4 +1,4 @@
--- What the checks tell of an element that is accepted.
+-- What holds for an accepted element, because it passed all checks.
 use Prim.Native.Nat.{ℕ, _-_, _^_, _<_, _≤_}
 use mathlib.Core.Path.{_≡_, sym, ap, subst, _∙_}
 use mathlib.Core.Bool.{Bool, true, false, not}
@@ -30,7 +30,7 @@ use Rattle.rules.proofs.Rulings.{listed, Passed, passed-check}
 use Rattle.rules.proofs.Tables.{Whole, whole}
 use Rattle.rules.proofs.Learning.{PathFits, Heard}
 
--- an element that passed all checks
+-- What the checks guarantee for an accepted element.
 pub record Accepted (t : List ℕ) (a : Arrival) (e : Element) : Type 0 where
   pub whole : Whole t
   pub clock : a .clock ≤ 2 ^ 48 - 1
@@ -60,7 +60,7 @@ other-of : (a x : Address) → individual x ≡ true → same x a ≡ false → 
 unfolding isOther
 other-of a x i n = rw (i, n)
 
--- a test of an element's path that does not apply
+-- If a check of the path does not apply, its test fails on the path of the element.
 path-test : (test : PathInfo → Bool) (e : Element) → isSomeAnd test (pathOf e) ≡ false → (p : PathInfo) → pathOf e ≡ some p → test p ≡ false
 path-test test e h p is = ap (isSomeAnd test) (sym is) ∙ h
 

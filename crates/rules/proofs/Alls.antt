@@ -1,4 +1,4 @@
--- A property of every entry of a list, through the operations on lists.
+-- How a property that holds for every entry of a list carries over the operations on lists.
 use Prim.Native.Nat.{ℕ, zero, suc, _+_, _<_, _≤_}
 use mathlib.Core.Path.{_≡_}
 use mathlib.Core.Bool.{Bool, true, false, _||_, cond}
@@ -65,13 +65,13 @@ module _ {A B : Type 0} (Q : B → Type 0) where
   all-flat-map P f h [] k = tt
   all-flat-map P f h (x ∷ l) k = all-append Q (f x) (flatMap f l) (h x (k .0)) (all-flat-map P f h l (k .1))
 
--- no more, where each becomes at most one
+-- If each entry becomes at most one entry, the result has no more entries than the list.
 pub flat-fewer : {A B : Type 0} (f : A → List B) → ((x : A) → length (f x) ≤ 1) → (l : List A) → length (flatMap f l) ≤ length l
 unfolding flatMap
 flat-fewer f one [] = omega arith
 flat-fewer f one (x ∷ l) = omega (arith, length-append (f x) (flatMap f l), one x, flat-fewer f one l)
 
--- ---- how many pass a test
+-- ---- how many entries pass a test
 
 module _ {A : Type 0} (p : A → Bool) where
   pub filter-fewer : (l : List A) → length (filter p l) ≤ length l

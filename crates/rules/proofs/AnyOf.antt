@@ -1,4 +1,4 @@
--- Whether some entry passes a test, by a loop that ends at the first: g is what the whole list gives.
+-- Laws for a loop that looks for an entry that passes a test, and ends at the first. The result for the whole list is g.
 use Prim.Native.Nat.{ℕ, _+_, _-_, _<_, _≤_}
 use mathlib.Core.Path.{_≡_, refl, sym, ap, _∙_}
 use mathlib.Core.Bool.{Bool, true, false}

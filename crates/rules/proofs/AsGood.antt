@@ -1,5 +1,5 @@
--- No call makes a row worse: while numbers stay inside a window of 2^31, a row of known number stays as good as it was.
--- `path-no-worse`, `link-no-worse`, `break-falls` and `error-falls` are all that loop freedom asks of the rules' numbers.
+-- No call makes a row worse. As long as numbers stay inside a window of 2^31, a row of known number stays at least as good as it
+-- was. Loop freedom needs only four laws about numbers: `path-no-worse`, `link-no-worse`, `break-falls` and `error-falls`.
 use Prim.Native.Nat.{ℕ, _-_, _^_, _<_, _≤_}
 use mathlib.Core.Path.{_≡_, refl, ap}
 use mathlib.Core.Bool.{true, false}
@@ -23,19 +23,19 @@ use Rattle.rules.specs.Errors.{numberBeside, erredWith, erred, broken}
 use Rattle.rules.specs.Receive.{isStaleFor, isStale}
 use Rattle.rules.proofs.Branches.{cond-cases}
 
--- the number of a row, where it is known, lies in the window
+-- States that the number of a row lies in the window if it is known.
 abbrev pub InWindow : ℕ → Row → Type 0
 InWindow base r = eqb (r .known) 1 ≡ true → Window base (r .number)
 
 module _ (base : ℕ) (small : base < 2 ^ 32) where
-  -- a path that refusal 25 lets through is at least as good as the row
+  -- A path that passes refusal 25 is at least as good as the subject's row.
   pub path-no-worse : (t : List ℕ) (a : Arrival) (p : PathInfo) → isStale t a p ≡ false → (r : Row) → rowFor t (p .subject) ≡ some r
       → eqb (r .known) 1 ≡ true → Window base (p .number) → Window base (r .number)
       → AtLeast base (p .number) (metricHere a p .0) (r .number) (r .metric .0)
   unfolding isStale isStaleFor
   path-no-worse t a p fresh r found known new old = not-stale small new old (rw (found, known) at fresh)
 
-  -- a row that breaks or is hit by an error stays as it is, or goes down with a rank at least as good
+  -- What a break or a RERR makes of the row r. The row stays as it is, or it is no longer valid and its rank is at least as good.
   pub data Falls (r r′ : Row) : Type 0 where
     stays : r′ ≡ r → Falls r r′
     falls : eqb (r′ .status) 1 ≡ false → r′ .known ≡ r .known
@@ -69,7 +69,7 @@ module _ (base : ℕ) (small : base < 2 ^ 32) where
   unfolding erred
   error-falls named r = erred-with-falls (numberBeside (r .destination) named) r
 
--- a transmitter's row of known number is changed only if that makes its metric no worse
+-- Step 2 changes a row of known number only if its metric gets no worse.
 pub link-no-worse : (a : Arrival) (r : Row) → takesLink a (some r) ≡ true → eqb (r .known) 1 ≡ true → a .link .0 ≤ r .metric .0
 unfolding takesLink
 link-no-worse a r h known =

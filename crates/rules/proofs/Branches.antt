@@ -1,4 +1,4 @@
--- What holds of a branch, from what holds in each case.
+-- A property holds for a branch if it holds in both cases.
 use mathlib.Core.Path.{_≡_, refl}
 use mathlib.Core.Bool.{Bool, true, false, cond}
 

@@ -57,7 +57,7 @@ use Rattle.rules.proofs.Falling.{next-fits, through-acts, break-keeps, 
 use Rattle.rules.proofs.Sending.{FrameFits, FramesFit, to-all-fits, AnsweredFits, replies-fit, rann-fits, rreq-fits, rerr-fits, rann-onward-fits, rreq-onward-fits, rrep-onward-fits, all-answered-fits, entries-fit, errors-fit}
 use Rattle.rules.proofs.Accepted.{Accepted, accepted-element}
 
--- the call leaves a table of the same point, and emits what fits
+-- States that a call leaves a table with the own address and length of t, and that all frames that it emits fit their octets.
 pub record Kept (t : List ℕ) (e : Effect) : Type 0 where
   pub leaves : Leaves t (e .lent .table)
   pub frames : FramesFit (e .frames)
@@ -65,7 +65,7 @@ pub record Kept (t : List ℕ) (e : Effect) : Type 0 where
 -- ---- receive
 
 module _ (l : Lent) (a : Arrival) where
-  -- the table with the counters as they were, at the call's clock
+  -- The head of t over the rows of u, with the own number n and the clock of the call.
   module _ (e : Element) (ok : Accepted (l .table) a e) (u : List ℕ) (k : Keeps (l .table) u) where
     at-clock : (n : SequenceNumber) → n .0 < 256 ^ 4 → Leaves (l .table) (putHead u (headWith n (requestId (l .table)) (a .clock) (headAt (l .table))))
     at-clock n fits = head-leaves (l .table) u (ok .whole) k n (requestId (l .table)) (a .clock) fits (request-fits (l .table) (ok .whole)) (ok .clock)
@@ -131,7 +131,7 @@ module _ (l : Lent) (a : Arrival) where
 -- ---- originating
 
 module _ (l : Lent) (w : Whole (l .table)) where
-  -- under the next own number, whatever else of the head changes
+  -- A path under the next own number fits, whatever the request ID is.
   own-path-fits : (request : RequestId) (flags lifetime : ℕ) → flags < 256 ^ 1 → lifetime < 256 ^ 4
       → PathFits (ownPath (headWith (nextNumber (number (l .table))) request (clock (l .table)) (headAt (l .table))) flags lifetime)
   unfolding ownPath headWith
@@ -171,7 +171,7 @@ module _ (l : Lent) (w : Whole (l .table)) where
         frames = all-one FrameFits _ (to-all-fits _ (rreq-fits _ targets request-next-fits (own-path-fits (nextRequest (requestId (l .table))) flags lifetime f short) fit one few));
       }
 
-  -- the items of an ask
+  -- The destinations of an ask fit.
   known-number-fits : (d : Address) (o : Option Row) → rowFor (l .table) d ≡ o → knownNumber o .0 < 256 ^ 4
   unfolding knownNumber
   known-number-fits d none e = omega arith
@@ -202,7 +202,7 @@ items-count s e =
     let high = leb-true (length s) 140 (p .1) in
     (omega arith, omega arith)
 
--- flags of a root request are 0, 1, 4 or 5
+-- The flags of an accepted root request are 0, 1, 4 or 5, so they fit an octet.
 root-flags-small : (flags : ℕ) → not (isRootFlags flags) ≡ false → flags < 256 ^ 1
 unfolding isRootFlags
 root-flags-small flags e = by (ltb flags 6) refl

@@ -1,5 +1,5 @@
--- What unfolds for a call on given octets to compute: to unfold `computing` is to unfold all that its line names. With it a
--- statement about a worked example is `refl`.
+-- To unfold `computing` is to unfold all definitions that it names. A call on given octets then computes, and a statement about a
+-- worked example is proved by `refl`.
 use mathlib.Core.List.{flatMap}
 use Rattle.octets.specs.LittleEndian.{numberOctets, numberAt, overwrite, withNumber, fieldsAt, withFields, fieldOctets}
 use Rattle.counters.specs.Numbers.{stepped, wrapped, newer, older}

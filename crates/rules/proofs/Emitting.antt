@@ -1,5 +1,5 @@
--- The frames that calls emit, whatever is asked of them: it holds of all of them if it holds of each kind, and there are at most
--- so many.
+-- The frames that calls emit. A property Q holds for all frames of a call if it holds for each kind of frame. The laws also bound
+-- how many frames there are.
 use Prim.Native.Nat.{ℕ, _<_, _≤_}
 use mathlib.Core.Path.{_≡_, refl}
 use mathlib.Core.Bool.{true, not, _&&_, and-eq-true-iff}
@@ -34,17 +34,17 @@ use Rattle.rules.specs.Errors.{errorAt, errorsTaken, errorsFor}
 use Rattle.rules.proofs.Branches.{cond-cases}
 use Rattle.rules.proofs.Alls.{all-append, all-between}
 
--- all frames are as Q says, and there are at most n
+-- States that Q holds for all frames, and that there are at most n.
 pub record Emits (Q : Frame → Type 0) (n : ℕ) (frames : List Frame) : Type 0 where
   pub each : All Q frames
   pub few : length frames ≤ n
 
--- to whom an element goes on from a point with the table t, at clock c
+-- The receivers to which a point with the table t forwards an element at clock c: all ones, or an active next hop.
 pub data GoesTo (t : List ℕ) (c : ℕ) : Address → Type 0 where
   all : GoesTo t c allOnes
   next : (d to : Address) → activeNext c (rowFor t d) ≡ some to → GoesTo t c to
 
--- an intermediate reply is given only from a row of known number
+-- A point sends an intermediate reply only from a row of known number.
 answers-known : (c : ℕ) (q : Target) (r : Row) → answersFor c q r ≡ true → eqb (r .known) 1 ≡ true
 unfolding answersFor
 answers-known c q r h =
@@ -63,7 +63,7 @@ module _ (Q : Frame → Type 0) where
   pub to-all-emitted : (e : Element) → Q (record { receiver = allOnes; element = e }) → Emits Q 1 (toAll e)
   to-all-emitted e h = one-emitted _ h
 
-  -- ---- what goes on
+  -- ---- forwarding
 
   sent-emitted : (e : Element) (o : Option Address) → ((to : Address) → o ≡ some to → Q (record { receiver = to; element = e })) → Emits Q 1 (sentTo e o)
   sent-emitted e none h = none-emitted 1
@@ -98,7 +98,7 @@ module _ (Q : Frame → Type 0) where
         cond-cases (Emits Q 1) (same (f .source .address) (own u)) (λ _. none-emitted 1)
         (λ _. sent-emitted _ (activeNext (a .clock) (rowFor u (f .source .address))) (λ to is. h to (next (f .source .address) to is)))
 
-    -- ---- replies: for oneself, under a number that was stepped; and from a row of known number
+    -- ---- replies: of the point for itself, under a stepped number, and from a row of known number
 
     module _ (p : PathInfo) (oneself : (n : SequenceNumber) → Q (ownReply a p (own u) (nextNumber n)))
         (fromRow : (d : Address) (r : Row) → rowFor u d ≡ some r → eqb (r .known) 1 ≡ true → Q (rowReply a p r)) where
@@ -127,7 +127,7 @@ module _ (Q : Frame → Type 0) where
           (λ _. cond-cases (Replies 1) (same (q .address) allOnes) (λ _. all-ones-answered n q)
           (λ _. another-answered n q (rowFor u (q .address)) refl))
 
-      -- at most one for a destination
+      -- There is at most one reply for each destination.
       pub replies-emitted : (n : SequenceNumber) (targets : List Target) → Replies (length targets) (allAnswered u a p n targets)
       unfolding allAnswered
       replies-emitted n [] = none-emitted 0

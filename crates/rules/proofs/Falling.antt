@@ -1,4 +1,4 @@
--- A break and a received error: every row stays held, and the table stays one.
+-- A break and a received RERR: every row stays held, and the octets stay a table.
 use Prim.Native.Nat.{ℕ, _^_, _<_}
 use mathlib.Core.Path.{_≡_, refl, sym, ap, subst, _∙_}
 use mathlib.Core.Bool.{Bool, true, false, and-eq-true-iff}
@@ -26,7 +26,8 @@ use Rattle.rules.specs.Errors.{isLostBy, numberBeside, isMatch, erredWit
 use Rattle.rules.proofs.Branches.{cond-cases}
 use Rattle.rules.proofs.Tables.{Whole, Keeps}
 
--- r′ is the row r, or r invalidated, or r invalidated with its known number raised
+-- States that r′ is the row r, or r invalidated, or r invalidated with another number and metric 4,294,967,295 where its number
+-- is known.
 data Lost (r r′ : Row) : Type 0 where
   unchanged : r′ ≡ r → Lost r r′
   invalid : r′ ≡ invalidated r → Lost r r′
@@ -58,7 +59,7 @@ lost-held r r′ (unchanged e) h = ap (λ (q : Row). eqb (q .status) 0) e ∙ h
 lost-held r r′ (invalid e) h = ap (λ (q : Row). eqb (q .status) 0) e
 lost-held r r′ (higher n l k e) h = ap (λ (q : Row). eqb (q .status) 0) e
 
--- ---- a change of active rows that loses some of them
+-- ---- a change of active rows that invalidates some of them
 
 active-held : (c : ℕ) (r : Row) → active c r ≡ true → eqb (r .status) 0 ≡ false
 unfolding active
@@ -100,7 +101,7 @@ pub through-acts : (c : ℕ) (hop : Address) (r : Row) → isThrough c hop r ≡
 unfolding isThrough
 through-acts c hop r e = and-eq-true-iff (active c r) (same (r .next) hop) .0 e .0
 
--- a break of active rows, whichever
+-- A break of any set of active rows.
 module _ (test : Row → Bool) (c : ℕ) (acts : (r : Row) → test r ≡ true → active c r ≡ true) where
   pub break-keeps-rows : KeepsRows test broken
   break-keeps-rows = lost-keeps-rows test broken c acts (λ r _. broken-loses r)
@@ -108,7 +109,7 @@ module _ (test : Row → Bool) (c : ℕ) (acts : (r : Row) → test r ≡ true �
   pub break-keeps : (t : List ℕ) → Whole t → Keeps t (changeWhere test broken t)
   break-keeps = lost-keeps test broken c acts (λ r _. broken-loses r)
 
--- ---- a received error, whose entries fit their octets
+-- ---- a received RERR, whose entries fit their octets
 
 beside-fits : (d : Address) (named : List LostDestination) → All FitsLost named → (n : SequenceNumber) → numberBeside d named ≡ some n → n .0 < 256 ^ 4
 unfolding numberBeside All FitFields
@@ -125,7 +126,7 @@ module _ (c : ℕ) (transmitter : Address) (named : List LostDestination) (fit :
   erred-with-loses r k (some n) e =
       cond-cases (Lost r) (newer n (r .number)) (λ _. higher n (beside-fits (r .destination) named fit n e) k refl) (λ _. invalid refl)
 
-  -- the row of a match is active, and its number is known
+  -- The row of a match is active, and its number is known.
   match-is : (r : Row) → isMatch c transmitter named r ≡ true → (active c r ≡ true) × (eqb (r .known) 1 ≡ true)
   unfolding isMatch isLostBy
   match-is r e =

@@ -18,7 +18,7 @@ module _ (tables : List (List ℕ)) (c : ℕ) (d : Address) where
   on none hops most further here there = here
   on (some next) hops most further here there = there next
 
-  -- no more than those walked and those that remain
+  -- From any address the walk ends with at most the hops walked so far and the hops that remain.
   hops-in : (remaining : ℕ) (a : Address) (hops : ℕ) → follow tables c d remaining a hops .hops ≤ hops + remaining
   unfolding follow
   hops-in zero a hops = cond-cases (λ (w : Walked). w .hops ≤ hops + 0) (same a d) (λ _. omega arith) (λ _. omega arith)

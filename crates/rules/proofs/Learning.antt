@@ -1,4 +1,5 @@
--- Steps 1 and 2 of receiving a RREQ, RREP or RANN: what they make of the row of a destination, and that the table stays one.
+-- Steps 1 and 2 of receiving a RREQ, RREP or RANN. The laws say what becomes of the row of each destination, and that the octets
+-- stay a table.
 use Prim.Native.Nat.{ℕ, _+_, _-_, _^_, _<_, _≤_}
 use mathlib.Core.Path.{_≡_, refl, sym, ap, subst, _∙_}
 use mathlib.Core.Bool.{Bool, true, false, _&&_, _||_}
@@ -28,7 +29,7 @@ use Rattle.rules.specs.Receive.{isStale, rowsNeeded}
 use Rattle.rules.proofs.Branches.{cond-cases}
 use Rattle.rules.proofs.Tables.{Whole, Keeps}
 
--- the fields of a path fit their octets
+-- States that the fields of a path fit their octets.
 pub record PathFits (p : PathInfo) : Type 0 where
   pub flags : p .flags < 256 ^ 1
   pub hops : p .hops .0 < 256 ^ 1
@@ -38,7 +39,7 @@ pub record PathFits (p : PathInfo) : Type 0 where
   pub lifetime : p .lifetime < 256 ^ 4
   pub metric : p .metric .0 < 256 ^ 4
 
--- what the checks tell of a path that is accepted
+-- What the checks guarantee for the path of an accepted element.
 pub record Heard (t : List ℕ) (a : Arrival) (p : PathInfo) : Type 0 where
   pub whole : Whole t
   pub fits : PathFits p
@@ -54,6 +55,7 @@ pub record Heard (t : List ℕ) (a : Arrival) (p : PathInfo) : Type 0 where
 
 -- ---- the row that a step changes
 
+-- What holds for the row r of the destination d, held or new, before a step changes it.
 record Basis (d : Address) (r : Row) : Type 0 where
   destination : r .destination ≡ d
   zero : r .zero ≡ 0
@@ -98,7 +100,7 @@ expiry-small c lifetime r hc hl hr =
     cond-cases (λ x. x ≤ 2 ^ 48 + 2 ^ 32) (active c r && ltb (c + lifetime) (r .expiry)) (λ _. hr) (λ _. omega arith)
 
 module _ (t : List ℕ) (a : Arrival) (p : PathInfo) (h : Heard t a p) where
-  -- step 1
+  -- Step 1.
   module _ (r : Row) (b : Basis (p .subject) r) where
     subject-fits : FitRow (subjectRow a p r)
     unfolding subjectRow renewed numbered
@@ -130,7 +132,7 @@ module _ (t : List ℕ) (a : Arrival) (p : PathInfo) (h : Heard t a p) where
           numbered = refl;
         }
 
-  -- step 2
+  -- Step 2.
   module _ (r : Row) (b : Basis (a .transmitter) r) where
     transmitter-row-fits : FitRow (transmitterRow a (p .lifetime) r)
     unfolding transmitterRow renewed
@@ -168,7 +170,7 @@ module _ (t : List ℕ) (a : Arrival) (p : PathInfo) (h : Heard t a p) where
 
 -- ---- a row that is stored
 
--- u is t with the row r stored for d
+-- States that u is the table t with the row r stored for d.
 record Stored (t : List ℕ) (d : Address) (r : Row) (u : List ℕ) : Type 0 where
   keeps : Keeps t u
   here : rowFor u d ≡ some r
@@ -198,20 +200,20 @@ stored t w d r is held fit room =
 keeps-trans : {t u v : List ℕ} → Keeps t u → Keeps u v → Keeps t v
 keeps-trans k l = record { whole = l .whole; head = l .head ∙ k .head; length = l .length ∙ k .length }
 
--- ---- the row of a destination d before and after
+-- ---- the row of a destination d before (o) and after (o′)
 
--- step 2: the transmitter's row is made or changed, and no other
+-- Step 2: if d is the transmitter, its row may be made or changed. Otherwise the row of d stays as it is.
 pub data Renewal (d : Address) (a : Arrival) (lifetime : ℕ) (o o′ : Option Row) : Type 0 where
   renewal : a .transmitter ≡ d → takesLink a o ≡ true → o′ ≡ some (transmitterRow a lifetime (rowOrNew d o)) → Renewal d a lifetime o o′
   left : o′ ≡ o → Renewal d a lifetime o o′
 
--- steps 1 and 2
+-- Steps 1 and 2: step 1 makes or changes the subject's row, and only step 2 can make or change another row.
 pub data Learning (d : Address) (a : Arrival) (p : PathInfo) (o o′ : Option Row) : Type 0 where
   subject : p .subject ≡ d → o′ ≡ some (subjectRow a p (rowOrNew d o)) → Learning d a p o o′
   other : (p .subject ≡ d → ⊥) → Renewal d a (p .lifetime) o o′ → Learning d a p o o′
 
 module _ (t : List ℕ) (a : Arrival) (p : PathInfo) (h : Heard t a p) where
-  -- the table after step 1
+  -- The table after step 1.
   u : List ℕ
   u = subjectLearnt a p t
 
@@ -244,7 +246,7 @@ module _ (t : List ℕ) (a : Arrival) (p : PathInfo) (h : Heard t a p) where
         (subst (λ (x : Address). Held x (transmitterRow a (p .lifetime) r)) same-own (transmitter-held t a p h r b))
         (transmitter-row-fits t a p h r b) room-left
 
-    -- the table after both steps
+    -- The table after both steps.
     both-keep : Keeps t (transmitterLearnt a (p .lifetime) u)
     unfolding transmitterLearnt
     both-keep = cond-cases (Keeps t) (takesLink a (rowFor u (a .transmitter))) (λ _. keeps-trans (first .keeps) (second .keeps)) (λ _. first .keeps)
@@ -279,14 +281,14 @@ module _ (t : List ℕ) (a : Arrival) (p : PathInfo) (h : Heard t a p) where
       (λ n. other n (rw (← first .others d n) (renewal-at apart d)))
       (equal-or-not (p .subject) d)
 
-  -- what becomes of the row of each destination
+  -- What becomes of the row of each destination.
   pub learning : (d : Address) → Learning d a p (rowFor t d) (rowFor (learnt a p t) d)
   unfolding learnt u
   learning d =
       cond-cases (λ (v : List ℕ). Learning d a p (rowFor t d) (rowFor v d)) (same (a .transmitter) (p .subject)) (λ _. alone d)
       (λ apart. with-transmitter (not-same (a .transmitter) (p .subject) apart) d)
 
-  -- the table stays one
+  -- The octets stay a table.
   pub learnt-keeps : Keeps t (learnt a p t)
   unfolding learnt u
   learnt-keeps =

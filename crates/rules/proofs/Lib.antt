@@ -1,4 +1,4 @@
--- The laws of rulings, and theorems about all calls.
+-- Laws about rulings, and laws about all calls.
 pub mod Branches
 pub mod AsGood
 pub mod Rulings

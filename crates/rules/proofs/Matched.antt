@@ -1,6 +1,6 @@
--- 'Each match as in refusal 26': for a destination that a RERR names, the row that is changed is that of a match, and by the
--- number beside it. The rules say which destinations match (`matches`) and which rows are changed (`isMatch`, `erred`) in two
--- definitions; where no destination stands twice they agree.
+-- A received RERR changes the row of each match, by the number next to its destination. One definition says which destinations
+-- match (`matches`), and others say which rows are changed and how (`isMatch`, `erred`). If no destination stands twice, they
+-- agree.
 use mathlib.Core.Path.{_≡_, refl, sym, ap, _∙_}
 use mathlib.Core.Bool.{false, and-true}
 use mathlib.Core.List.{List, [], _∷_}
@@ -21,7 +21,7 @@ use Rattle.rules.specs.Errors.{isLostBy, matches, numberBeside, isMatch,
 use Rattle.rules.specs.Receive.{lostAddresses}
 use Rattle.rules.proofs.Alls.{all-implies}
 
--- an address that is not among those of a list is none of them
+-- If a list does not name an address, none of its entries has the address.
 apart : (d : Address) (named : List LostDestination) → contains (lostAddresses named) d ≡ false → All (λ (m : LostDestination). same (m .address) d ≡ false) named
 unfolding contains All
 apart d [] e = tt
@@ -29,7 +29,7 @@ apart d (m ∷ named) e =
     let other = neither (same (m .address) d) (contains (lostAddresses named) d) e in
     (other .0, apart d named (other .1))
 
--- the number beside a destination that is named once
+-- An entry m before the others does not change the number next to another destination.
 module _ (m : LostDestination) (named : List LostDestination) where
   beside-others : (l : List LostDestination) → All (λ (k : LostDestination). same (k .address) (m .address) ≡ false) l
       → All (λ (k : LostDestination). numberBeside (k .address) named ≡ some (k .number)) l
@@ -50,7 +50,7 @@ beside-each (m ∷ named) e =
     let rest = beside-each named (once .1) in
     (rw (eq-eqb (m .address .0) (m .address .0) refl), beside-others m named named (apart (m .address) named (once .0)) rest)
 
--- the row of a destination that is named, with the number beside it
+-- The row r of a destination that the RERR names.
 module _ (t : List ℕ) (c : ℕ) (transmitter : Address) (named : List LostDestination) (m : LostDestination) (b : numberBeside (m .address) named ≡ some (m .number))
     (r : Row) (f : rowFor t (m .address) ≡ some r) where
   beside : numberBeside (r .destination) named ≡ some (m .number)
@@ -64,7 +64,8 @@ module _ (t : List ℕ) (c : ℕ) (transmitter : Address) (named : List LostDest
   unfolding erred
   changed = ap (λ (o : Option SequenceNumber). erredWith o r) beside
 
--- each destination that is named is a match exactly if its row is changed, and its row is changed by the number beside it
+-- States that a destination which the RERR names is a match exactly if its row is changed, and that its row is changed by the
+-- number next to the destination.
 pub record AsMatched (t : List ℕ) (c : ℕ) (transmitter : Address) (named : List LostDestination) (m : LostDestination) : Type 0 where
   pub test : (r : Row) → rowFor t (m .address) ≡ some r → isMatch c transmitter named r ≡ matches t c transmitter m
   pub change : (r : Row) → rowFor t (m .address) ≡ some r → erred named r ≡ erredWith (some (m .number)) r

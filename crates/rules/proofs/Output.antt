@@ -18,11 +18,11 @@ use Rattle.rules.proofs.Sending.{FrameFits, FramesFit}
 
 -- ---- one frame
 
--- the octets of a frame
+-- Returns the octets of a frame.
 abbrev pub written : Frame → List ℕ
 written f = writeFrame (f .receiver) (f .element)
 
--- its Length octet tells how many there are
+-- The Length octet of a frame tells how many octets the frame has.
 pub length-told : (f : Frame) (rest : List ℕ) → 8 + getD (written f ++ rest) 7 0 ≡ length (written f)
 unfolding writeFrame writeElement fixedOctets numberOctets
 length-told f rest = sym (frame-length (f .receiver) (f .element))
@@ -60,7 +60,7 @@ unfolding All
 all-read [] fit = refl
 all-read (f ∷ frames) fit = ap₂ _∷_ (read-written f (fit .0)) (all-read frames (fit .1))
 
--- ---- in an output that has room for them
+-- ---- frames in an output that has room for them
 
 module _ (output : List ℕ) (frames : List Frame) (room : length (frameOctets frames) ≤ length output) where
   abbrev after : List ℕ

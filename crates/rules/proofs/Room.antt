@@ -44,12 +44,12 @@ use Rattle.rules.proofs.Sending.{FrameFits, FramesFit}
 use Rattle.rules.proofs.Accepted.{Accepted, accepted-element}
 use Rattle.rules.proofs.CallsKeep.{call-kept}
 
--- ---- octets of frames: a receiver, ID and Length, and as many as Length says
+-- ---- how many octets frames have: the receiver, ID and Length, and as many octets as Length says
 
 abbrev Long : ℕ → Frame → Type 0
 Long n f = lengthWith (kindOf (f .element)) (countOf (f .element)) ≤ n
 
--- an element that fits is at most 252 octets long, by its Length
+-- The Length of an element that fits is at most 252.
 fitting-small : (f : Frame) → FrameFits f → Long 252 f
 fitting-small f fit = by (kindOf (f .element)) (length-range (kindOf (f .element)) (countOf (f .element)) (fit .element .count) .1)
   where
@@ -76,7 +76,7 @@ fitting-frames : (frames : List Frame) → FramesFit frames → length (frameOct
 fitting-frames frames fit =
     frames-small 252 frames (all-implies FrameFits (Long 252) fitting-small frames fit)
 
--- ---- at most 128 entries in the errors of a break, so at most six errors
+-- ---- a break has at most 128 entries, so at most six RERRs
 
 pub entry-one : (test : Row → Bool) (r : Row) → length (brokenEntry test r) ≤ 1
 unfolding brokenEntry
@@ -96,7 +96,7 @@ entries-128 t size test =
 
 -- ---- every call
 
--- of frames of which only the count is asked
+-- The property that every frame has, for laws that only bound how many frames there are.
 abbrev Anything : Frame → Type 0
 Anything f = Unit {0}
 
@@ -104,7 +104,7 @@ module _ (l : Lent) (octets : Octets (l .table)) (room : ℕ) where
   abbrev t : List ℕ
   t = l .table
 
-  -- a few frames that fit
+  -- At most six frames that fit have at most 1,560 octets.
   few-frames : (n : ℕ) → n ≤ 6 → (frames : List Frame) → length frames ≤ n → FramesFit frames → length (frameOctets frames) ≤ 1560
   few-frames n l frames few fit = omega (arith, fitting-frames frames fit)
 
@@ -117,7 +117,7 @@ module _ (l : Lent) (octets : Octets (l .table)) (room : ℕ) where
       let u : List ℕ = learnt a (f .path) t in
       let done : Answered = allAnswered u a (f .path) (number t) targets in
       let onward : List Frame = rreqOnward u a f (done .kept) in
-      -- a reply has no dependents, and so Length 32
+      -- A reply has no dependents, so its Length is 32.
       let replies : Emits (Long 32) (length targets) (done .replies) =
       replies-emitted (Long 32) u a (f .path) (λ n. omega arith) (λ d r found known. omega arith) (number t) targets in
       let few = leb-true (length targets) 20 (and-eq-true-iff (leb 1 (length targets)) (leb (length targets) 20) .0 (ok .fits .count) .1) in
@@ -133,7 +133,7 @@ module _ (l : Lent) (octets : Octets (l .table)) (room : ℕ) where
         rreq-emitted Anything u a f (done .kept) (λ _ _ _. tt) .few,
       )
 
-  -- no more frames than the outcome of its ruling has
+  -- The frames of an accepted call have at most 1,560 octets if its effect e′ has at most n frames, with n at most 6.
   call-few : (n : ℕ) → n ≤ 6 → (call : Call) → OperandsFit call → (e e′ : Effect) → decision l room call ≡ accepted e → e′ ≡ e → length (e′ .frames) ≤ n
       → length (frameOctets (e .frames)) ≤ 1560
   call-few n six call fit e e′ is same-effect few =
@@ -172,7 +172,7 @@ call-output l room (makes (announces flags lifetime)) e is = long-enough room (a
 call-output l room (makes (requestsAsRoot flags lifetime)) e is = long-enough room (requestingAsRoot l room flags lifetime) e refl is
 call-output l room (makes (breaks c neighbour)) e is = long-enough room (breaking l room c neighbour) e refl is
 
--- the output that an accepted call was lent holds its frames
+-- The output that an accepted call was lent has room for its frames.
 pub output-room : (l : Lent) → Octets (l .table) → (output : List ℕ) (call : Call) → OperandsFit call → (e : Effect)
     → decision l (length output) call ≡ accepted e → length (frameOctets (e .frames)) ≤ length output
 output-room l octets output call fit e is =

@@ -1,4 +1,4 @@
--- What holds of a call that was accepted: no check applied.
+-- If a call is accepted, none of its checks applied.
 use mathlib.Core.Path.{_≡_, refl}
 use mathlib.Core.Bool.{Bool, true, false, cond}
 use mathlib.Core.List.{List, [], _∷_}
@@ -12,12 +12,12 @@ use Rattle.rules.specs.Originate.{itemChecks, asking}
 use Rattle.rules.specs.Break.{breaking}
 use Rattle.rules.proofs.Branches.{cond-cases}
 
--- What unfolds for the checks of a call to be a written list: to unfold `listed` is to unfold all that its line names.
+-- To unfold `listed` is to unfold all definitions that it names. The checks of a call are then a list that is written out.
 unfoldable pub listed : Unit {0}
 unfolding operandChecks stateChecks arrivalChecks octetChecks fieldChecks judging readingOctets itemChecks asking breaking
 listed = tt
 
--- no check applies
+-- States that no check applies.
 abbrev pub Passed : List Check → Type 0
 Passed [] = Unit {0}
 Passed (k ∷ checks) = (k .applies ≡ false) × Passed checks
@@ -31,11 +31,11 @@ judged-accepted (k ∷ checks) a u e = by (k .applies) refl e (judged-accepted c
     by true q e rest = clash cc
     by false q e rest = ((q, rest e .0), rest e .1)
 
--- an accepted call passed all checks, and came to its outcome
+-- An accepted call passed all checks of its ruling, and does what the ruling says.
 pub passed : {A : Type 0} (r : Ruling A) (u : A) → decide r ≡ accepted u → Passed (r .checks) × (r .otherwise ≡ u)
 passed r u e = judged-accepted (r .checks) (r .otherwise) u e
 
--- the test of the check with this number: for a numeral and a written list it computes
+-- Returns the test of the check with this number. It computes for a numeral and a list that is written out.
 abbrev pub testOf : ℕ → List Check → Bool
 testOf n [] = false
 testOf n (k ∷ checks) = cond (eqb (k .number) n) (k .applies) (testOf n checks)

@@ -1,4 +1,4 @@
--- Every frame that a call emits fits its octets, and its element has as many entries as it may have.
+-- Every frame that a call emits fits its octets, and its element has an allowed number of entries.
 use Prim.Native.Nat.{ℕ, _-_, _*_, _^_, _<_, _≤_}
 use mathlib.Core.Path.{_≡_, refl, subst}
 use mathlib.Core.Bool.{Bool}
@@ -48,7 +48,7 @@ use Rattle.rules.proofs.Learning.{PathFits}
 use Rattle.rules.proofs.Falling.{next-fits}
 use Rattle.rules.proofs.Emitting.{GoesTo, all, next, rann-emitted, rreq-emitted, rrep-emitted, replies-emitted, errors-emitted}
 
--- frames that octets can hold
+-- States that the receiver and the element of a frame fit their octets.
 pub record FrameFits (f : Frame) : Type 0 where
   pub receiver : f .receiver .0 < 256 ^ 6
   pub element : Fits (f .element)
@@ -56,7 +56,7 @@ pub record FrameFits (f : Frame) : Type 0 where
 abbrev pub FramesFit : List Frame → Type 0
 FramesFit frames = All FrameFits frames
 
--- all ones fits six octets
+-- A frame to all ones fits if its element fits, because all ones fits six octets.
 pub to-all-fits : (e : Element) → Fits e → FrameFits (record { receiver = allOnes; element = e })
 to-all-fits e fits = record { receiver = omega arith; element = fits }
 
@@ -97,9 +97,9 @@ unfolding FitFields
 rerr-fits g entries f fit one few =
     record { fields = (f, tt); entries = fit; count = rw (le-leb 1 (length entries) one, le-leb (length entries) 25 few) }
 
--- ---- what goes on
+-- ---- forwarding
 
--- a next hop in a row fits too
+-- A receiver to which a point forwards an element fits six octets.
 goes-to-fits : (t : List ℕ) → Octets t → (c : ℕ) (to : Address) → GoesTo t c to → to .0 < 256 ^ 6
 unfolding activeNext
 goes-to-fits t o c _ all = omega arith
@@ -153,7 +153,7 @@ module _ (a : Arrival) (f : RrepFields) (fits : PathFits (f .path)) (hops : f .p
 
 -- ---- the replies
 
--- the table t is that after steps 1 and 2
+-- Below, t is the table as steps 1 and 2 left it.
 module _ (t : List ℕ) (w : Whole t) (a : Arrival) (transmitter-fits : a .transmitter .0 < 256 ^ 6) (p : PathInfo) (f : PathFits p) where
   reply-fits : (d : Address) (n : SequenceNumber) (hops : HopCount) (metric : Metric) → d .0 < 256 ^ 6 → n .0 < 256 ^ 4 → hops .0 < 256 ^ 1
       → metric .0 < 256 ^ 4 → FrameFits (reply a p d n hops metric)
@@ -186,7 +186,7 @@ with-do-fits q f = let k = f .0 in (omega arith, f .1)
 
 module _ (t : List ℕ) (a : Arrival) (p : PathInfo) where
   module _ (n : SequenceNumber) (n-fits : n .0 < 256 ^ 4) (q : Target) (q-fits : FitsTarget q) where
-    -- kept unchanged, under a number that fits
+    -- The destination is kept unchanged, and the own number k fits.
     kept-fits : (k : SequenceNumber) (replies : List Frame) → k .0 < 256 ^ 4 → AnsweredFits 1 (record { number = k; replies = replies; kept = q ∷ [] })
     kept-fits k replies fits = record { number = fits; kept = all-one FitsTarget q q-fits; fewer = omega arith }
 

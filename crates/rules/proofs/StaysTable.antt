@@ -1,4 +1,4 @@
--- A fresh table, and a table after a destination is forgotten, pass refusal 21. (`CallsKeep` has the other calls.)
+-- Fresh and forget leave octets that are a table (refusal 21). `CallsKeep` has the other calls.
 use Prim.Native.Nat.{ℕ, _^_, _<_}
 use mathlib.Core.Path.{_≡_, refl}
 use mathlib.Core.Bool.{true}
@@ -20,7 +20,7 @@ use Rattle.rules.specs.Fresh.{makingFresh, makeFresh}
 use Rattle.rules.specs.Forget.{forgetting, forget}
 use Rattle.rules.proofs.Rulings.{passed, passed-check}
 
--- (an address has six octets and a number four: what C can hand over)
+-- The address has six octets and the number four, as the types of C guarantee.
 pub fresh-stays : (t u : List ℕ) (own : Address) (number : SequenceNumber) → own .0 < 256 ^ 6 → number .0 < 256 ^ 4
     → makeFresh t own number ≡ accepted u → Octets u × (isTable u ≡ true) × (length u ≡ length t)
 unfolding makeFresh

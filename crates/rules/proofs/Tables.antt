@@ -20,7 +20,7 @@ use Rattle.layout.proofs.HeadAndRows.{FitHead, head-fits, head-same, head-octet
 use Rattle.table.proofs.Heads.{head-legal}
 use Rattle.table.proofs.WellFormed.{Legal, legal-of}
 
--- octets that are a table, as a call finds them once checks 1 and 21 are passed
+-- States that octets are a table, as a call knows once refusals 1 and 21 are passed.
 pub record Whole (t : List ℕ) : Type 0 where
   pub octets : Octets t
   pub long : headOctets ≤ length t
@@ -34,13 +34,13 @@ whole t o size table =
       legal = legal-of t (not-false (isTable t) table);
     }
 
--- u is a table of the same length and of the same point as t
+-- States that u is a table with the head and the length of t.
 pub record Keeps (t u : List ℕ) : Type 0 where
   pub whole : Whole u
   pub head : headAt u ≡ headAt t
   pub length : length u ≡ length t
 
--- what a call leaves: the same, but the counters and the clock may differ
+-- States that u is a table with the own address and the length of t. Own number, request ID and latest clock may differ.
 pub record Leaves (t u : List ℕ) : Type 0 where
   pub whole : Whole u
   pub own : own u ≡ own t
@@ -58,7 +58,7 @@ module _ (t : List ℕ) (w : Whole t) where
   pub request-fits : requestId t .0 < 256 ^ 4
   request-fits = head-fits t (w .octets) .request
 
-  -- latest clock is at most 2^48 - 1
+  -- The latest clock is at most 2^48 - 1.
   pub clock-small : clock t ≤ 2 ^ 48 - 1
   unfolding headOk
   clock-small =
@@ -67,7 +67,7 @@ module _ (t : List ℕ) (w : Whole t) where
       let zeros = and-eq-true-iff (eqb (h .zero2) 0 && leb (h .clock) (2 ^ 48 - 1)) (eqb (h .zero8) 0) .0 (all .1) in
       leb-true (h .clock) (2 ^ 48 - 1) (and-eq-true-iff (eqb (h .zero2) 0) (leb (h .clock) (2 ^ 48 - 1)) .0 (zeros .0) .1)
 
--- ---- the head that a call puts
+-- ---- the head that a call writes
 
 module _ (t u : List ℕ) (w : Whole t) (k : Keeps t u) (n : SequenceNumber) (i : RequestId) (c : ℕ)
     (n-fits : n .0 < 256 ^ 4) (i-fits : i .0 < 256 ^ 4) (c-small : c ≤ 2 ^ 48 - 1) where

@@ -1,4 +1,4 @@
--- Report a broken neighbour.
+-- The call that reports a broken neighbour. PROTOCOL, 'Errors and breaks'.
 use Prim.Native.Nat.{ℕ}
 use mathlib.Core.Bool.{Bool}
 use mathlib.Core.List.{List}
@@ -11,7 +11,7 @@ use Rattle.rules.specs.Exit.{Lent, withTable, Effect, underHead}
 use Rattle.layout.specs.Row.{isThrough}
 use Rattle.rules.specs.Errors.{broken, brokenEntries, errorsFor}
 
--- the rows that pass the test break, the clock is stored, and those rows are announced
+-- The effect of a break: the rows that pass `test` break, the point announces them in RERRs, and the clock is stored.
 unfoldable pub brokenOff : Lent → ℕ → (Row → Bool) → Effect
 brokenOff l c test =
     let t : List ℕ = l .table in
@@ -26,7 +26,7 @@ breaking l room c neighbour = do
   operandChecks (l .table) room c neighbour
   -- 21 to 23
   stateChecks (l .table) c neighbour
-  -- every active row through that neighbour
+  -- Every active row whose next hop is the neighbour breaks.
   accept (brokenOff l c (isThrough c neighbour))
 
 unfoldable pub breakNeighbour : Lent → ℕ → ℕ → Address → Decision Effect

@@ -1,4 +1,5 @@
--- The calls that may write a table and an output, in one definition.
+-- The five calls that may write a table and an output, in one definition: receive, ask, announce, root request and break.
+-- PROTOCOL, 'Receiving', 'Originating' and 'Errors and breaks'.
 use Prim.Native.Nat.{ℕ, _^_, _<_}
 use mathlib.Core.List.{List}
 use Rattle.octets.specs.LittleEndian.{Octets}
@@ -10,19 +11,19 @@ use Rattle.rules.specs.Receive.{receive}
 use Rattle.rules.specs.Originate.{ask, announce, rootRequest}
 use Rattle.rules.specs.Break.{breakNeighbour}
 
--- a call that a point makes of itself, with its operands but for the table and the output
+-- A call other than receive, with all its operands except the table and the output.
 pub data OwnCall : Type 0 where
   asks : (lifetime : ℕ) → (items : List ℕ) → OwnCall
   announces : (flags lifetime : ℕ) → OwnCall
   requestsAsRoot : (flags lifetime : ℕ) → OwnCall
   breaks : (clock : ℕ) → (neighbour : Address) → OwnCall
 
--- any call: it receives an element, or makes one of its own
+-- Any of the five calls: receive with its operands, or a call other than receive.
 pub data Call : Type 0 where
   receives : Arrival → (element : List ℕ) → Call
   makes : OwnCall → Call
 
--- what the call comes to, of what it is lent and an output of `room` octets
+-- Returns the decision of a call, from what it is lent and an output of `room` octets.
 unfoldable pub decision : Lent → ℕ → Call → Decision Effect
 decision l room (receives a s) = receive l room a s
 decision l room (makes (asks lifetime items)) = ask l room lifetime items
@@ -30,8 +31,8 @@ decision l room (makes (announces flags lifetime)) = announce l room flags lifet
 decision l room (makes (requestsAsRoot flags lifetime)) = rootRequest l room flags lifetime
 decision l room (makes (breaks c neighbour)) = breakNeighbour l room c neighbour
 
--- What C's types say of the operands, as far as it is needed: an octet is below 256, an address has six octets and a
--- lifetime 32 bits.
+-- States what the types of C guarantee for the operands, as far as proofs need it. An octet is below 256, an address has six
+-- octets and a lifetime has 32 bits.
 abbrev pub OwnOperandsFit : OwnCall → Type 0
 OwnOperandsFit (asks lifetime items) = (lifetime < 256 ^ 4) × Octets items
 OwnOperandsFit (announces flags lifetime) = lifetime < 256 ^ 4

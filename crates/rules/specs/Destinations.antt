@@ -1,4 +1,5 @@
--- 'RREQ then takes its destinations in order': replies, and which destinations are kept.
+-- PROTOCOL, 'Receiving', 'Replies': the point takes the destinations of a RREQ in order. Each destination may bring a reply, and
+-- is kept or struck out.
 use Prim.Native.Nat.{ℕ}
 use mathlib.Core.Bool.{Bool, not, _&&_, cond}
 use mathlib.Core.List.{List, [], _∷_, _++_}
@@ -22,13 +23,14 @@ use Rattle.element.specs.Flags.{replyWanted, hasDO, hasRF, withDO}
 use Rattle.rules.specs.Exit.{Frame, initialTtl}
 use Rattle.rules.specs.declared.Arrival.{Arrival}
 
--- what destinations come to: the own number, the replies, and the destinations that are kept
+-- The result for some destinations: the own number afterwards, the replies, and the destinations that are kept.
 pub record Answered : Type 0 where
   pub number : SequenceNumber
   pub replies : List Frame
   pub kept : List Target
 
--- A reply goes to the transmitter: flags 0, TTL 31, lifetime, source and source number from the request, no dependents.
+-- The fixed fields of a reply: flags 0 and TTL 31, the lifetime of the RREQ, and as source and source number the originator of
+-- the RREQ and its number.
 abbrev pub replyFields : PathInfo → Address → SequenceNumber → HopCount → Metric → RrepFields
 replyFields p destination number hops metric =
     record {
@@ -44,54 +46,56 @@ replyFields p destination number hops metric =
       source = record { address = p .subject; number = p .number };
     }
 
+-- Every reply is a RREP to the transmitter, without dependents.
 unfoldable pub reply : Arrival → PathInfo → Address → SequenceNumber → HopCount → Metric → Frame
 reply a p destination number hops metric =
     record { receiver = a .transmitter; element = rrep (replyFields p destination number hops metric) [] }
 
--- for oneself: own address and number, hop count 0, metric 0
+-- The reply of a point for itself: own address and number, hop count 0, metric 0.
 abbrev pub ownReply : Arrival → PathInfo → Address → SequenceNumber → Frame
 ownReply a p self number = reply a p self number (record { 0 = 0 }) (record { 0 = 0 })
 
--- intermediate: the row's destination, number, hop count and metric
+-- An intermediate reply: the row's destination, number, hop count and metric.
 abbrev pub rowReply : Arrival → PathInfo → Row → Frame
 rowReply a p r = reply a p (r .destination) (r .number) (r .hops) (r .metric)
 
--- the requested number if that is newer, else the own one
+-- Returns the requested number if it is newer than the own number, otherwise the own number.
 abbrev pub newerOf : SequenceNumber → SequenceNumber → SequenceNumber
 newerOf self requested = cond (newer requested self) requested self
 
--- first the own number becomes the requested one if that is newer, then it steps up by one
+-- The point sets its own number to the requested number if that is newer, and then steps its own number.
 unfoldable pub answeredNumber : SequenceNumber → SequenceNumber → SequenceNumber
 answeredNumber self requested = nextNumber (newerOf self requested)
 
--- DO = 0 and an active row of known number not older than requested
+-- Reports whether the point sends an intermediate reply from a row: DO = 0, and the row is active, of known number, and not older
+-- than the requested number.
 unfoldable pub answersFor : ℕ → Target → Row → Bool
 answersFor c q r = not (hasDO q) && active c r && eqb (r .known) 1 && not (older (r .number) (q .number))
 
--- kept unchanged, with no reply
+-- The point does nothing, and the destination is kept unchanged.
 abbrev pub keptOn : SequenceNumber → Target → Answered
 keptOn n q = record { number = n; replies = []; kept = q ∷ [] }
 
--- after an intermediate reply: kept with DO set to 1 if RF = 1, else struck out
+-- After an intermediate reply the destination is kept with DO set if RF = 1, and struck out if RF = 0.
 abbrev pub keptAfterReply : Target → List Target
 keptAfterReply q = cond (hasRF q) (withDO q ∷ []) []
 
--- The table t is that after steps 1 and 2, and n the own number so far.
+-- Below, t is the table as steps 1 and 2 left it, and n is the own number so far.
 module _ (t : List ℕ) (a : Arrival) (p : PathInfo) where
-  -- the own address: reply, and strike it out
+  -- The own address: the point replies for itself under `answeredNumber`, and strikes the destination out.
   unfoldable pub forOneself : SequenceNumber → Target → Answered
   forOneself n q =
       let next : SequenceNumber = answeredNumber n (q .number) in
       record { number = next; replies = ownReply a p (own t) next ∷ []; kept = [] }
 
-  -- all ones: if reply wanted, own number plus one and a reply; kept
+  -- All ones: if the RREQ has 'reply wanted', the point steps its own number and replies for itself. The destination is kept.
   unfoldable pub forAllOnes : SequenceNumber → Target → Answered
   forAllOnes n q =
       cond (replyWanted p)
       (record { number = nextNumber n; replies = ownReply a p (own t) (nextNumber n) ∷ []; kept = q ∷ [] })
       (keptOn n q)
 
-  -- another: an intermediate reply, or kept unchanged
+  -- Another destination: the point sends an intermediate reply if `answersFor` holds, otherwise it does nothing.
   unfoldable pub forAnother : SequenceNumber → Target → Option Row → Answered
   forAnother n q none = keptOn n q
   forAnother n q (some r) =
@@ -104,7 +108,7 @@ module _ (t : List ℕ) (a : Arrival) (p : PathInfo) where
       cond (same (q .address) (own t)) (forOneself n q)
       (cond (same (q .address) allOnes) (forAllOnes n q) (forAnother n q (rowFor t (q .address))))
 
-  -- the destinations in order
+  -- Takes the destinations in order.
   unfoldable pub allAnswered : SequenceNumber → List Target → Answered
   allAnswered n [] = record { number = n; replies = []; kept = [] }
   allAnswered n (q ∷ qs) =

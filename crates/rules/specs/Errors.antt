@@ -1,4 +1,4 @@
--- 'Errors and breaks': which rows are lost, what becomes of them, and the errors that name them.
+-- PROTOCOL, 'Errors and breaks': which rows the point invalidates, what becomes of them, and the RERRs that name them.
 use Prim.Native.Nat.{ℕ, _+_, _-_, _*_, _/_}
 use mathlib.Core.Bool.{Bool, _&&_, cond}
 use mathlib.Core.List.{List, [], _∷_, flatMap}
@@ -25,60 +25,62 @@ use Rattle.rules.specs.Exit.{Frame}
 
 -- ---- a received RERR
 
--- an active row of known number whose next hop is the transmitter
+-- Reports whether a row is active at clock c, of known number, and has the transmitter as its next hop.
 unfoldable pub isLostBy : ℕ → Address → Row → Bool
 isLostBy c transmitter r = isThrough c transmitter r && eqb (r .known) 1
 
--- a match as in refusal 26: a destination that the RERR names, with such a row
+-- A match is a destination of the RERR whose row is active, of known number, and has the transmitter as its next hop.
 unfoldable pub matches : List ℕ → ℕ → Address → LostDestination → Bool
 matches t c transmitter m = isSomeAnd (isLostBy c transmitter) (rowFor t (m .address))
 
--- the number beside a destination that is named
+-- Returns the number next to the destination d in the list of a RERR, or none if the list does not name d.
 unfoldable pub numberBeside : Address → List LostDestination → Option SequenceNumber
 numberBeside d [] = none
 numberBeside d (m ∷ named) = cond (same (m .address) d) (some (m .number)) (numberBeside d named)
 
--- the row of a match: such a row, whose destination the RERR names
+-- Reports whether a row is the row of a match: `isLostBy` holds for it, and the RERR names its destination.
 unfoldable pub isMatch : ℕ → Address → List LostDestination → Row → Bool
 isMatch c transmitter named r = isLostBy c transmitter r && isSome (numberBeside (r .destination) named)
 
--- a match is invalidated; if the received number is newer, the row takes it and metric 4,294,967,295
+-- The row of a match is invalidated. If the number in the RERR is newer than the row's number, the row takes the newer number and
+-- metric 4,294,967,295.
 unfoldable pub erredWith : Option SequenceNumber → Row → Row
 erredWith none r = r
 erredWith (some n) r = cond (newer n (r .number)) (raised n (invalidated r)) (invalidated r)
 
--- what a RERR with these destinations makes of the row of a match
+-- Returns the row of a match after a RERR that names these destinations.
 unfoldable pub erred : List LostDestination → Row → Row
 erred named r = erredWith (numberBeside (r .destination) named) r
 
 -- ---- a broken neighbour
 
--- a row that breaks is invalidated; if its number is known, it is stepped by one and metric becomes 4,294,967,295
+-- A row that breaks is invalidated. If its number is known, the number steps and the metric becomes 4,294,967,295.
 unfoldable pub broken : Row → Row
 broken r = cond (eqb (r .known) 1) (raised (nextNumber (r .number)) (invalidated r)) (invalidated r)
 
--- The rows that break are those that pass a test: for a neighbour, every active row through it.
+-- The rows that break are the rows that pass `test`. For a broken neighbour, `test` holds for every active row whose next hop is
+-- the neighbour.
 module _ (test : Row → Bool) where
-  -- the entry of a row in an error, with the number that the break leaves
+  -- Returns the entry for a row in a RERR, with the number that the row has after the break. A row that fails the test has none.
   unfoldable pub brokenEntry : Row → List LostDestination
   brokenEntry r = cond (test r) (record { address = r .destination; number = broken r .number } ∷ []) []
 
-  -- the entries of all rows that break, in table order
+  -- Returns the entries for all rows that break, in the order of the table.
   unfoldable pub brokenEntries : List ℕ → List LostDestination
   brokenEntries t = flatMap brokenEntry (each (rowAt t) 0 (rows t))
 
--- flags 0
+-- The RERRs of a break have flags 0.
 abbrev pub ownError : RerrFields
 ownError = record { flags = 0 }
 
--- 25 to a RERR: the RERR number i has those from 25 i on
+-- Returns RERR i of a break, to all ones. It has the entries from number 25 * i on, at most 25.
 unfoldable pub errorAt : List LostDestination → ℕ → Frame
 errorAt entries i = record { receiver = allOnes; element = rerr ownError (take (most Rerr) (drop (most Rerr * i) entries)) }
 
--- how many RERRs so many destinations take
+-- Returns how many RERRs n destinations take.
 abbrev pub errorsTaken : ℕ → ℕ
 errorsTaken n = (n + (most Rerr - 1)) / most Rerr
 
--- to all ones; none, no frame
+-- Returns all RERRs of a break. Without entries there is no frame.
 unfoldable pub errorsFor : List LostDestination → List Frame
 errorsFor entries = each (errorAt entries) 0 (errorsTaken (length entries))

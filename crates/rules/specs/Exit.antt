@@ -1,4 +1,5 @@
--- Calls that may emit frames: what an accepted one leaves, and what stands at exit.
+-- Effects and exits: what an accepted call leaves and emits, and what the caller finds when any call has ended.
+-- PROTOCOL, 'Frames and answers'.
 use Prim.Native.Nat.{ℕ, zero, suc, _+_}
 use mathlib.Core.List.{List, [], _∷_, flatMap}
 use lib.ListN.{length, getD, take, drop}
@@ -13,47 +14,48 @@ use Rattle.element.specs.Element.{Element}
 use Rattle.element.specs.Octets.{readElement, writeFrame}
 use Rattle.rules.specs.Decision.{Decision, refused, accepted}
 
--- octets of an output that holds the frames of any call
+-- The fewest octets that an output may have (refusal 2). They hold the frames of any call.
 abbrev pub leastOutput : ℕ
 leastOutput = 1560
 
--- the TTL of an element that a point sends of itself, or replies with
+-- The TTL of an element that a point originates or replies with.
 abbrev pub initialTtl : ℕ
 initialTtl = 31
 
--- a frame is a receiver address and an element
+-- A frame is a receiver address and an element.
 pub record Frame : Type 0 where
   pub receiver : Address
   pub element : Element
 
--- what a point lends to its calls and these may write, beside the output: its table
+-- What a point lends to a call for writing, apart from the output: its table.
 pub record Lent : Type 0 where
   pub table : List ℕ
 
--- a table, lent alone
+-- Lends the table t alone.
 abbrev pub lend : List ℕ → Lent
 lend t = record { table = t }
 
--- with this table, the rest as it was
+-- Replaces the lent table by t and leaves the rest of l unchanged.
 abbrev pub withTable : List ℕ → Lent → Lent
 withTable t l = record { table = t }
 
--- what an accepted call leaves in what it was lent, and the frames that it emits
+-- The effect of an accepted call: what it leaves in the lent table, and the frames that it emits.
 pub record Effect : Type 0 where
   pub lent : Lent
   pub frames : List Frame
 
--- the frames as octets, without gaps
+-- Returns the octets of the frames, one frame after another without gaps.
 unfoldable pub frameOctets : List Frame → List ℕ
 frameOctets frames = flatMap (λ (f : Frame). writeFrame (f .receiver) (f .element)) frames
 
--- the rows of u under the head of t, with this own number and latest clock
+-- Returns the rows of u under the head of t, in which n is the own number and c the latest clock.
 abbrev pub underHead : List ℕ → SequenceNumber → ℕ → List ℕ → List ℕ
 underHead t n c u = putHead u (headWith n (requestId t) c (headAt t))
 
 -- ---- at exit
 
--- the answer, the numbers of frames and of octets written, and what stands in what was lent and in the output
+-- The exit of a call: its answer, how many frames and octets it has written, and what then stands in the lent table and in the
+-- output.
 pub record Exit : Type 0 where
   pub answer : ℕ
   pub frames : ℕ
@@ -61,8 +63,8 @@ pub record Exit : Type 0 where
   pub lent : Lent
   pub output : List ℕ
 
--- An acceptance answers 0 and writes its frames from the start of the output; output beyond is unchanged.
--- A refusal returns its number and else zeros, and nothing lent changes.
+-- An acceptance answers 0, reports frames and octets written, and writes its frames from the start of the output. Output beyond
+-- the frames is unchanged. A refusal returns its number and otherwise zeros, and nothing lent changes.
 unfoldable pub atExit : Lent → List ℕ → Decision Effect → Exit
 atExit l output (refused n) = record { answer = n; frames = 0; octets = 0; lent = l; output = output }
 atExit l output (accepted e) =
@@ -76,30 +78,31 @@ atExit l output (accepted e) =
 
 -- ---- frames read from octets
 
--- the first n frames in s, each as its octets: receiver 6, ID 1, Length 1, and as many octets as Length says
+-- Returns the first n frames in s, each as its octets: receiver 6, ID 1, Length 1, and as many octets as Length says.
 unfoldable pub framesIn : ℕ → List ℕ → List (List ℕ)
 framesIn zero s = []
 framesIn (suc n) s = take (8 + getD s 7 0) s ∷ framesIn n (drop (8 + getD s 7 0) s)
 
--- the frames in the output at exit, as many as the call reports
+-- Returns the frames in the output at exit, as many as the call reports.
 abbrev pub framesAt : Exit → List (List ℕ)
 framesAt x = framesIn (x .frames) (x .output)
 
--- the octets of a frame without its receiver, and the frame that the octets are
+-- Returns the octets of a frame without its receiver.
 abbrev pub elementIn : List ℕ → List ℕ
 elementIn s = drop 6 s
 
+-- Reads the octets of a frame as a value.
 abbrev pub readFrame : List ℕ → Frame
 readFrame s = record { receiver = addressOf s; element = readElement (elementIn s) }
 
 -- ---- calls that write no frame
 
--- of a call that writes no frame: the answer, and what stands in the table
+-- The exit of a call that writes no frame: its answer, and what then stands in the table.
 pub record TableExit : Type 0 where
   pub answer : ℕ
   pub table : List ℕ
 
--- an acceptance answers 0; a refusal answers its number and leaves the table t as it was
+-- An acceptance answers 0. A refusal answers its number and leaves the table t unchanged.
 abbrev pub tableAtExit : List ℕ → Decision (List ℕ) → TableExit
 tableAtExit t (refused n) = record { answer = n; table = t }
 tableAtExit t (accepted u) = record { answer = 0; table = u }

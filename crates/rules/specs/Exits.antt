@@ -1,6 +1,6 @@
--- What stands when each call has ended: its answer as document 01 numbers it, the values beside it, and every buffer that it was
--- lent. The contract of a call says that the call ends with its exit here, whatever it was given. (A next hop is lent nothing
--- that it may write: its contract is about the decision itself.)
+-- The exit of each call: the answer as a number, the values returned with the answer, and every lent buffer when the call has
+-- ended. PROTOCOL, 'Frames and answers'. The contract of a call says that the call ends with the exit defined here, whatever
+-- its operands are. Next hop has no exit here, because it is lent nothing that it may write. Its contract is about its decision.
 use Prim.Native.Nat.{ℕ}
 use mathlib.Core.List.{List}
 use lib.ListN.{length}
@@ -15,7 +15,7 @@ use Rattle.rules.specs.Originate.{announce, ask, rootRequest}
 use Rattle.rules.specs.Break.{breakNeighbour}
 use Rattle.rules.specs.Walk.{Walked, walk, walkedAtExit}
 
--- ---- of the table t
+-- ---- calls on the table t alone
 
 abbrev pub freshExit : (t : List ℕ) → (own : Address) → SequenceNumber → TableExit
 freshExit t own number = tableAtExit t (makeFresh t own number)
@@ -23,7 +23,7 @@ freshExit t own number = tableAtExit t (makeFresh t own number)
 abbrev pub forgetExit : (t : List ℕ) → (destination : Address) → TableExit
 forgetExit t destination = tableAtExit t (forget t destination)
 
--- ---- of what is lent and the output
+-- ---- calls with an output
 
 abbrev pub receiveExit : Lent → (output : List ℕ) → Arrival → (element : List ℕ) → Exit
 receiveExit l output a element = atExit l output (receive l (length output) a element)
@@ -40,7 +40,7 @@ rootRequestExit l output flags lifetime = atExit l output (rootRequest l (length
 abbrev pub breakExit : Lent → (output : List ℕ) → (clock : ℕ) → (neighbour : Address) → Exit
 breakExit l output clock neighbour = atExit l output (breakNeighbour l (length output) clock neighbour)
 
--- ---- of tables side by side
+-- ---- the walk over tables side by side
 
 abbrev pub walkExit : (tables : List ℕ) → (count clock : ℕ) → (start destination : Address) → Walked
 walkExit tables count clock start destination = walkedAtExit (walk tables count clock start destination)

@@ -1,4 +1,4 @@
--- Forget a destination.
+-- The call that forgets a destination. PROTOCOL, 'Fresh, next hop, forget'.
 use Prim.Native.Nat.{ℕ}
 use mathlib.Core.Bool.{not}
 use mathlib.Core.List.{List}
@@ -9,7 +9,7 @@ use Rattle.table.specs.Table.{isTable, rowFor, freed}
 use Rattle.rules.specs.Decision.{Decision, Ruling, decide, refuse_when_, accept, _>>_}
 use Rattle.rules.specs.Lists.{isSome}
 
--- forgetting frees a row for use
+-- Forget frees the held row for the destination.
 abbrev pub forgetting : List ℕ → Address → Ruling (List ℕ)
 forgetting t destination = do
   refuse 1 when not (sized t)

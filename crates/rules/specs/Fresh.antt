@@ -1,4 +1,4 @@
--- Make a fresh table.
+-- The call that makes a fresh table. PROTOCOL, 'Fresh, next hop, forget'.
 use Prim.Native.Nat.{ℕ}
 use mathlib.Core.Bool.{not}
 use mathlib.Core.List.{List}
@@ -10,7 +10,7 @@ use Rattle.layout.specs.Layout.{sized}
 use Rattle.table.specs.Table.{fresh}
 use Rattle.rules.specs.Decision.{Decision, Ruling, decide, refuse_when_, accept, _>>_}
 
--- of the octets t, with this own address and number: what stood there plays no part
+-- Overwrites the octets t with a fresh table that has this own address and own number, whatever the octets were.
 abbrev pub makingFresh : List ℕ → Address → SequenceNumber → Ruling (List ℕ)
 makingFresh t own number = do
   refuse 1 when not (sized t)

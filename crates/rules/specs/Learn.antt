@@ -1,5 +1,5 @@
--- 'Receiving RREQ, RREP, RANN', steps 1 and 2: what a point learns of the subject (the originator; in a RREP the destination)
--- and of the transmitter.
+-- PROTOCOL, 'Receiving', 'Learning': steps 1 and 2. From a RREQ, RREP or RANN a point learns a path to the subject and a path to
+-- the transmitter. The subject is the originator (for a RREP: the destination).
 use Prim.Native.Nat.{ℕ, _+_, _-_, _^_, _<_, _≤_}
 use mathlib.Core.Bool.{Bool, true, _&&_, _||_, cond}
 use mathlib.Core.List.{List}
@@ -15,27 +15,28 @@ use Rattle.table.specs.Table.{rowFor, store}
 use Rattle.element.specs.declared.PathInfo.{PathInfo}
 use Rattle.rules.specs.declared.Arrival.{Arrival}
 
--- received metric + link metric, and received hop count + 1
+-- The metric of the path from this point: received metric + link metric.
 abbrev pub metricHere : Arrival → PathInfo → Metric
 metricHere a p = record { 0 = p .metric .0 + a .link .0 }
 
+-- The hop count of the path from this point: received hop count + 1.
 abbrev pub hopsHere : PathInfo → HopCount
 hopsHere p = record { 0 = p .hops .0 + 1 }
 
--- the largest metric of a path that is taken
+-- The largest metric of a path that a point learns. Refusal 13 refuses a larger metric.
 abbrev pub maxMetric : ℕ
 maxMetric = 2 ^ 32 - 2
 
--- the largest hop count that a row can have; an element that has it already is refused (12)
+-- The largest hop count that a row can have. Refusal 12 refuses an element that already has it.
 abbrev pub maxHops : ℕ
 maxHops = 255
 
--- what functions know of a path that refusals 12 and 13 let through: it can be a link longer
+-- States that a path can be one link longer. It holds once refusals 12 and 13 are passed, and functions require it.
 pub record Extends (a : Arrival) (p : PathInfo) : Type 0 where
   pub metric : metricHere a p .0 ≤ maxMetric
   pub hops : p .hops .0 < maxHops
 
--- a row that is to be made, with number unknown
+-- The row that step 1 or 2 fills in when the destination has no row. Its number is unknown.
 abbrev pub newRow : Address → Row
 newRow d =
     record {
@@ -50,45 +51,49 @@ newRow d =
       expiry = 0;
     }
 
--- the row that a step changes: that of the destination, or a new one
+-- Returns the row that a step changes: the row of the destination, or a new row if the destination has none.
 abbrev pub rowOrNew : Address → Option Row → Row
 rowOrNew d (some r) = r
 rowOrNew d none = newRow d
 
--- expiry is clock + lifetime, or the stored one if the row was active and that is larger
+-- Expiry is clock + lifetime, or the stored expiry if the row was active and the stored expiry is larger.
 unfoldable pub expiryOf : ℕ → ℕ → Row → ℕ
 expiryOf c lifetime r = cond (active c r && ltb (c + lifetime) (r .expiry)) (r .expiry) (c + lifetime)
 
--- 1. The row becomes valid with the received number, next hop the transmitter, metric received + link, hop count received + 1.
+-- Step 1. The subject's row becomes valid with the received number, next hop the transmitter, metric received + link, hop count
+-- received + 1. Its expiry is `expiryOf`.
 unfoldable pub subjectRow : Arrival → PathInfo → Row → Row
 subjectRow a p r =
     numbered (p .number) (renewed (a .transmitter) (metricHere a p) (hopsHere p) (expiryOf (a .clock) (p .lifetime) r) r)
 
--- 2. A made or changed row is valid with next hop the transmitter, metric link, hop count 1, expiry as in 1; an existing number
--- stays.
+-- Step 2. A row that is made or changed becomes valid with next hop the transmitter, metric link, hop count 1, expiry as in
+-- step 1. A number that it has stays.
 unfoldable pub transmitterRow : Arrival → ℕ → Row → Row
 transmitterRow a lifetime r = renewed (a .transmitter) (a .link) (record { 0 = 1 }) (expiryOf (a .clock) lifetime r) r
 
--- Absent, it is made; inactive, it is renewed if its number is unknown or link metric is at most its metric;
--- active, it is changed if link metric is below its metric; otherwise untouched.
+-- Step 2 for a row that is held for the transmitter. An active row is changed if the link metric is below its metric. A row that
+-- is not active is changed if its number is unknown, or the link metric is at most its metric. Otherwise the row stays as it is.
 abbrev pub rowTakesLink : Arrival → Row → Bool
 rowTakesLink a r =
     cond (active (a .clock) r) (ltb (a .link .0) (r .metric .0)) (eqb (r .known) 0 || leb (a .link .0) (r .metric .0))
 
+-- Reports whether step 2 makes or changes the transmitter's row. An absent row is always made.
 unfoldable pub takesLink : Arrival → Option Row → Bool
 takesLink a none = true
 takesLink a (some r) = rowTakesLink a r
 
+-- Returns the table t after step 1.
 unfoldable pub subjectLearnt : Arrival → PathInfo → List ℕ → List ℕ
 subjectLearnt a p t = store t (subjectRow a p (rowOrNew (p .subject) (rowFor t (p .subject))))
 
+-- Returns the table t after step 2.
 unfoldable pub transmitterLearnt : Arrival → ℕ → List ℕ → List ℕ
 transmitterLearnt a lifetime t =
     cond (takesLink a (rowFor t (a .transmitter)))
     (store t (transmitterRow a lifetime (rowOrNew (a .transmitter) (rowFor t (a .transmitter))))) t
 
--- The table after both; step 2 is for a transmitter that is a different address. A new row takes the free row of lowest place
--- (`store`), the originator's before the transmitter's.
+-- Returns the table t after both steps. Step 2 applies only if the transmitter is not the subject. A new row takes the free row
+-- of lowest place (`store`), the subject's row before the transmitter's.
 unfoldable pub learnt : Arrival → PathInfo → List ℕ → List ℕ
 learnt a p t =
     cond (same (a .transmitter) (p .subject)) (subjectLearnt a p t) (transmitterLearnt a (p .lifetime) (subjectLearnt a p t))

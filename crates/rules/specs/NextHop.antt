@@ -1,4 +1,4 @@
--- Find a next hop.
+-- The call that finds a next hop. PROTOCOL, 'Fresh, next hop, forget'.
 use Prim.Native.Nat.{ℕ}
 use mathlib.Core.Bool.{not}
 use mathlib.Core.List.{List}
@@ -19,7 +19,7 @@ findingNextHop t c destination =
       refuse 9 when not (individual destination)
       refuse 21 when not (isTable t)
       refuse 22 when c below clock t
-      -- 28. no active row
+      -- 28. There is no active row for the destination.
       refuse 28 when not (isSome next)
       accept (Option·getD next (record { 0 = 0 }))
 

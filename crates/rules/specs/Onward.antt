@@ -1,4 +1,4 @@
--- What goes on, and to whom.
+-- PROTOCOL, 'Receiving', 'Forwarding': which elements the point forwards, and to whom.
 use Prim.Native.Nat.{ℕ, _-_}
 use mathlib.Core.Bool.{cond}
 use mathlib.Core.List.{List, [], _∷_}
@@ -20,7 +20,7 @@ use Rattle.rules.specs.Exit.{Frame}
 use Rattle.rules.specs.declared.Arrival.{Arrival}
 use Rattle.rules.specs.Learn.{metricHere, hopsHere}
 
--- the three changes: hop count + 1, TTL - 1, metric + link
+-- The three changes of a forwarded element: hop count + 1, TTL - 1, metric + link metric. Everything else stays as received.
 unfoldable pub onward : Arrival → PathInfo → PathInfo
 onward a p =
     record {
@@ -33,7 +33,7 @@ onward a p =
       metric = metricHere a p;
     }
 
--- Returns the frame with this element to a receiver, or no frame if there is none.
+-- Returns the frame that sends the element to the receiver, or no frame if there is no receiver.
 abbrev pub sentTo : Element → Option Address → List Frame
 sentTo e none = []
 sentTo e (some to) = record { receiver = to; element = e } ∷ []
@@ -41,29 +41,31 @@ sentTo e (some to) = record { receiver = to; element = e } ∷ []
 abbrev pub toAll : Element → List Frame
 toAll e = sentTo e (some allOnes)
 
--- to the active next hop of a row, and not at all if there is none
+-- Returns the frame to the next hop of the row if the row is there and active, otherwise no frame.
 abbrev pub towards : ℕ → Element → Option Row → List Frame
 towards c e row = sentTo e (activeNext c row)
 
--- if TTL is at least 2
+-- Returns the frames if the received TTL is at least 2, otherwise no frame.
 abbrev pub ifTtlLeft : PathInfo → List Frame → List Frame
 ifTtlLeft p frames = cond (ltb (p .ttl) 2) [] frames
 
--- RANN goes on to all ones
+-- The point forwards a RANN to all ones if its TTL is at least 2.
 unfoldable pub rannOnward : Arrival → PathInfo → List Frame
 rannOnward a p = ifTtlLeft p (toAll (rann (onward a p)))
 
--- The table t is that after steps 1 and 2.
+-- Below, t is the table as steps 1 and 2 left it.
 module _ (t : List ℕ) (a : Arrival) where
-  -- RREQ goes on with the kept destinations, if there are any: to all ones, or if unicast towards its destination (it has but
-  -- one, by refusal 10)
+  -- The point forwards a RREQ with the kept destinations if its TTL is at least 2 and a destination is kept. A RREQ that is not
+  -- unicast goes to all ones. A unicast RREQ goes to the next hop of the active row for its destination, if there is an active
+  -- row. By refusal 10 a unicast RREQ has one destination.
   unfoldable pub rreqOnward : RreqFields → List Target → List Frame
   rreqOnward f [] = []
   rreqOnward f (q ∷ qs) =
       let e : Element = rreq (record { request = f .request; path = onward a (f .path) }) (q ∷ qs) in
       ifTtlLeft (f .path) (cond (unicast (f .path)) (towards (a .clock) e (rowFor t (q .address))) (toAll e))
 
-  -- RREP goes on towards its source, unless that is this point
+  -- The point forwards a RREP to the next hop of the active row for its source, if the source is not this point and there is an
+  -- active row. By refusal 14 its TTL is at least 2.
   unfoldable pub rrepOnward : RrepFields → List NumberedAddress → List Frame
   rrepOnward f dependents =
       cond (same (f .source .address) (own t)) []

@@ -1,11 +1,11 @@
--- 'Originating': ask, announce and root request. Each takes the next own number; hop count 0, TTL 31, metric 0, to all ones.
--- What is defined here:
---   numberedHead, ownPath                         the counters advanced, and what a point says of itself
---   announced, requested                          what an accepted announcement or request does
---   itemChecks, askedFor, asking, ask             an ask: its items' checks, a destination of it, its ruling and decision
---   originating                                   the checks of the other two
---   announcing, announce                          an announcement: its ruling and decision
---   requestingAsRoot, rootRequest                 a root request: its ruling and decision
+-- PROTOCOL, 'Originating': ask, announce and root request. Each sends one new element to all ones, with the next own number, hop
+-- count 0, metric 0 and TTL 31. What is defined here:
+--   numberedHead, ownPath                         the head with advanced counters, and the path of an element about the point
+--   announced, requested                          the effect of an accepted announcement or request
+--   itemChecks, askedFor, asking, ask             ask: the checks of its items, one destination, the ruling and the decision
+--   originating                                   the ruling that announce and root request share
+--   announcing, announce                          announce: the ruling and the decision
+--   requestingAsRoot, rootRequest                 root request: the ruling and the decision
 use Prim.Native.Nat.{ℕ, _%_}
 use mathlib.Core.Bool.{Bool, true, false, not, _&&_, _||_, cond}
 use mathlib.Core.List.{List, [], _∷_, map}
@@ -34,15 +34,15 @@ use Rattle.rules.specs.Lists.{any}
 use Rattle.rules.specs.Exit.{Lent, withTable, Effect, initialTtl}
 use Rattle.rules.specs.Onward.{toAll}
 
--- ---- what all three have in common
+-- ---- what all three calls share
 
--- numbering a new element, a RREQ or not, advances the counters of the point
+-- A point that numbers a new element steps its own number. If the element is a RREQ, the request ID steps too.
 unfoldable pub numberedHead : (isRreq : Bool) → Head → Head
 numberedHead isRreq h =
     let c : OwnCounters = advancedFor isRreq (record { number = h .number; request = h .request }) in
     headWith (c .number) (c .request) (h .clock) h
 
--- what the point with this head says of itself
+-- Returns the path of an element that the point with the head h originates: hop count and metric are 0, and TTL is 31.
 unfoldable pub ownPath : Head → ℕ → ℕ → PathInfo
 ownPath h flags lifetime =
     record {
@@ -55,7 +55,7 @@ ownPath h flags lifetime =
       metric = record { 0 = 0 };
     }
 
--- an announcement
+-- The effect of an accepted announcement.
 unfoldable pub announced : Lent → ℕ → ℕ → Effect
 announced l flags lifetime =
     let h : Head = numberedHead false (headAt (l .table)) in
@@ -64,7 +64,7 @@ announced l flags lifetime =
 abbrev pub ownRequest : Head → ℕ → ℕ → RreqFields
 ownRequest h flags lifetime = record { request = h .request; path = ownPath h flags lifetime }
 
--- a request for these destinations
+-- The effect of an accepted request for these destinations.
 unfoldable pub requested : Lent → ℕ → ℕ → List Target → Effect
 requested l flags lifetime targets =
     let h : Head = numberedHead true (headAt (l .table)) in
@@ -72,23 +72,24 @@ requested l flags lifetime targets =
 
 -- ---- ask
 
--- what 8 asks of an ask: 7 octets an item, 1 to 20 items, so 7 to 140 octets
+-- Reports whether an ask passes refusal 8: 1 to 20 items of 7 octets each, so 7 to 140 octets.
 unfoldable pub itemsFit : List ℕ → Bool
 itemsFit items = eqb (length items % 7) 0 && leb 7 (length items) && leb (length items) 140
 
--- in an ask, flags above 3
+-- 10. An item's flags are above 3.
 abbrev pub hasHighFlags : Item → Bool
 hasHighFlags i = i .flags above 3
 
--- a destination's number is the row's known one, else 0
+-- A destination's number is that of the held row if its number is known, otherwise 0.
 unfoldable pub knownNumber : Option Row → SequenceNumber
 knownNumber none = record { 0 = 0 }
 knownNumber (some r) = cond (eqb (r .known) 1) (r .number) (record { 0 = 0 })
 
+-- Returns the destination of the RREQ for an item: flags and address as the item says, and the known number.
 unfoldable pub askedFor : List ℕ → Item → Target
 askedFor t i = record { flags = i .flags; address = i .address; number = knownNumber (rowFor t (i .address)) }
 
--- of the items alone
+-- Refusals 8 to 10, for the items of an ask.
 unfoldable pub itemChecks : List ℕ → List Check
 itemChecks items =
     refuse 8 when not (itemsFit items)
@@ -111,7 +112,7 @@ ask l room lifetime items = decide (asking l room lifetime items)
 
 -- ---- announce and root request
 
--- what both are refused for
+-- The ruling that announce and root request share. `barred` says that the flags are not allowed.
 abbrev pub originating : {A : Type 0} → List ℕ → ℕ → (barred : Bool) → (lifetime : ℕ) → A → Ruling A
 originating t room barred lifetime a = do
   -- 1 and 2
@@ -121,22 +122,22 @@ originating t room barred lifetime a = do
   refuse 21 when not (isTable t)
   accept a
 
--- for an announcement, flags other than 0 or 1
+-- 10. For announce, the flags are not 0 or 1.
 abbrev pub announcing : Lent → ℕ → ℕ → ℕ → Ruling Effect
 announcing l room flags lifetime = originating (l .table) room (flags above 1) lifetime (announced l flags lifetime)
 
 unfoldable pub announce : Lent → ℕ → ℕ → ℕ → Decision Effect
 announce l room flags lifetime = decide (announcing l room flags lifetime)
 
--- the flags of a root request are 0, 1, 4 or 5
+-- Reports whether a root request may have the flags: 0, 1, 4 or 5.
 unfoldable pub isRootFlags : ℕ → Bool
 isRootFlags flags = eqb flags 0 || eqb flags 1 || eqb flags 4 || eqb flags 5
 
--- all ones as its one destination with DO and RF set and number 0
+-- The one destination of a root request: all ones, with DO and RF set and number 0.
 abbrev pub allWithDOAndRF : Target
 allWithDOAndRF = record { flags = 3; address = allOnes; number = record { 0 = 0 } }
 
--- for a root request, flags other than these
+-- 10. For root request, the flags are not 0, 1, 4 or 5.
 abbrev pub requestingAsRoot : Lent → ℕ → ℕ → ℕ → Ruling Effect
 requestingAsRoot l room flags lifetime =
     originating (l .table) room (not (isRootFlags flags)) lifetime (requested l flags lifetime (allWithDOAndRF ∷ []))

@@ -1,10 +1,10 @@
--- Receive an element. What is defined here:
+-- The call that receives an element. PROTOCOL, 'Refusals', 'Receiving' and 'Errors and breaks'. What is defined here:
 --   arrivalChecks, octetChecks, fieldChecks, rowChecks   refusals 1 to 5, 6 to 8, 9 to 14, 24 to 27 (21 to 23 are `stateChecks`)
---   hasBadAddress, hasBadList, isLowTtlReply             what 9, 10 and 14 ask of each type
---   isStale, matchesNothing, rowsNeeded                  what 25, 26 and 27 ask
---   rannReceived, rreqReceived, rrepReceived,            what an accepted element of each type does;
---   rerrReceived, received                               of any type
---   judging, readingOctets, receiving                    the rulings of an element, of octets and of the whole call
+--   hasBadAddress, hasBadList, isLowTtlReply             refusals 9, 10 and 14 for each type
+--   isStale, matchesNothing, rowsNeeded                  what refusals 25, 26 and 27 judge
+--   rannReceived, rreqReceived, rrepReceived,            the effect of an accepted element of each type,
+--   rerrReceived, received                               and of any type
+--   judging, readingOctets, receiving                    the rulings for an element, for its octets and for the whole call
 --   receive                                              the decision
 use Prim.Native.Nat.{ℕ, _+_}
 use mathlib.Core.Bool.{Bool, false, not, _&&_, _||_, cond}
@@ -39,25 +39,25 @@ use Rattle.rules.specs.Destinations.{Answered, allAnswered}
 use Rattle.rules.specs.Onward.{rannOnward, rreqOnward, rrepOnward, toAll}
 use Rattle.rules.specs.Errors.{matches, isMatch, erred}
 
--- ---- what a RANN, a RREQ and a RREP have in common
+-- ---- the fields that a RANN, a RREQ and a RREP share
 
--- a RERR lacks these fields, and the checks of them are skipped
+-- A RERR has no path, so the checks of a path are skipped for it.
 abbrev pub pathOf : Element → Option PathInfo
 pathOf (rann p) = some p
 pathOf (rreq f targets) = some (f .path)
 pathOf (rrep f dependents) = some (f .path)
 pathOf (rerr f destinations) = none
 
--- ---- turned away by the input
+-- ---- refusals by the input
 
--- of how an element came in, with an output of `room` octets
+-- Refusals 1 to 5, for an element that arrived as `a` says, and an output of `room` octets.
 unfoldable pub arrivalChecks : List ℕ → ℕ → Arrival → List Check
 arrivalChecks t room a =
     -- 1 to 4
     operandChecks t room (a .clock) (a .transmitter)
     then refuse 5 when eqb (a .link .0) 0
 
--- of the octets as an element
+-- Refusals 6 to 8, for the octets of an element.
 unfoldable pub octetChecks : List ℕ → List Check
 octetChecks octets =
     refuse 6 when wrongLength octets
@@ -70,19 +70,20 @@ targetAddresses targets = map (λ (q : Target). q .address) targets
 abbrev pub lostAddresses : List LostDestination → List Address
 lostAddresses l = map (λ (m : LostDestination). m .address) l
 
--- 9. an originator, source or destination isn't individual; as a RREQ destination all ones is allowed too
+-- 9. A received originator, source or destination is not individual, except that a RREQ's destination may be all ones. Dependents
+-- are not judged.
 unfoldable pub hasBadAddress : Element → Bool
 hasBadAddress (rann p) = not (individual (p .subject))
 hasBadAddress (rreq f targets) = not (individual (f .path .subject)) || anyForbidden Targets (targetAddresses targets)
 hasBadAddress (rrep f dependents) = not (individual (f .path .subject)) || not (individual (f .source .address))
 hasBadAddress (rerr f destinations) = anyForbidden LostDestinations (lostAddresses destinations)
 
--- several destinations or all ones
+-- Reports whether there are several destinations, or all ones.
 unfoldable pub severalOrAll : List Address → Bool
 severalOrAll addresses = ltb 1 (length addresses) || contains addresses allOnes
 
--- 10. a destination twice; all ones beside others; a received originator among its destinations; a unicast RREQ with several
--- destinations or all ones; RREP destination equal to source
+-- 10. A RREQ or a RERR names a destination twice; a RREQ names all ones and anything else; a RREQ names its own originator as a
+-- destination; a unicast RREQ names several destinations, or all ones; the destination of a RREP equals its source.
 unfoldable pub hasBadList : Element → Bool
 hasBadList (rann p) = false
 hasBadList (rreq f targets) =
@@ -92,14 +93,16 @@ hasBadList (rreq f targets) =
 hasBadList (rrep f dependents) = same (f .path .subject) (f .source .address)
 hasBadList (rerr f destinations) = hasDuplicate (lostAddresses destinations)
 
--- 14. RREP with TTL 0 or 1
+-- 14. A received RREP has TTL 0 or 1.
 unfoldable pub isLowTtlReply : Element → Bool
 isLowTtlReply (rann p) = false
 isLowTtlReply (rreq f targets) = false
 isLowTtlReply (rrep f dependents) = ltb (f .path .ttl) 2
 isLowTtlReply (rerr f destinations) = false
 
--- of an element's own fields: 9, 10 and 14 as its type decides them, the others by its path
+-- Refusals 9 to 14, for the fields of an element. `badAddress`, `badList` and `lowTtl` are 9, 10 and 14, which depend on the
+-- type. Refusals 11, 12 and 13 judge the path: lifetime 0, hop count 255, and received metric + link metric above
+-- 4,294,967,294.
 unfoldable pub fieldChecks : (badAddress badList lowTtl : Bool) → Arrival → Option PathInfo → List Check
 fieldChecks badAddress badList lowTtl a path =
     refuse 9 when badAddress
@@ -109,31 +112,34 @@ fieldChecks badAddress badList lowTtl a path =
     then refuse 13 when isSomeAnd (λ p. metricHere a p .0 above maxMetric) path
     then refuse 14 when lowTtl
 
--- ---- turned away by the state
+-- ---- refusals by the state
 
--- a known number, and the received one is older, or equal with received metric + link metric not smaller than the row's
+-- Refusal 25 for one row. The row's number is known, and the received number is older, or it is equal and the received metric
+-- plus the link metric is not smaller than the row's metric.
 unfoldable pub isStaleFor : Arrival → PathInfo → Row → Bool
 isStaleFor a p r =
     eqb (r .known) 1
     && (older (p .number) (r .number) || (eqb (p .number .0) (r .number .0) && leb (r .metric .0) (metricHere a p .0)))
 
--- 25. such is the row of that originator (for RREP: destination), active or not
+-- 25. The subject has a held row, active or not, for which `isStaleFor` holds.
 unfoldable pub isStale : List ℕ → Arrival → PathInfo → Bool
 isStale t a p = isSomeAnd (isStaleFor a p) (rowFor t (p .subject))
 
--- 26. a RERR names no destination with an active row of known number whose next hop is the transmitter
+-- 26. A RERR has no match: it names no destination with an active row of known number whose next hop is the transmitter.
 unfoldable pub matchesNothing : List ℕ → Arrival → Element → Bool
 matchesNothing t a (rann p) = false
 matchesNothing t a (rreq f targets) = false
 matchesNothing t a (rrep f dependents) = false
 matchesNothing t a (rerr f destinations) = not (any (matches t (a .clock) (a .transmitter)) destinations)
 
--- 27. new rows needed: the originator's (for RREP: destination's), and the transmitter's if that is a different address
+-- 27. Returns how many new rows the call needs. It needs a row for the subject if no row is held for it, and a row for the
+-- transmitter if the transmitter is not the subject and no row is held for it.
 unfoldable pub rowsNeeded : List ℕ → Arrival → PathInfo → ℕ
 rowsNeeded t a p =
     newRows (rowFor t (p .subject)) + cond (same (a .transmitter) (p .subject)) 0 (newRows (rowFor t (a .transmitter)))
 
--- of the rows: 26 as the element's type decides it, the others by its path
+-- Refusals 24 to 27, for the rows of the table. `unmatched` is 26, which only a RERR can meet. Refusals 24, 25 and 27 judge the
+-- path.
 abbrev pub rowChecks : List ℕ → Arrival → (unmatched : Bool) → Option PathInfo → List Check
 rowChecks t a unmatched path =
     refuse 24 when isSomeAnd (λ p. same (p .subject) (own t)) path
@@ -141,23 +147,24 @@ rowChecks t a unmatched path =
     then refuse 26 when unmatched
     then refuse 27 when isSomeAnd (λ p. rowsNeeded t a p above freeRows t) path
 
--- ---- what an accepted element does: the clock is stored, whatever the type
+-- ---- the effect of an accepted element: for every type, the clock is stored
 
 module _ (l : Lent) (a : Arrival) where
-  -- RANN, RREP: steps 1 and 2, and it goes on
+  -- RANN: the point does steps 1 and 2, and then forwards the RANN as 'Forwarding' says.
   unfoldable pub rannReceived : PathInfo → Effect
   rannReceived p =
       let t : List ℕ = l .table in
       let u : List ℕ = learnt a p t in
       record { lent = withTable (underHead t (number t) (a .clock) u) l; frames = rannOnward a p }
 
+  -- RREP: the point does steps 1 and 2, and then forwards the RREP as 'Forwarding' says.
   unfoldable pub rrepReceived : RrepFields → List NumberedAddress → Effect
   rrepReceived f dependents =
       let t : List ℕ = l .table in
       let u : List ℕ = learnt a (f .path) t in
       record { lent = withTable (underHead t (number t) (a .clock) u) l; frames = rrepOnward u a f dependents }
 
-  -- RREQ: steps 1 and 2, the replies, and after them it goes on with the destinations that are kept
+  -- RREQ: the point does steps 1 and 2 and replies, and then forwards the RREQ with the kept destinations as 'Forwarding' says.
   unfoldable pub rreqReceived : RreqFields → List Target → Effect
   rreqReceived f targets =
       let t : List ℕ = l .table in
@@ -168,7 +175,8 @@ module _ (l : Lent) (a : Arrival) where
         frames = done .replies ++ rreqOnward u a f (done .kept);
       }
 
-  -- RERR: each match is invalidated; one RERR goes to all ones with the matches and flags as received, in that order
+  -- RERR: the point invalidates the row of each match. It sends one RERR to all ones with the flags as received and the matches
+  -- in their order, each with the number as received.
   unfoldable pub rerrReceived : RerrFields → List LostDestination → Effect
   rerrReceived f destinations =
       let t : List ℕ = l .table in
@@ -186,7 +194,7 @@ module _ (l : Lent) (a : Arrival) where
 
 -- ---- the call
 
--- an element e that was read; a is how it came in
+-- The ruling for an element e that arrived as `a` says, after refusals 1 to 8.
 unfoldable pub judging : Lent → Arrival → Element → Ruling Effect
 judging l a e = do
   -- 9 to 14
@@ -197,14 +205,14 @@ judging l a e = do
   rowChecks (l .table) a (matchesNothing (l .table) a e) (pathOf e)
   accept (received l a e)
 
--- the octets of an element, after how it came in
+-- The ruling for the octets of an element, after refusals 1 to 5.
 unfoldable pub readingOctets : Lent → Arrival → List ℕ → Ruling Effect
 readingOctets l a octets = do
   -- 6 to 8
   octetChecks octets
   judging l a (readElement octets)
 
--- the octets of an element and how it came in, with an output of `room` octets
+-- The ruling for the whole call: what is lent, an output of `room` octets, how the element arrived, and its octets.
 abbrev pub receiving : Lent → ℕ → Arrival → List ℕ → Ruling Effect
 receiving l room a octets = do
   -- 1 to 5

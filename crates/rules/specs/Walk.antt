@@ -1,10 +1,10 @@
--- The walk of document 01 over tables side by side, along rows that are active at a clock. (The walk of demand 3 goes along
--- valid rows, expired or not: `met` in crate `theorems`.) What is defined here:
---   sideBySide, tablesIn, points     octets as 1 to 16 tables of one length, these, and the addresses of their points
---   Walked                           an answer, 0, 41 or 42, with the hops walked: arrived, stopped, tooLong
---   leadsTo, follow                  where a row leads, and the way from an address on
+-- PROTOCOL, 'Walk': the walk over tables side by side, along rows that are active at a clock. The walk of demand 3 is `met` in
+-- crate `theorems`, which follows valid rows, expired or not. What is defined here:
+--   sideBySide, tablesIn, points     whether octets are 1 to 16 tables of one length, the tables, and the addresses of the points
+--   Walked                           an answer with the hops walked: arrived (0), stopped (41) or tooLong (42)
+--   leadsTo, follow                  where a next hop leads, and the walk from an address on
 --   tableChecks, walking, walk       the checks of the tables, the ruling and the decision
---   walkedAtExit                     the numbers that are returned
+--   walkedAtExit                     the numbers that the call returns
 use Prim.Native.Nat.{ℕ, zero, suc, _+_, _*_, _/_, _%_}
 use mathlib.Core.Bool.{Bool, not, _&&_, _||_, cond}
 use mathlib.Core.List.{List, [], _∷_, map}
@@ -37,30 +37,33 @@ use Rattle.rules.specs.Lists.{any}
 
 -- ---- 1 to 16 tables of one length, side by side
 
--- the length of each, and table i
+-- Returns the length of each table.
 abbrev pub lengthOfEach : List ℕ → ℕ → ℕ
 lengthOfEach octets count = length octets / count
 
+-- Returns table i.
 unfoldable pub tableAt : List ℕ → ℕ → ℕ → List ℕ
 tableAt octets long i = take long (drop (long * i) octets)
 
 abbrev pub tablesIn : List ℕ → ℕ → List (List ℕ)
 tablesIn octets count = each (tableAt octets (lengthOfEach octets count)) 0 count
 
--- what 1 asks: count 1 to 16, and the octets are that many pieces of one length that a table may have
+-- Reports whether the octets pass refusal 1: the count is 1 to 16, and the octets are as many pieces as the count says, all of
+-- one length that a table may have.
 unfoldable pub sideBySide : List ℕ → ℕ → Bool
 sideBySide octets count =
     leb 1 count && leb count 16 && eqb (length octets % count) 0 && sized (tableAt octets (lengthOfEach octets count) 0)
 
--- The own address is in the first six octets, table or not: 10 is judged before 21.
+-- Returns the addresses of the points, from the first six octets of each table. Refusal 10 judges the addresses before refusal
+-- 21 judges the tables.
 abbrev pub points : List (List ℕ) → List Address
 points tables = map addressOf tables
 
--- a table whose latest clock is above c
+-- Reports whether the clock c is below the latest clock of the table t.
 unfoldable pub hasLaterClock : ℕ → List ℕ → Bool
 hasLaterClock c t = c below clock t
 
--- ---- the way
+-- ---- the walk from point to point
 
 pub record Walked : Type 0 where
   pub answer : ℕ
@@ -75,38 +78,39 @@ stopped hops = record { answer = 41; hops = hops }
 abbrev pub tooLong : ℕ → Walked
 tooLong hops = record { answer = 42; hops = hops }
 
--- the row that the point with this address has for the destination, where it is a point
+-- Returns the row that the point with this address holds for the destination. Returns none if the address is no point's, or the
+-- point has no row.
 unfoldable pub rowOfPoint : List (List ℕ) → Address → Address → Option Row
 rowOfPoint [] address destination = none
 rowOfPoint (t ∷ tables) address destination =
     cond (same (addressOf t) address) (rowFor t destination) (rowOfPoint tables address destination)
 
 module _ (tables : List (List ℕ)) (c : ℕ) (destination : Address) where
-  -- Returns the next hop of an active row, if that is the destination or a point.
+  -- Returns the next hop of an active row if it is the destination or a point, otherwise none.
   unfoldable pub leadsTo : Option Address → Option Address
   leadsTo none = none
   leadsTo (some next) = cond (same next destination || contains (points tables) next) (some next) none
 
-  -- nowhere to go on to: 41, and nothing more is counted
+  -- Walks on from the next hop and counts it. Without a next hop the walk stops with 41, and counts no further hop.
   abbrev pub goOn : Option Address → (hops : ℕ) → (Address → ℕ → Walked) → Walked
   goOn none hops further = stopped hops
   goOn (some next) hops further = further next (hops + 1)
 
-  -- from an address, with so many hops walked and so many remaining before there are as many as points
+  -- Walks on from the address `at` after `hops` hops. After `remaining` more hops the walk has as many hops as there are points.
   unfoldable pub follow : (remaining : ℕ) → Address → (hops : ℕ) → Walked
   follow zero at hops = cond (same at destination) (arrived hops) (tooLong hops)
   follow (suc remaining) at hops =
       cond (same at destination) (arrived hops)
       (goOn (leadsTo (activeNext c (rowOfPoint tables at destination))) hops (follow remaining))
 
--- a refusal returns its number and else zeros, hops too
+-- A refusal returns its number and 0 hops.
 abbrev pub walkedAtExit : Decision Walked → Walked
 walkedAtExit (refused n) = record { answer = n; hops = 0 }
 walkedAtExit (accepted w) = w
 
 -- ---- the call
 
--- of the tables, at the clock c
+-- Refusals 21 and 22, for all tables at the clock c.
 abbrev pub tableChecks : List (List ℕ) → ℕ → List Check
 tableChecks tables c =
     refuse 21 when any (λ (t : List ℕ). not (isTable t)) tables

@@ -1,9 +1,9 @@
-// What each call of a mesh point does, as definitions: see specs/. There is no code here, only the operands of receive that
-// belong together.
+// Definitions of what each call of a mesh point does: see specs/. The only code is the struct `Arrival`, which groups operands
+// of receive.
 use counters::Metric;
 use layout::address::Address;
 
-// How an element came in: at which clock, from which transmitter, over a link of which metric.
+// How an element arrived: at which clock, from which transmitter, and over a link of which metric.
 pub struct Arrival {
     pub clock: u64,
     pub transmitter: Address,

@@ -1,3 +1,3 @@
--- The laws of the writers, for this crate's proofs and its callers'.
+-- Laws about the writers, for the proofs of this crate and of its callers.
 pub mod Written
 pub mod Listing

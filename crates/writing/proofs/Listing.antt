@@ -1,5 +1,5 @@
--- Entries written one after another, where some may write nothing: what stands before entry i, and with what is left the
--- whole.
+-- Entries written one after another, where an entry may write nothing. `Listing` says how far the output is before entry i, and
+-- that writing the rest gives the whole list.
 use Prim.Native.Nat.{ℕ, suc, _+_, _-_, _*_, _/_, _<_, _≤_}
 use mathlib.Core.Path.{_≡_, sym, ap, _∙_}
 use mathlib.Core.List.{List, [], _++_, flatMap}
@@ -12,7 +12,7 @@ use Rattle.element.specs.Entries.{each}
 use Rattle.element.proofs.Scans.{each-next, each-end}
 use Rattle.writing.proofs.Written.{entries-more, entries-ended}
 
--- n entries, each of at most so many octets, from place at of the output out₀ on
+-- There are n entries, each of at most `size` octets. They are written to the output out₀ from the place `at` on.
 module _ {A : Type 0} (write : A → List ℕ) (entry : ℕ → A) (n size : ℕ) (out₀ : List ℕ) (at : ℕ) where
   abbrev listFrom : ℕ → List ℕ
   listFrom i = flatMap write (each entry i (n - i))
@@ -45,14 +45,14 @@ module _ {A : Type 0} (write : A → List ℕ) (entry : ℕ → A) (n size : ℕ
               (oe ∙ ap (λ (y : A). overwrite out place (write y)) xe) after (so-far .written);
         }
 
-    -- there is room for one more in an output with room for the list part that the entries are from
+    -- The output has room for one more entry, if it has room for the list part of m octets from which the entries are read.
     pub listing-room : (m : ℕ) → n ≡ m / size → i < n → at + m ≤ length out₀ → length out ≡ length out₀ → place + size ≤ length out
     listing-room m ne l room same-length =
         let next : size * suc i ≤ size * n = mul-le-mul-left size l in
         let all : size * n ≤ m = rw (ne, mul-comm size (m / size)) (div-mul-le-self m size) in
         omega (arith, so-far .few, mul-suc size i)
 
-    -- p is what all of them write
+    -- Here p is the octets that all entries write.
     module _ (p : List ℕ) (all : wholeList ≡ p) (l : n ≤ i) where
       pub listing-counted : place ≡ at + length p
       unfolding flatMap
@@ -61,7 +61,7 @@ module _ {A : Type 0} (write : A → List ℕ) (entry : ℕ → A) (n size : ℕ
       pub listing-written : out ≡ overwrite out₀ at p
       listing-written = entries-ended write entry n out (overwrite out₀ at wholeList) i place l (so-far .written) ∙ ap (overwrite out₀ at) all
 
--- one of which p is to be written: nothing, or the octets q
+-- An entry that must write the octets p: it writes nothing and p is empty, or it writes the octets q and q is p.
 module _ (p : List ℕ) where
   module _ (none : [] ≡ p) where
     pub skipped-place : (at : ℕ) → at ≡ at + length p

@@ -1,4 +1,4 @@
--- What the writers write: a frame's start as one run of fields, and what follows it.
+-- What the writers write: the start of a frame as one run of fields, and the list after it.
 use Prim.Native.Nat.{ℕ, _+_, _-_, _/_, _<_, _≤_}
 use mathlib.Core.Path.{_≡_, refl, sym, ap, ap₂, _∙_}
 use mathlib.Core.List.{List, [], _∷_, _++_, append-nil, append-assoc, flatMap}
@@ -40,7 +40,7 @@ count-itself Rreq n l = rw (octet-itself n l)
 count-itself Rrep n l = rw (octet-itself n l)
 count-itself Rerr n l = rw (octet-itself n l)
 
--- receiver address and the fields of a fixed part, written side by side
+-- The receiver address and then the fields up to the list, written without a gap.
 pub frame-started : (to : Address) (s t u ws xs : List ℕ) (at : ℕ) → t ≡ withNumber 6 s at (to .0) → u ≡ withFields ws t (at + 6) 0 xs
     → u ≡ overwrite s at (numberOctets 6 (to .0) ++ fieldOctets ws xs)
 unfolding withNumber
@@ -57,18 +57,18 @@ module _ (to : Address) (k : Kind) (n : ℕ) (xs : List ℕ) (as-many : length (
       field-octets-append (fieldWidths k) (countWidths k) xs (countPart k n) as-many ∙ ap (λ (l : List ℕ). fieldOctets (fieldWidths k) xs ++ l) (count-itself k n small) in
       rw (field-octets-cons, field-octets-cons, octet-itself (idOf k) (id-octet k), octet-itself (lengthWith k n) fits, rest)
 
-  -- which are then the start of a frame
+  -- The receiver address and the numbers up to the list, when written, are the start of a frame.
   started : (s t ys : List ℕ) (at : ℕ) → ys ≡ fixedNumbers k n xs
       → t ≡ overwrite s at (numberOctets 6 (to .0) ++ fieldOctets (1 ∷ 1 ∷ fieldWidths k ++ countWidths k) ys) → t ≡ overwrite s at (frameStart to k n xs)
   started s t ys at ye te =
       te ∙ ap (λ (l : List ℕ). overwrite s at (numberOctets 6 (to .0) ++ l)) (ap (fieldOctets (1 ∷ 1 ∷ fieldWidths k ++ countWidths k)) ye ∙ start-octets)
 
--- a frame is its start and its list
+-- A frame is its start and then its list.
 pub frame-parts : (to : Address) (e : Element) → writeFrame to e ≡ frameStart to (kindOf e) (countOf e) (fieldNumbers e) ++ listOctets e
 unfolding writeFrame writeElement
 frame-parts to e = sym (append-assoc (numberOctets 6 (to .0)) (fixedOctets (kindOf e) (countOf e) (fieldNumbers e)) (listOctets e))
 
--- ---- as the writers ask it
+-- ---- the writers
 
 module _ (to : Address) (s t ys : List ℕ) (at : ℕ) where
   pub rann-written : (p : PathInfo) → ys ≡ fixedNumbers Rann 0 (rannNumbers p)
@@ -110,7 +110,7 @@ module _ (to : Address) (s t u : List ℕ) (at at′ : ℕ) where
   list-place : (e : Element) (n : ℕ) → at′ ≡ at + (8 + lengthWith (kindOf e) 0) → at′ ≡ at + length (frameStart to (kindOf e) n (fieldNumbers e))
   list-place e n ae = ae ∙ ap (λ (k : ℕ). at + k) (sym (start-length to e n))
 
-  -- what is written after the start makes the frame
+  -- The start of a frame, and then its list written after it, make the frame.
   pub finished : (e : Element) (n : ℕ) → n ≡ countOf e → t ≡ overwrite s at (frameStart to (kindOf e) n (fieldNumbers e)) → at′ ≡ at + (8 + lengthWith (kindOf e) 0)
       → u ≡ overwrite t at′ (listOctets e) → u ≡ overwrite s at (writeFrame to e)
   finished e n ne te ae ue =
@@ -118,7 +118,7 @@ module _ (to : Address) (s t u : List ℕ) (at at′ : ℕ) where
       ∙ sym (overwrite-append s at (frameStart to (kindOf e) n (fieldNumbers e)) (listOctets e))
       ∙ both-parts e n ne
 
-  -- and so does the start, where the list is written before it
+  -- The list of a frame, and then its start written before the list, make the frame.
   pub started-last : (e : Element) (n : ℕ) → n ≡ countOf e → at′ ≡ at + (8 + lengthWith (kindOf e) 0) → t ≡ overwrite s at′ (listOctets e)
       → u ≡ overwrite t at (frameStart to (kindOf e) n (fieldNumbers e)) → u ≡ overwrite s at (writeFrame to e)
   started-last e n ne ae te ue =
@@ -154,7 +154,7 @@ module _ (to : Address) (s t u : List ℕ) (at at′ : ℕ) where
         → u ≡ overwrite t at′ (flatMap lostOctets (lostIn part)) → u ≡ overwrite s at (writeFrame to (rerr f (lostIn part)))
     rerr-listed f ne te ae = finished (rerr f (lostIn part)) n (losses-counted ne) te ae
 
--- ---- entries one by one, by what is left to write: g is the whole
+-- ---- entries written one by one: g is the output when all entries are written
 
 pub target-length : (x : Target) → length (targetOctets x) ≡ 11
 unfolding targetOctets total

@@ -1,5 +1,5 @@
-// Writing elements into a lent output, each as receiver address and element. Every function answers the place after what
-// it wrote; the rest of the output is unchanged.
+// Writing frames into a lent output, each as a receiver address and an element. Every function that writes a whole frame, the
+// start of a frame or an entry returns the place after the octets that it wrote. The rest of the output stays unchanged.
 use element::LostDestination;
 use element::PathInfo;
 use element::RerrFields;
@@ -21,7 +21,7 @@ ghost use Rattle.element.specs.Layout.{PartOf, most, sizeOf};
 ghost use Rattle.element.specs.Octets.{fixedNumbers, frameStart, startOctets, writeFrame};
 ghost use Rattle.element.specs.declared.list.ListKind.{ListKind};
 
-// Octets of a frame up to its list: receiver address, and an element without entries.
+// How many octets a frame has up to its list: the receiver address, and an element without entries.
 pub const RANN_START: usize = 29;
 
 pub const RREQ_START: usize = 34;
@@ -30,7 +30,7 @@ pub const RREP_START: usize = 40;
 
 pub const RERR_START: usize = 10;
 
-// Receiver address and the fields of an element's fixed part.
+// Writes the receiver address, and the numbers of an element up to its list.
 fn start_frame(out: &mut [u8], at: usize, to: Address, widths: &[u8], numbers: &[u64])
     requires { ⌜ at + 6 + total (now widths) ≤ length (now out) ⌝ }
     requires { ⌜ length (now widths) ≡ length (now numbers) ⌝ }
@@ -43,7 +43,8 @@ fn start_frame(out: &mut [u8], at: usize, to: Address, widths: &[u8], numbers: &
 
 // ---- RANN
 
-// The numbers of the fixed part, ID and Length first, in the order of the octets; so for each type.
+// Returns the numbers of a RANN in the order of its octets, with ID and Length first. `rreq_numbers`, `rrep_numbers` and
+// `rerr_numbers` return the numbers of the other types up to their list.
 pub fn rann_numbers(p: PathInfo) -> [u64; 9]
     ensures { λ r. ⌜ r ≡ fixedNumbers Kind.Rann 0 (rannNumbers p) ⌝ }
 {
@@ -94,7 +95,7 @@ pub fn rreq_numbers(f: RreqFields, n: usize) -> [u64; 11]
     ]
 }
 
-// A RREQ with n destinations up to its list; `write_target` writes each of these.
+// Writes a RREQ with n destinations up to its list. `write_target` writes each destination.
 pub fn start_rreq(out: &mut [u8], at: usize, to: Address, f: RreqFields, n: usize) -> usize
     requires { ⌜ n ≤ most Kind.Rreq ⌝ }
     requires { ⌜ at + startOctets Kind.Rreq ≤ length (now out) ⌝ }
@@ -122,7 +123,7 @@ pub fn write_target(out: &mut [u8], at: usize, target: Target) -> usize
     at + list::TARGET
 }
 
-// A RREQ with the destinations of a lent list part, as they are.
+// Writes a RREQ with the destinations of a lent list part, unchanged.
 pub fn write_rreq(out: &mut [u8], at: usize, to: Address, f: RreqFields, part: &[u8]) -> usize
     requires { ⌜ PartOf Kind.Rreq (now part) ⌝ }
     requires { ⌜ at + startOctets Kind.Rreq + length (now part) ≤ length (now out) ⌝ }
@@ -160,7 +161,7 @@ pub fn rrep_numbers(f: RrepFields, n: usize) -> [u64; 12]
     ]
 }
 
-// A RREP with n dependents up to its list; a reply of one's own has none.
+// Writes a RREP with n dependents up to its list. A reply to a RREQ has no dependents.
 pub fn start_rrep(out: &mut [u8], at: usize, to: Address, f: RrepFields, n: usize) -> usize
     requires { ⌜ n ≤ most Kind.Rrep ⌝ }
     requires { ⌜ at + startOctets Kind.Rrep ≤ length (now out) ⌝ }
@@ -173,7 +174,7 @@ pub fn start_rrep(out: &mut [u8], at: usize, to: Address, f: RrepFields, n: usiz
     at + RREP_START
 }
 
-// A RREP with the dependents of a lent list part, as they are.
+// Writes a RREP with the dependents of a lent list part, unchanged.
 pub fn write_rrep(out: &mut [u8], at: usize, to: Address, f: RrepFields, part: &[u8]) -> usize
     requires { ⌜ PartOf Kind.Rrep (now part) ⌝ }
     requires { ⌜ at + startOctets Kind.Rrep + length (now part) ≤ length (now out) ⌝ }
@@ -196,7 +197,7 @@ pub fn rerr_numbers(f: RerrFields, n: usize) -> [u64; 4]
     [132, 2 + 10 * count, f.flags as u64, count]
 }
 
-// A RERR with n destinations up to its list; `write_lost` writes each of these.
+// Writes a RERR with n destinations up to its list. `write_lost` writes each destination.
 pub fn start_rerr(out: &mut [u8], at: usize, to: Address, f: RerrFields, n: usize) -> usize
     requires { ⌜ n ≤ most Kind.Rerr ⌝ }
     requires { ⌜ at + startOctets Kind.Rerr ≤ length (now out) ⌝ }

@@ -1,4 +1,4 @@
--- `probe::faults_of` meets its contract: the sum of the four.
+-- `probe::faults_of` meets its contract: it sums the four faults.
 use borrow.Author.Needs.{needs}
 use Rattle.probe.proofs.Frames.{faults-summed}
 use Rattle.probe.proofs.faults_of.Statement.{statement}

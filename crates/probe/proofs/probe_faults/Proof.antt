@@ -1,4 +1,4 @@
--- `probe::probe_faults` meets its contract: answer by answer of the reader.
+-- `probe::probe_faults` meets its contract, for each result of the reader.
 use borrow.Author.Needs.{needs}
 use Rattle.probe.proofs.Frames.{faults-read, no-faults-refused}
 use Rattle.probe.proofs.probe_faults.Statement.{statement}

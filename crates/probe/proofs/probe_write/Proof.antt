@@ -1,4 +1,4 @@
--- `probe::probe_write` meets its contract: answer by answer of the reader.
+-- `probe::probe_write` meets its contract, for each result of the reader.
 use borrow.Author.Needs.{needs}
 use Rattle.reading.proofs.Readings.{announcement-element, request-part, request-element, reply-part, reply-element, error-part, error-element}
 use Rattle.probe.proofs.Frames.{again-element, again-refused}

@@ -1,4 +1,4 @@
--- `reading::count_as` meets its contract: type by type.
+-- `reading::count_as` meets its contract, type by type.
 use borrow.Author.Needs.{needs}
 use Rattle.reading.proofs.count_as.Statement.{statement}
 use Rattle.reading.proofs.count_as.Tie as tie

@@ -1,4 +1,4 @@
--- `reading::fits_kind` meets its contract: both parts of the test.
+-- `reading::fits_kind` meets its contract: both parts of its test are those of the definition.
 use borrow.Author.Needs.{needs}
 use Rattle.reading.proofs.Cases.{fits-both}
 use Rattle.reading.proofs.fits_kind.Statement.{statement}

@@ -1,4 +1,4 @@
--- `reading::has_wrong_length` meets its contract: both ways out of the test.
+-- `reading::has_wrong_length` meets its contract, for both returns.
 use borrow.Author.Needs.{needs}
 use Rattle.reading.proofs.Cases.{too-short, long-enough}
 use Rattle.reading.proofs.has_wrong_length.Statement.{statement}

@@ -1,4 +1,4 @@
--- `reading::is_count` meets its contract: type by type.
+-- `reading::is_count` meets its contract, type by type.
 use borrow.Author.Needs.{needs}
 use Rattle.element.proofs.Lengths.{count-is}
 use Rattle.reading.proofs.is_count.Statement.{statement}

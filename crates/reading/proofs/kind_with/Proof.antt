@@ -1,4 +1,4 @@
--- `reading::kind_with` meets its contract: ID by ID.
+-- `reading::kind_with` meets its contract, ID by ID.
 use Rattle.reading.proofs.Cases.{kind-rann, kind-rreq, kind-rrep, kind-else}
 use Rattle.reading.proofs.kind_with.Statement.{statement}
 use Rattle.reading.proofs.kind_with.Tie as tie

@@ -1,4 +1,4 @@
--- `reading::length_with` meets its contract: type by type.
+-- `reading::length_with` meets its contract, type by type.
 use borrow.Author.Needs.{needs}
 use Rattle.reading.proofs.Cases.{length-is}
 use Rattle.reading.proofs.length_with.Statement.{statement}

@@ -1,4 +1,4 @@
--- `reading::list_part` meets its contract: what is left from there on, if anything.
+-- `reading::list_part` meets its contract: it returns the octets from the start of the list on, if there are any.
 use borrow.Author.Needs.{needs}
 use Rattle.reading.proofs.Cases.{list-beyond, list-left}
 use Rattle.reading.proofs.list_part.Statement.{statement}

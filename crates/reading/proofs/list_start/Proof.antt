@@ -1,4 +1,4 @@
--- `reading::list_start` meets its contract: the Length of its type without entries, and two.
+-- `reading::list_start` meets its contract: the list starts at 2 plus the Length of an element without entries.
 use borrow.Author.Needs.{needs}
 use Rattle.reading.proofs.Cases.{starts-there}
 use Rattle.reading.proofs.list_start.Statement.{statement}

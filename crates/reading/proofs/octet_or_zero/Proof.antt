@@ -1,4 +1,4 @@
--- `reading::octet_or_zero` meets its contract: both ways out.
+-- `reading::octet_or_zero` meets its contract, for both returns.
 use borrow.Author.Needs.{needs}
 use Rattle.reading.proofs.Cases.{octet-beyond, octet-there}
 use Rattle.reading.proofs.octet_or_zero.Statement.{statement}

@@ -1,4 +1,4 @@
--- `reading::read` meets its contract: refusal by refusal.
+-- `reading::read` meets its contract, refusal by refusal.
 use borrow.Author.Needs.{needs}
 use Rattle.reading.proofs.Cases.{two-octets, one-octet-there, fixed-part-there, read-6, read-7, read-8, read-fields}
 use Rattle.reading.proofs.read.Statement.{statement}

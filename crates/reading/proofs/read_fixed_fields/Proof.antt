@@ -1,4 +1,4 @@
--- `reading::read_fixed_fields` meets its contract: type by type.
+-- `reading::read_fixed_fields` meets its contract, type by type.
 use borrow.Author.Needs.{needs}
 use Rattle.reading.proofs.Cases.{rann-there, rreq-there, rrep-there, rerr-there, rann-fields, rreq-fields, rrep-fields, rerr-fields}
 use Rattle.reading.proofs.read_fixed_fields.Statement.{statement}

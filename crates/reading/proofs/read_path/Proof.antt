@@ -1,4 +1,4 @@
--- `reading::read_path` meets its contract: field by field.
+-- `reading::read_path` meets its contract: it reads the fields one by one.
 use borrow.Author.Needs.{needs}
 use Rattle.reading.proofs.Cases.{path-read}
 use Rattle.reading.proofs.read_path.Statement.{statement}

@@ -1,4 +1,4 @@
--- `reading::read_rerr` meets its contract: field by field.
+-- `reading::read_rerr` meets its contract: it reads the one field.
 use borrow.Author.Needs.{needs}
 use Rattle.octets.specs.LittleEndian.{fieldsAt}
 use Rattle.reading.proofs.read_rerr.Statement.{statement}

@@ -1,4 +1,4 @@
--- `reading::read_rrep` meets its contract: field by field.
+-- `reading::read_rrep` meets its contract: it reads the fields one by one.
 use borrow.Author.Needs.{needs}
 use Rattle.octets.specs.LittleEndian.{fieldsAt}
 use Rattle.reading.proofs.read_rrep.Statement.{statement}

@@ -1,4 +1,4 @@
--- `reading::read_rreq` meets its contract: field by field.
+-- `reading::read_rreq` meets its contract: it reads the fields one by one.
 use borrow.Author.Needs.{needs}
 use Rattle.octets.specs.LittleEndian.{fieldsAt}
 use Rattle.reading.proofs.read_rreq.Statement.{statement}

@@ -1,4 +1,4 @@
--- `writing::start_frame` meets its contract: one after the other.
+-- `writing::start_frame` meets its contract: it writes the receiver address, and then the numbers after it.
 use borrow.Author.Needs.{needs}
 use Rattle.writing.proofs.Written.{frame-started}
 use Rattle.writing.proofs.start_frame.Statement.{statement}

@@ -1,4 +1,4 @@
--- `writing::write_rrep` meets its contract: the start, and then the list part over what follows it.
+-- `writing::write_rrep` meets its contract: it writes the start, and then the list part after it.
 use borrow.Author.Needs.{needs}
 use Rattle.writing.proofs.Written.{rrep-written}
 use Rattle.writing.proofs.write_rrep.Statement.{statement}

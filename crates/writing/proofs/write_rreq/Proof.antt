@@ -1,4 +1,4 @@
--- `writing::write_rreq` meets its contract: the start, and then the list part over what follows it.
+-- `writing::write_rreq` meets its contract: it writes the start, and then the list part after it.
 use borrow.Author.Needs.{needs}
 use Rattle.writing.proofs.Written.{rreq-written}
 use Rattle.writing.proofs.write_rreq.Statement.{statement}

@@ -1,4 +1,4 @@
--- `writing::write_target` meets its contract: its numbers are written side by side.
+-- `writing::write_target` meets its contract: it writes its numbers one after another.
 use borrow.Author.Needs.{needs}
 use Rattle.writing.proofs.Written.{target-written}
 use Rattle.octets.specs.LittleEndian.{total}

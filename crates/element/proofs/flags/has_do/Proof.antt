@@ -1,4 +1,4 @@
--- `element::flags::has_do` meets its contract: the lowest bit.
+-- `element::flags::has_do` meets its contract: it reads bit 0.
 use Rattle.element.proofs.Bits.{bit-0}
 use Rattle.element.proofs.flags.has_do.Statement.{statement}
 use Rattle.element.proofs.flags.has_do.Tie as tie

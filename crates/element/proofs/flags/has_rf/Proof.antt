@@ -1,4 +1,4 @@
--- `element::flags::has_rf` meets its contract: the second bit.
+-- `element::flags::has_rf` meets its contract: it reads bit 1.
 use Rattle.element.proofs.Bits.{bit-1}
 use Rattle.element.proofs.flags.has_rf.Statement.{statement}
 use Rattle.element.proofs.flags.has_rf.Tie as tie

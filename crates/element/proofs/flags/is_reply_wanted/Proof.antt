@@ -1,4 +1,4 @@
--- `element::flags::is_reply_wanted` meets its contract: the third bit.
+-- `element::flags::is_reply_wanted` meets its contract: it reads bit 2.
 use Rattle.element.proofs.Bits.{bit-2}
 use Rattle.element.proofs.flags.is_reply_wanted.Statement.{statement}
 use Rattle.element.proofs.flags.is_reply_wanted.Tie as tie

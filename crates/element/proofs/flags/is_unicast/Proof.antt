@@ -1,4 +1,4 @@
--- `element::flags::is_unicast` meets its contract: the second bit.
+-- `element::flags::is_unicast` meets its contract: it reads bit 1.
 use Rattle.element.proofs.Bits.{bit-1}
 use Rattle.element.proofs.flags.is_unicast.Statement.{statement}
 use Rattle.element.proofs.flags.is_unicast.Tie as tie

@@ -1,4 +1,4 @@
--- `element::flags::with_do` meets its contract: by its definition.
+-- `element::flags::with_do` meets its contract: it computes as its definition does.
 use borrow.Author.Needs.{needs}
 use Rattle.element.specs.Flags.{withDO}
 use Rattle.element.proofs.flags.with_do.Statement.{statement}

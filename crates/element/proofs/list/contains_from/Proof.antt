@@ -1,4 +1,4 @@
--- `element::list::contains_from` meets its contract: the address is not among the entries passed.
+-- `element::list::contains_from` meets its contract: none of the entries that the loop has passed has the address.
 use Prim.Native.Nat.{_-_}
 use mathlib.Core.Path.{_≡_}
 use borrow.Author.Needs.{needs}

@@ -1,4 +1,4 @@
--- `element::list::entries_in` meets its contract: by the size of an entry.
+-- `element::list::entries_in` meets its contract: it divides by the size of an entry.
 use borrow.Author.Needs.{needs}
 use Rattle.element.proofs.Scans.{some-size, entries-many}
 use Rattle.element.proofs.list.entries_in.Statement.{statement}

@@ -1,4 +1,4 @@
--- `element::list::has_duplicate` meets its contract: one address stands once, and several are marked.
+-- `element::list::has_duplicate` meets its contract: at most one address cannot stand twice, and several are searched by marks.
 use borrow.Author.Needs.{needs}
 use Rattle.element.proofs.Marking.{alone-once}
 use Rattle.element.proofs.list.has_duplicate.Statement.{statement}

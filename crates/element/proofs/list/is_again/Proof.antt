@@ -1,4 +1,4 @@
--- `element::list::is_again` meets its contract: the mark spares the search.
+-- `element::list::is_again` meets its contract: mark 0 gives false, and otherwise the search decides.
 use borrow.Author.Needs.{needs}
 use Rattle.element.proofs.Marking.{unmarked-not, marked-as}
 use Rattle.element.proofs.list.is_again.Statement.{statement}

@@ -1,4 +1,4 @@
--- `element::list::is_allowed` meets its contract: kind by kind.
+-- `element::list::is_allowed` meets its contract, kind by kind.
 use borrow.Author.Needs.{needs}
 use Rattle.element.specs.Lists.{allowed}
 use Rattle.element.proofs.list.is_allowed.Statement.{statement}

@@ -1,4 +1,4 @@
--- `element::list::item_at` meets its contract: field by field.
+-- `element::list::item_at` meets its contract: it reads the item field by field.
 use borrow.Author.Needs.{needs}
 use Rattle.element.proofs.Scans.{item-read}
 use Rattle.element.proofs.list.item_at.Statement.{statement}

@@ -1,4 +1,4 @@
--- `element::list::lost_at` meets its contract: field by field.
+-- `element::list::lost_at` meets its contract: it reads the destination field by field.
 use borrow.Author.Needs.{needs}
 use Rattle.element.proofs.Scans.{lost-read}
 use Rattle.element.proofs.list.lost_at.Statement.{statement}

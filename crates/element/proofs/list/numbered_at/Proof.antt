@@ -1,4 +1,4 @@
--- `element::list::numbered_at` meets its contract: field by field.
+-- `element::list::numbered_at` meets its contract: it reads the dependent field by field.
 use borrow.Author.Needs.{needs}
 use Rattle.element.proofs.Scans.{numbered-read}
 use Rattle.element.proofs.list.numbered_at.Statement.{statement}

@@ -1,4 +1,4 @@
--- `probe::again::has_room` meets its contract: both ways out.
+-- `probe::again::has_room` meets its contract, for both returns.
 use borrow.Author.Needs.{needs}
 use Rattle.probe.proofs.Frames.{place-beyond, place-within}
 use Rattle.probe.proofs.again.has_room.Statement.{statement}

@@ -1,4 +1,4 @@
--- `probe::again::write_rann` meets its contract: written if it fits.
+-- `probe::again::write_rann` meets its contract: it writes the frame if it fits.
 use borrow.Author.Needs.{needs}
 use Rattle.probe.proofs.Frames.{room-there, no-room, wrote, rann-size}
 use Rattle.probe.proofs.again.write_rann.Statement.{statement}

@@ -1,4 +1,4 @@
--- `probe::again::write_rerr` meets its contract: written if it fits, the start and then the list.
+-- `probe::again::write_rerr` meets its contract: it writes the frame if it fits, the start and then the list.
 use borrow.Author.Needs.{needs}
 use Rattle.writing.proofs.Written.{rerr-listed}
 use Rattle.probe.proofs.Frames.{start-room, list-room, no-room, wrote, rerr-size}

@@ -1,4 +1,4 @@
--- `probe::again::write_rrep` meets its contract: written if it fits.
+-- `probe::again::write_rrep` meets its contract: it writes the frame if it fits.
 use borrow.Author.Needs.{needs}
 use Rattle.probe.proofs.Frames.{whole-room, no-room, wrote, rrep-size}
 use Rattle.probe.proofs.again.write_rrep.Statement.{statement}

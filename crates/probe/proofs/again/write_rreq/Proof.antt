@@ -1,4 +1,4 @@
--- `probe::again::write_rreq` meets its contract: written if it fits, both ways alike.
+-- `probe::again::write_rreq` meets its contract: it writes the frame if it fits, and both ways write the same octets.
 use borrow.Author.Needs.{needs}
 use Rattle.writing.proofs.Written.{rreq-listed}
 use Rattle.probe.proofs.Frames.{whole-room, start-room, list-room, no-room, wrote, rreq-size}

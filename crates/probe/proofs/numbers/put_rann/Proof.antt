@@ -1,4 +1,4 @@
--- `probe::numbers::put_rann` meets its contract: the fixed part is all.
+-- `probe::numbers::put_rann` meets its contract: it writes the numbers of the fixed part, and a RANN has no others.
 use borrow.Author.Needs.{needs}
 use Rattle.probe.proofs.Elements.{rann-put}
 use Rattle.probe.proofs.numbers.put_rann.Statement.{statement}

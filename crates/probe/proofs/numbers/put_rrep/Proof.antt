@@ -1,4 +1,4 @@
--- `probe::numbers::put_rrep` meets its contract: the fixed part, and then the entries.
+-- `probe::numbers::put_rrep` meets its contract: it writes the numbers of the fixed part, and then those of the entries.
 use borrow.Author.Needs.{needs}
 use Rattle.probe.proofs.Elements.{rrep-put}
 use Rattle.probe.proofs.numbers.put_rrep.Statement.{statement}
