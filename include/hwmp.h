@@ -1,20 +1,22 @@
 /*
- * One HWMP mesh point: its forwarding table, held in octets that the caller lends, and the
- * frames that it sends.
+ * One HWMP mesh point: its forwarding table, in octets that the caller lends, and the frames
+ * that the point sends. docs/FIRMWARE.md explains how firmware uses these calls.
+ * docs/PROTOCOL.md states the rules in full.
  *
- * A lent buffer is a pointer and its length in octets. It must be real memory of that
- * length (not NULL), at any alignment, and the buffers of one call must not overlap. An
- * address is 6 octets. The library allocates nothing and keeps no memory: no pointer
- * outlives its call, and calls on different tables may run at the same time.
+ * Buffers: a lent buffer is a pointer and a length in octets. The pointer must not be NULL and
+ * must lead to memory of that length, at any alignment. The buffers of one call must not
+ * overlap. An address is 6 octets. The library allocates nothing and keeps nothing: it uses no
+ * pointer after the call returns. Calls may run at the same time if they share neither a table
+ * nor an output.
  *
- * Every call gives an answer, a number of enum hwmp_answer: HWMP_ACCEPTED or a refusal; but a
- * walk that is not refused may also answer HWMP_NO_ROUTE or HWMP_TOO_LONG. If several
- * refusals apply, the lowest number is given. A refused call changes no octet, and what it
- * returns beside the number is zero.
+ * Answers: every call returns an answer, a number of enum hwmp_answer. It is HWMP_ACCEPTED or
+ * a refusal. Only a walk has two more answers, HWMP_NO_ROUTE and HWMP_TOO_LONG, which are not
+ * refusals. If several refusals apply, the call returns the lowest number. A refused call
+ * changes no octet, and everything it returns besides the answer is zero.
  *
- * Calls that may send write their frames into the output, from its start and without
- * gaps: each is a receiver address (6 octets, all ones for every neighbour) and an
- * element, whose second octet says how many octets follow it. Output beyond is unchanged.
+ * Frames: a call that may send writes its frames into the output, from the start and without
+ * gaps. A frame is a receiver address (6 octets) and an element. The receiver all ones stands
+ * for every neighbour. The output after the last frame is unchanged.
  */
 #ifndef HWMP_H
 #define HWMP_H
@@ -26,231 +28,333 @@
 extern "C" {
 #endif
 
-/* The answers. Each call below lists its refusals by these numbers. */
+#define HWMP_VERSION "0.1.0"
+
+/* ---- answers */
+
+/* Each call below lists its refusals by these names. */
 enum hwmp_answer {
-    /* The call did all that it was to do. */
+    /* The call is accepted and has done everything that its comment says. */
     HWMP_ACCEPTED = 0,
     /*
-     * The table's length is not 32 + 32R with R from 1 to 128, or what a walk is handed is not
-     * 1 to HWMP_MAX_POINTS tables of one such length.
+     * The table's length is not HWMP_TABLE_OCTETS(R) with R from 1 to HWMP_MAX_ROWS. For a
+     * walk: the buffer is not 1 to HWMP_MAX_POINTS tables of one such length.
      */
     HWMP_TABLE_LENGTH = 1,
     /* The output is shorter than HWMP_OUTPUT_OCTETS. */
     HWMP_SHORT_OUTPUT = 2,
     /* The clock is above HWMP_MAX_CLOCK. */
     HWMP_CLOCK_TOO_LARGE = 3,
-    /* The neighbour or transmitter is not an individual address. */
+    /* The transmitter or the broken neighbour is not an individual address. */
     HWMP_BAD_NEIGHBOUR = 4,
     /* The link metric is 0. */
     HWMP_NO_LINK = 5,
-    /* The element is under 2 octets, or its second octet does not count those after it. */
+    /*
+     * The element has fewer than 2 octets, or its Length (the second octet) differs from the
+     * number of octets after it.
+     */
     HWMP_ELEMENT_LENGTH = 6,
-    /* The element is of no type known here. */
+    /* The element's ID (the first octet) is not in enum hwmp_element_id. */
     HWMP_UNKNOWN_ID = 7,
     /*
-     * The items are not 1 to HWMP_MAX_ITEMS of 7 octets, or the element's length does not fit
-     * its type and count.
+     * The element's Length does not fit its type and its number of entries. For an ask: the
+     * items are not 1 to HWMP_MAX_ITEMS of HWMP_ITEM_OCTETS each.
      */
     HWMP_BAD_COUNT = 8,
     /*
-     * An address is not individual: lowest bit of its first octet set, or all zero; but a
-     * received request may name all ones.
+     * An own address, originator, source or destination is not individual. An individual
+     * address has the lowest bit of its first octet clear and is not all zero. A received RREQ
+     * may also name all ones as a destination.
      */
     HWMP_BAD_ADDRESS = 9,
     /*
-     * An address stands twice or where it may not, or flags are not allowed; of a walk, the
-     * start is no point, or two points have one address.
+     * Received: a destination stands twice; all ones stands with other destinations; a RREQ
+     * names its originator as a destination; a unicast RREQ has several destinations or all
+     * ones; the destination of a RREP equals its source. Ask: an address stands twice, or an
+     * item's flags are above 3. Announcement or root request: the flags are not allowed.
+     * Walk: the start is not among the points, or two points have the same address.
      */
     HWMP_BAD_LIST = 10,
     /* The lifetime is 0. */
     HWMP_NO_LIFETIME = 11,
-    /* The element's hop count is 255. */
+    /* The received hop count is 255. */
     HWMP_TOO_MANY_HOPS = 12,
-    /* The element's metric and the link metric together are above 4294967294. */
+    /* The received metric plus the link metric is HWMP_UNREACHABLE or more. */
     HWMP_METRIC_TOO_LARGE = 13,
-    /* A reply has no hop left (TTL 0 or 1). */
+    /* A received RREP has TTL 0 or 1. */
     HWMP_LOW_TTL = 14,
-    /* The octets are not a table. */
+    /* The octets are not a legal table. */
     HWMP_NOT_A_TABLE = 21,
-    /* The clock is below the latest clock stored in the table (of a walk, in any of them). */
+    /* The clock is below the latest clock in the table (for a walk: in any of the tables). */
     HWMP_OLD_CLOCK = 22,
-    /* The neighbour or transmitter is the point's own address. */
+    /* The transmitter or the broken neighbour is the point's own address. */
     HWMP_FROM_ITSELF = 23,
-    /* An item names the point's own address, or what is received tells of a path to it. */
+    /*
+     * The originator of a RANN or RREQ, or the destination of a RREP, is the point's own
+     * address. Ask: an item names the own address.
+     */
     HWMP_ABOUT_ITSELF = 24,
     /*
-     * What is received is older than the row, or as old and no better, whether the row is
-     * active or not.
+     * The row for the originator (RREP: for the destination), active or not, has a known
+     * number. The received number is older, or it is equal and the received metric plus the
+     * link metric is not smaller than the row's metric.
      */
     HWMP_STALE = 25,
-    /* An error names no active row of known number that leads through its transmitter. */
+    /* A RERR names no active row of known number whose next hop is the transmitter. */
     HWMP_NO_MATCH = 26,
-    /* There are too few free rows. */
+    /* The element needs more new rows than are free. */
     HWMP_NO_ROOM = 27,
     /* There is no active row for the destination. */
     HWMP_NO_NEXT_HOP = 28,
-    /* There is no row for the destination. */
+    /* There is no held row for the destination. */
     HWMP_NOT_HELD = 29,
-    /* A walk that is not refused finds no next point. */
+    /*
+     * Not a refusal: the walk stopped, because a point has no active row for the destination
+     * or its next hop is neither a point nor the destination.
+     */
     HWMP_NO_ROUTE = 41,
-    /* A walk that is not refused took as many hops as there are points, and did not arrive. */
+    /* Not a refusal: the walk took as many hops as there are points and did not arrive. */
     HWMP_TOO_LONG = 42
 };
 
-/* A table is a head and 1 to 128 rows. */
+/* ---- addresses, clocks, metrics */
+
+#define HWMP_ADDRESS_OCTETS 6
+
+/* All ones as an initialiser: const uint8_t everyone[HWMP_ADDRESS_OCTETS] = HWMP_ALL_ONES; */
+#define HWMP_ALL_ONES {0xff, 0xff, 0xff, 0xff, 0xff, 0xff}
+
+/* The largest clock, 2^48 - 1. Clocks and lifetimes count milliseconds. */
+#define HWMP_MAX_CLOCK UINT64_C(281474976710655)
+
+/*
+ * The metric that a row of known number gets from a break, or from a RERR with a newer number.
+ * A metric learnt from a RANN, RREQ or RREP is always smaller.
+ */
+#define HWMP_UNREACHABLE UINT32_C(4294967295)
+
+/* ---- tables */
+
+/* A table is a head and 1 to HWMP_MAX_ROWS rows. */
 #define HWMP_HEAD_OCTETS 32
 #define HWMP_ROW_OCTETS 32
 #define HWMP_MAX_ROWS 128
 #define HWMP_TABLE_OCTETS(rows) (HWMP_HEAD_OCTETS + HWMP_ROW_OCTETS * (size_t)(rows))
 
-#define HWMP_ADDRESS_OCTETS 6
+/*
+ * Where a table has the point's own sequence number (4 octets) and the latest clock (8
+ * octets), each with its lowest octet first. Firmware may read both but must not write them.
+ */
+#define HWMP_OWN_NUMBER_AT 8
+#define HWMP_LATEST_CLOCK_AT 16
 
-/* A walk goes over at most so many tables. */
+/* The largest number of tables in a walk. */
 #define HWMP_MAX_POINTS 16
 
-/* All frames of one call have room in so many octets; a shorter output is refused (2). */
-#define HWMP_OUTPUT_OCTETS 1560
+/* ---- elements and frames */
 
-/* An item of an ask: flags (1 octet) and the address of a destination (6). */
-#define HWMP_ITEM_OCTETS 7
-#define HWMP_MAX_ITEMS 20
+/* The types of elements. The ID is the first octet of an element. */
+enum hwmp_element_id {
+    HWMP_RANN = 126,
+    HWMP_RREQ = 130,
+    HWMP_RREP = 131,
+    HWMP_RERR = 132
+};
 
 /*
- * Flags of an item. DO: only the destination itself is to reply. RF: a point on the way that
- * replies is to pass the request on all the same.
+ * The longest element that the library accepts or sends: a RREP with 22 dependents or a RERR
+ * with 25 destinations. hwmp_receive refuses every longer element (HWMP_ELEMENT_LENGTH,
+ * HWMP_UNKNOWN_ID or HWMP_BAD_COUNT), so a driver may drop it unread.
  */
+#define HWMP_MAX_ELEMENT_OCTETS 254
+
+/*
+ * The TTL of each RANN, RREQ and RREP that a point makes. Every point that forwards the element
+ * lowers the TTL by one. A RANN or RREQ reaches points up to 31 hops away, where it arrives with
+ * TTL 1 and is not forwarded. A RREP reaches points up to 30 hops away, because a RREP that
+ * arrives with TTL 1 is refused (HWMP_LOW_TTL). The reply of a destination that is asked for
+ * therefore arrives over at most 30 hops. A RERR has no TTL.
+ */
+#define HWMP_FIRST_TTL 31
+
+/* The smallest output. It has room for all frames of any call. */
+#define HWMP_OUTPUT_OCTETS 1560
+
+/* Where a frame has its element and the Length of its element. The receiver stands at 0. */
+#define HWMP_FRAME_ELEMENT_AT 6
+#define HWMP_FRAME_LENGTH_AT 7
+
+/*
+ * The octets of the frame that begins at the pointer `frame` to uint8_t: the receiver, the ID,
+ * the Length and as many octets as the Length says. The next frame begins right after them.
+ */
+#define HWMP_FRAME_OCTETS(frame) \
+    (HWMP_FRAME_LENGTH_AT + 1 + (size_t)(frame)[HWMP_FRAME_LENGTH_AT])
+
+/* ---- operands of asks, announcements and root requests */
+
+/* An item of an ask: flags (1 octet) and the address of a destination (6 octets). */
+#define HWMP_ITEM_OCTETS 7
+#define HWMP_ITEM_FLAGS_AT 0
+#define HWMP_ITEM_ADDRESS_AT 1
+#define HWMP_MAX_ITEMS 20
+
+/* Flag of an item: only the destination itself may reply. */
 #define HWMP_ITEM_DO 1
+/* Flag of an item: a point that replies from its row also forwards the request. */
 #define HWMP_ITEM_RF 2
 
 /* Flag of an announcement and of a root request: the point is a portal. */
 #define HWMP_PORTAL 1
-/* Flag of a root request: every point is to reply. */
+/* Flag of a root request: every point that accepts it replies. */
 #define HWMP_REPLY_WANTED 4
 
-/* Clocks and lifetimes count milliseconds; clocks go up to 2^48 - 1. */
-#define HWMP_MAX_CLOCK UINT64_C(281474976710655)
+/* ---- results */
 
-/* What hwmp_next_hop found: the next hop if accepted, else six zero octets. */
+/* The result of hwmp_next_hop: the address is the next hop if accepted, otherwise all zero. */
 struct hwmp_hop {
     uint32_t answer;
     uint8_t address[6];
 };
 
-/* How a walk ended, with the hops walked, which are at most as many as points. */
+/* The result of hwmp_walk: how the walk ended, and its hops, at most as many as points. */
 struct hwmp_walked {
     uint32_t answer;
     uint32_t hops;
 };
 
-/* What a call that may send has written, if accepted: frames, and octets in all. */
+/* The result of a call that may send: how many frames it wrote, and their octets together. */
 struct hwmp_outcome {
     uint32_t answer;
     uint32_t frames;
     uint32_t octets;
 };
 
+/* ---- calls */
+
 /*
- * Makes a fresh table: own address, own sequence number, and no rows held.
- * The octets need not be a table before; whatever they held is overwritten.
- * Refusals: 1, 9 (own address).
+ * Writes a fresh table: this own address, this own sequence number, and all rows free. The
+ * octets need not be a table before the call, which overwrites all of them. A point needs a
+ * fresh table once: docs/FIRMWARE.md, 'Restart', says what a second one costs.
+ * Refusals: HWMP_TABLE_LENGTH, HWMP_BAD_ADDRESS.
  */
 uint32_t hwmp_fresh(uint8_t *table, size_t table_len, const uint8_t own[6], uint32_t number);
 
 /*
- * Finds the next hop towards a destination. The row must be active: valid, and the clock
- * below its expiry. Changes nothing; the clock is not stored.
- * Refusals: 1, 3, 9 (destination), 21, 22, 28 (also for the point's own address).
+ * Returns the next hop towards a destination. Its row must be active: valid, and the clock is
+ * below the row's expiry. The call changes nothing and does not store the clock. For the
+ * point's own address it answers HWMP_NO_NEXT_HOP.
+ * Refusals: HWMP_TABLE_LENGTH, HWMP_CLOCK_TOO_LARGE, HWMP_BAD_ADDRESS, HWMP_NOT_A_TABLE,
+ * HWMP_OLD_CLOCK, HWMP_NO_NEXT_HOP.
  */
 struct hwmp_hop hwmp_next_hop(const uint8_t *table, size_t table_len, uint64_t clock,
                               const uint8_t destination[6]);
 
 /*
- * Forgets a destination: its row, valid, expired or invalidated, becomes free. With the row
- * goes the number that turns old elements away, so that loops become possible: docs/FIRMWARE.md
- * says when it is safe.
- * Refusals: 1, 9 (destination), 21, 29 (also for the point's own address).
+ * Frees the row of a destination, whether the row is valid, expired or invalidated. The number
+ * that refuses old elements is lost with the row, and loops become possible: docs/FIRMWARE.md,
+ * 'Forget', says when the call is safe. For the point's own address it answers HWMP_NOT_HELD.
+ * Refusals: HWMP_TABLE_LENGTH, HWMP_BAD_ADDRESS, HWMP_NOT_A_TABLE, HWMP_NOT_HELD.
  */
 uint32_t hwmp_forget(uint8_t *table, size_t table_len, const uint8_t destination[6]);
 
 /*
- * Walks from a start to a destination over the tables of several points, side by side in one
- * buffer and of one length, along rows that are active at the clock. Answers HWMP_ACCEPTED
- * where it meets the destination, which may be a point or not; HWMP_NO_ROUTE where a point
- * has no active row, or its next hop is neither a point nor the destination, which is not
- * counted; HWMP_TOO_LONG after as many hops as there are points. From the destination
- * itself there are 0 hops. Changes nothing; the clock is not stored.
- * Refusals: 1, 3, 9 (destination), 10, 21, 22. The start and two points of one address (10)
- * are judged by the first six octets of each table, before 21.
+ * Walks from a start to a destination, along rows that are active at the clock. The buffer has
+ * the tables of `count` points side by side, all of one length. The call is for tests and
+ * tools. It changes nothing and does not store the clock.
+ * Answers:
+ *   HWMP_ACCEPTED  the walk met the destination, which need not be one of the points
+ *   HWMP_NO_ROUTE  a point has no active row for the destination, or its next hop is neither a
+ *                  point nor the destination (that hop is not counted)
+ *   HWMP_TOO_LONG  the walk took as many hops as there are points and did not arrive
+ * All three bring the hops walked. A walk that starts at the destination has 0 hops.
+ * Refusals: HWMP_TABLE_LENGTH, HWMP_CLOCK_TOO_LARGE, HWMP_BAD_ADDRESS (the destination),
+ * HWMP_BAD_LIST, HWMP_NOT_A_TABLE, HWMP_OLD_CLOCK. For HWMP_BAD_LIST a point's address is the
+ * first six octets of its table, even where the octets are not a legal table.
  */
 struct hwmp_walked hwmp_walk(const uint8_t *tables, size_t tables_len, uint32_t count,
                              uint64_t clock, const uint8_t start[6],
                              const uint8_t destination[6]);
 
 /*
- * Asks for 1 to 20 destinations: one RREQ to all, with the point's next sequence number
- * and next request ID, which the table keeps. Beside each destination goes the sequence
- * number of its row, if that is known, else 0. No row changes.
- * Refusals: 1, 2, 8, 9, 10 (flags above 3, or an address twice), 11, 21, 24.
+ * Asks for 1 to HWMP_MAX_ITEMS destinations: sends one RREQ to all ones, with the point's next
+ * sequence number and next request ID, and stores both in the table. Each destination goes with
+ * the number of its row if that is known, otherwise with 0. No row changes.
+ * Refusals: HWMP_TABLE_LENGTH, HWMP_SHORT_OUTPUT, HWMP_BAD_COUNT, HWMP_BAD_ADDRESS,
+ * HWMP_BAD_LIST, HWMP_NO_LIFETIME, HWMP_NOT_A_TABLE, HWMP_ABOUT_ITSELF.
  */
 struct hwmp_outcome hwmp_ask(uint8_t *table, size_t table_len, uint8_t *output,
                              size_t output_len, uint32_t lifetime, const uint8_t *items,
                              size_t items_len);
 
 /*
- * Announces the point: one RANN to all, with its next sequence number, which the table
- * keeps. Flags are 0 or HWMP_PORTAL.
- * Refusals: 1, 2, 10 (flags), 11, 21.
+ * Announces the point: sends one RANN to all ones, with the point's next sequence number, and
+ * stores that number in the table. The flags are 0 or HWMP_PORTAL.
+ * Refusals: HWMP_TABLE_LENGTH, HWMP_SHORT_OUTPUT, HWMP_BAD_LIST (the flags),
+ * HWMP_NO_LIFETIME, HWMP_NOT_A_TABLE.
  */
 struct hwmp_outcome hwmp_announce(uint8_t *table, size_t table_len, uint8_t *output,
                                   size_t output_len, uint8_t flags, uint32_t lifetime);
 
 /*
- * Sends a root request: one RREQ to all for every point, with the next sequence number and
- * the next request ID, which the table keeps. Flags are 0, HWMP_PORTAL, HWMP_REPLY_WANTED
- * or both.
- * Refusals: 1, 2, 10 (flags), 11, 21.
+ * Sends a root request: one RREQ to all ones that asks for every point, with the point's next
+ * sequence number and next request ID, and stores both in the table. The flags are 0,
+ * HWMP_PORTAL, HWMP_REPLY_WANTED, or the last two together.
+ * Refusals: HWMP_TABLE_LENGTH, HWMP_SHORT_OUTPUT, HWMP_BAD_LIST (the flags),
+ * HWMP_NO_LIFETIME, HWMP_NOT_A_TABLE.
  */
 struct hwmp_outcome hwmp_root_request(uint8_t *table, size_t table_len, uint8_t *output,
                                       size_t output_len, uint8_t flags, uint32_t lifetime);
 
 /*
- * Reports that a neighbour can no longer be reached. Every active row through it is
- * invalidated but stays held; if its sequence number is known, that is stepped and the metric
- * becomes 4294967295, so that what is older is refused from now on. Those destinations go to
- * all neighbours, 25 to a RERR, each with its stepped number, or 0 if none was known; if there
- * are none, there is no frame. The clock is stored either way.
- * Refusals: 1, 2, 3, 4, 21, 22, 23.
+ * Reports that a neighbour can no longer be reached. The call invalidates every active row
+ * whose next hop is the neighbour, and these rows stay held. If the number of such a row is
+ * known, it steps up by one and the row's metric becomes HWMP_UNREACHABLE, so that the point
+ * refuses older news of that destination from now on. The point sends the destinations of
+ * these rows to all ones, in table order and 25 to a RERR. Each goes with its stepped number,
+ * or with 0 if its number is unknown. If no row is invalidated, there is no frame. An accepted
+ * call stores the clock in any case.
+ * Refusals: HWMP_TABLE_LENGTH, HWMP_SHORT_OUTPUT, HWMP_CLOCK_TOO_LARGE, HWMP_BAD_NEIGHBOUR,
+ * HWMP_NOT_A_TABLE, HWMP_OLD_CLOCK, HWMP_FROM_ITSELF.
  */
 struct hwmp_outcome hwmp_break(uint8_t *table, size_t table_len, uint8_t *output,
                                size_t output_len, uint64_t clock, const uint8_t neighbour[6]);
 
 /*
- * Receives an element that a neighbour, the transmitter, has sent over a link of that metric.
+ * Receives an element that a neighbour, the transmitter, sent over a link of this metric. The
+ * caller must hand over the element without the receiver address of its frame.
  *
- * The element is handed over without the receiver address of its frame, which plays no part.
+ * Learning. A RANN, RREQ or RREP tells of a path through the transmitter to its originator
+ * (RREP: to its destination). The point makes or renews the row for that address. If the
+ * transmitter is a different address, the point may also make or renew the transmitter's row.
+ * It does this if there is no such row; if the row is not active, and its number is unknown or
+ * the link metric is at most the row's metric; or if the row is active and the link metric is
+ * below the row's metric.
  *
- * A RREQ, RREP or RANN tells of a path through the transmitter to its originator (RREP: to its
- * destination), whose row is made or renewed. If the transmitter is another point, so is its
- * row: if there is none; if it is inactive and its number is unknown or the link metric is at
- * most its metric; or if it is active and the link metric is below its metric.
+ * Replies. The point replies to a RREQ with RREPs to the transmitter. It replies for itself if
+ * it is a destination, and for all ones if a reply is wanted. It replies for another destination
+ * without DO if it has an active row of known number, and the number is not older than the
+ * requested one. For itself and for all ones the point takes its next sequence number and
+ * stores it in the table. If the RREQ names the point with a newer number, the point takes the
+ * number after the named one.
  *
- * A RREQ is answered by RREPs to the transmitter: for the point itself, for all ones if a
- * reply is wanted, and, unless DO is set, for destinations with an active row of known number
- * that is not older than requested. For itself and for all ones the point takes its next
- * sequence number, which the table keeps; if the RREQ names the point with a newer number, the
- * one after that. The RREQ goes on with the destinations not answered, with all ones, and with
- * those answered from a row that have RF, then with DO set: to all, or if unicast to the next
- * hop of its destination. A RREP goes on to the next hop of its source, unless the source is
- * this point; a RANN to all. RREQ and RANN go on only with TTL at least 2, and nothing goes
- * to a next hop without an active row.
+ * Forwarding. The point forwards a RREQ with the destinations that it did not reply for, with
+ * all ones, and with those that it replied for from a row and that have RF (now with DO set).
+ * The RREQ goes to all ones, or if unicast to the next hop of its destination. A RANN goes to
+ * all ones. Both need TTL 2 or more. A RREP goes to the next hop of its source, unless the
+ * source is this point. Where a next hop is needed and no row is active, nothing is sent. In a
+ * forwarded RANN, RREQ or RREP the hop count is one higher, the TTL one lower, and the link
+ * metric added to the metric.
  *
- * A RERR invalidates the active rows of known number that it names and that lead through
- * the transmitter, and goes on to all with these. If the number beside a destination is newer
- * than its row's, the row takes it, and metric 4294967295.
+ * Errors. A RERR invalidates each active row of known number that it names and whose next hop
+ * is the transmitter. If the received number is newer than the row's, the row takes that number
+ * and the metric HWMP_UNREACHABLE. The point forwards the RERR to all ones with the
+ * destinations of these rows.
  *
- * The clock is stored.
- * Refusals: 1 to 14, 21 to 27; 14 only for a RREP, 26 only for a RERR, and never for a RERR
- * 11 to 13, 24, 25 and 27.
+ * An accepted call stores the clock.
+ * Refusals: all from HWMP_TABLE_LENGTH (1) to HWMP_NO_ROOM (27). Only a RREP gets HWMP_LOW_TTL
+ * and only a RERR gets HWMP_NO_MATCH. A RERR never gets HWMP_NO_LIFETIME, HWMP_TOO_MANY_HOPS,
+ * HWMP_METRIC_TOO_LARGE, HWMP_ABOUT_ITSELF, HWMP_STALE or HWMP_NO_ROOM.
  */
 struct hwmp_outcome hwmp_receive(uint8_t *table, size_t table_len, uint8_t *output,
                                  size_t output_len, uint64_t clock,
