@@ -1,23 +1,67 @@
 /*
- * A point that sends: it asks, announces itself and requests as a root, and then loses a
- * neighbour. Each frame is printed as a receiver and the octets of an element.
+ * A point that sends: it asks, announces itself, sends a root request and then loses a
+ * neighbour. The program prints each frame as a receiver and the octets of an element.
  * Build: cc -std=c11 -Iinclude examples/frames.c target/staticlib/libhwmp.a -o frames
  */
 #include <inttypes.h>
+#include <stdbool.h>
 #include <stdio.h>
 #include <string.h>
 
 #include "hwmp.h"
 
-enum { ROWS = 4 };
+/* The point that sends, two neighbours, and a point that the first neighbour leads to. */
+enum { SELF, NEIGHBOUR, OTHER, FAR, POINTS };
 
-static uint8_t table[HWMP_TABLE_OCTETS(ROWS)];
+enum { ROWS = 4, ITEMS = 2, LINK_METRIC = 10, NO_FLAGS = 0 };
+
+enum { LIFETIME_MS = 5000, NO_LIFETIME_MS = 0 };
+
+/* The clock at which the point learns its rows, and the clocks of its breaks. */
+enum { LEARN_MS = 500, BREAK_MS = 1000, SECOND_BREAK_MS = 1001 };
+
+static const uint8_t addresses[POINTS][HWMP_ADDRESS_OCTETS] = {
+    {2, 0, 0, 0, 0, 1}, {2, 0, 0, 0, 0, 2}, {2, 0, 0, 0, 0, 3}, {2, 0, 0, 0, 0, 9}};
+/* Own numbers in the fresh tables. The first element of a point has the number after it. */
+static const uint32_t first_numbers[POINTS] = {100, 6, 6, 6};
+
+static uint8_t tables[POINTS][HWMP_TABLE_OCTETS(ROWS)];
 static uint8_t output[HWMP_OUTPUT_OCTETS];
 
-static const uint8_t own[6] = {2, 0, 0, 0, 0, 1};
-static const uint8_t neighbour[6] = {2, 0, 0, 0, 0, 2};
-static const uint8_t other[6] = {2, 0, 0, 0, 0, 3};
-static const uint8_t far[6] = {2, 0, 0, 0, 0, 9};
+/* ---- how the point learns its rows */
+
+static bool announced(size_t point)
+{
+    return hwmp_announce(tables[point], sizeof tables[point], output, sizeof output, NO_FLAGS,
+                         LIFETIME_MS)
+               .answer == HWMP_ACCEPTED;
+}
+
+/* Hands the element of the one frame in the output to another point. */
+static bool delivered(size_t from, size_t to)
+{
+    uint8_t element[HWMP_MAX_ELEMENT_OCTETS];
+    size_t element_len = HWMP_FRAME_OCTETS(output) - HWMP_FRAME_ELEMENT_AT;
+
+    memcpy(element, output + HWMP_FRAME_ELEMENT_AT, element_len);
+    return hwmp_receive(tables[to], sizeof tables[to], output, sizeof output, LEARN_MS,
+                        addresses[from], LINK_METRIC, element, element_len)
+               .answer == HWMP_ACCEPTED;
+}
+
+/* Lets the other points announce themselves. NEIGHBOUR forwards the announcement of FAR. */
+static bool rows_learnt(void)
+{
+    for (size_t i = 0; i < POINTS; i++)
+        if (hwmp_fresh(tables[i], sizeof tables[i], addresses[i], first_numbers[i]) !=
+            HWMP_ACCEPTED)
+            return false;
+    return announced(FAR) && delivered(FAR, NEIGHBOUR) && delivered(NEIGHBOUR, SELF) &&
+           announced(NEIGHBOUR) && delivered(NEIGHBOUR, SELF) && announced(OTHER) &&
+           delivered(OTHER, SELF);
+}
+
+/* ---- what the point sends */
 
 static void print_octets(const uint8_t *octets, size_t count)
 {
@@ -25,105 +69,88 @@ static void print_octets(const uint8_t *octets, size_t count)
         printf(" %02x", octets[i]);
 }
 
-/* The second octet of an element counts the octets after it. */
-static void print_frames(struct hwmp_outcome outcome)
+static void print_outcome(const char *what, struct hwmp_outcome outcome)
 {
     const uint8_t *frame = output;
 
+    printf("%s: %" PRIu32 ", %" PRIu32 " frames, %" PRIu32 " octets\n", what, outcome.answer,
+           outcome.frames, outcome.octets);
     for (uint32_t i = 0; i < outcome.frames; i++) {
-        size_t element_octets = 2 + (size_t)frame[HWMP_ADDRESS_OCTETS + 1];
-
         printf("  to");
         print_octets(frame, HWMP_ADDRESS_OCTETS);
         printf(":");
-        print_octets(frame + HWMP_ADDRESS_OCTETS, element_octets);
+        print_octets(frame + HWMP_FRAME_ELEMENT_AT,
+                     HWMP_FRAME_OCTETS(frame) - HWMP_FRAME_ELEMENT_AT);
         printf("\n");
-        frame += HWMP_ADDRESS_OCTETS + element_octets;
+        frame += HWMP_FRAME_OCTETS(frame);
     }
 }
 
-static void print_outcome(const char *what, struct hwmp_outcome outcome)
+static void put_item(uint8_t *items, size_t place, uint8_t flags, size_t point)
 {
-    printf("%s: %" PRIu32 ", %" PRIu32 " frames, %" PRIu32 " octets\n", what, outcome.answer,
-           outcome.frames, outcome.octets);
-    print_frames(outcome);
-}
+    uint8_t *item = items + HWMP_ITEM_OCTETS * place;
 
-/*
- * Lays a valid row into a free place of the table, whose other octets are zero. Firmware
- * does not do this: rows come from received elements. Numbers have their low
- * octet first: sequence number 7, known; metric 30; active below clock 6000.
- */
-static void write_row(size_t place, const uint8_t to[6], const uint8_t via[6], uint8_t hops)
-{
-    uint8_t *row = table + HWMP_TABLE_OCTETS(place);
-
-    row[0] = 1; /* valid */
-    row[1] = 1; /* number known */
-    row[2] = hops;
-    memcpy(row + 4, to, 6);
-    memcpy(row + 10, via, 6);
-    row[16] = 7;
-    row[20] = 30;
-    row[24] = 6000 & 0xff;
-    row[25] = 6000 >> 8;
-}
-
-static void put_item(uint8_t *items, size_t place, uint8_t flags, const uint8_t address[6])
-{
-    items[HWMP_ITEM_OCTETS * place] = flags;
-    memcpy(items + HWMP_ITEM_OCTETS * place + 1, address, 6);
+    item[HWMP_ITEM_FLAGS_AT] = flags;
+    memcpy(item + HWMP_ITEM_ADDRESS_AT, addresses[point], HWMP_ADDRESS_OCTETS);
 }
 
 static void try_ask(const char *what, uint32_t lifetime, const uint8_t *items, size_t items_len)
 {
-    print_outcome(what, hwmp_ask(table, sizeof table, output, sizeof output, lifetime, items,
-                                 items_len));
+    print_outcome(what, hwmp_ask(tables[SELF], sizeof tables[SELF], output, sizeof output,
+                                 lifetime, items, items_len));
 }
 
-static void try_break(const char *what, uint64_t clock, const uint8_t address[6])
+static void try_root_request(const char *what, size_t output_len, uint8_t flags)
 {
-    print_outcome(what, hwmp_break(table, sizeof table, output, sizeof output, clock, address));
+    print_outcome(what, hwmp_root_request(tables[SELF], sizeof tables[SELF], output, output_len,
+                                          flags, LIFETIME_MS));
+}
+
+static void try_break(const char *what, uint64_t clock, size_t point)
+{
+    print_outcome(what, hwmp_break(tables[SELF], sizeof tables[SELF], output, sizeof output,
+                                   clock, addresses[point]));
 }
 
 static void ask(void)
 {
-    uint8_t items[2 * HWMP_ITEM_OCTETS];
+    uint8_t items[ITEMS * HWMP_ITEM_OCTETS];
 
-    put_item(items, 0, 0, far);
-    put_item(items, 1, HWMP_ITEM_DO | HWMP_ITEM_RF, other);
-    try_ask("ask for two", 5000, items, sizeof items);
-    try_ask("ask, an item cut short", 5000, items, sizeof items - 1);
-    try_ask("ask, lifetime 0", 0, items, sizeof items);
-    put_item(items, 1, 0, far);
-    try_ask("ask, an address twice", 5000, items, sizeof items);
-    put_item(items, 1, 0, own);
-    try_ask("ask, the own address", 5000, items, sizeof items);
+    put_item(items, 0, NO_FLAGS, FAR);
+    put_item(items, 1, HWMP_ITEM_DO | HWMP_ITEM_RF, OTHER);
+    try_ask("ask for two", LIFETIME_MS, items, sizeof items);
+    /* HWMP_BAD_COUNT, then HWMP_NO_LIFETIME */
+    try_ask("ask, an item cut short", LIFETIME_MS, items, sizeof items - 1);
+    try_ask("ask, lifetime 0", NO_LIFETIME_MS, items, sizeof items);
+    /* HWMP_BAD_LIST */
+    put_item(items, 1, NO_FLAGS, FAR);
+    try_ask("ask, an address twice", LIFETIME_MS, items, sizeof items);
+    /* HWMP_ABOUT_ITSELF */
+    put_item(items, 1, NO_FLAGS, SELF);
+    try_ask("ask, the own address", LIFETIME_MS, items, sizeof items);
 }
 
 static void break_off(void)
 {
-    try_break("break, the own address", 1000, own);
-    try_break("break", 1000, neighbour);
-    try_break("break once more", 1001, neighbour);
-    try_break("break, the clock gone back", 1000, neighbour);
+    /* HWMP_FROM_ITSELF */
+    try_break("break, the own address", BREAK_MS, SELF);
+    try_break("break", BREAK_MS, NEIGHBOUR);
+    /* Accepted without a frame: no active row leads through the neighbour any more. */
+    try_break("break once more", SECOND_BREAK_MS, NEIGHBOUR);
+    /* HWMP_OLD_CLOCK */
+    try_break("break, the clock gone back", BREAK_MS, NEIGHBOUR);
 }
 
 int main(void)
 {
-    if (hwmp_fresh(table, sizeof table, own, 100) != HWMP_ACCEPTED)
+    if (!rows_learnt())
         return 1;
-    write_row(0, far, neighbour, 2);
-    write_row(2, neighbour, neighbour, 1);
-    write_row(3, other, other, 1);
-
     ask();
-    print_outcome("announce", hwmp_announce(table, sizeof table, output, sizeof output,
-                                            HWMP_PORTAL, 5000));
-    print_outcome("root request", hwmp_root_request(table, sizeof table, output, sizeof output,
-                                                    HWMP_REPLY_WANTED, 5000));
-    print_outcome("root request, output too short",
-                  hwmp_root_request(table, sizeof table, output, sizeof output - 1, 0, 5000));
+    print_outcome("announce", hwmp_announce(tables[SELF], sizeof tables[SELF], output,
+                                            sizeof output, HWMP_PORTAL, LIFETIME_MS));
+    try_root_request("root request", sizeof output, HWMP_REPLY_WANTED);
+    /* HWMP_SHORT_OUTPUT */
+    try_root_request("root request, output too short", sizeof output - 1, NO_FLAGS);
     break_off();
     return 0;
 }

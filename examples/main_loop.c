@@ -1,6 +1,6 @@
 /*
- * The main loop of a box. It allocates nothing, blocks nowhere and does a bounded amount of
- * work in each turn.
+ * The main loop of a box. It allocates nothing, never blocks and does a bounded amount of work
+ * in each turn.
  * Build: cc -std=c11 -Iinclude examples/main_loop.c examples/main_loop_mesh.c \
  *            target/staticlib/libhwmp.a -o main_loop
  */
@@ -8,15 +8,18 @@
 
 #include <string.h>
 
-/* Where the latest clock stands in a table, in so many octets. */
-enum { CLOCK_AT = 16, CLOCK_OCTETS = 8 };
+/* The latest clock in a table: its octets, and the bits of each. */
+enum { CLOCK_OCTETS = 8, OCTET_BITS = 8 };
+
+/* Flags of an item: a point on the way may reply from its row, too. */
+enum { ANY_MAY_REPLY = 0 };
 
 /* ---- answers */
 
 /*
- * Most refusals are traffic: the element is old, comes back to its originator, has no hop
- * left, names no route of ours or is no element at all. The table has not changed, and there
- * is nothing to do.
+ * Returns what an answer means for the box. Most refusals are ordinary traffic: the element is
+ * old, came back to its originator, has no hop left, names no row of ours, or is no element at
+ * all. The table has not changed, and the box has nothing to do.
  */
 static enum box_state state_after(uint32_t answer)
 {
@@ -35,6 +38,7 @@ static enum box_state state_after(uint32_t answer)
     }
 }
 
+/* Counts an answer, and keeps the worst state of this turn. */
 static void count(struct box *box, uint32_t answer)
 {
     enum box_state state = state_after(answer);
@@ -45,23 +49,24 @@ static void count(struct box *box, uint32_t answer)
         box->state = state;
 }
 
-/* The second octet of an element counts the octets after it. */
+/* Splits the output into frames and sends each to its receiver. */
 static void send_frames(const struct box *box, struct hwmp_outcome outcome)
 {
-    const uint8_t *receiver = box->output;
+    const uint8_t *frame = box->output;
 
     for (uint32_t i = 0; i < outcome.frames; i++) {
-        const uint8_t *element = receiver + HWMP_ADDRESS_OCTETS;
-        size_t element_len = 2 + (size_t)element[1];
+        size_t frame_len = HWMP_FRAME_OCTETS(frame);
 
-        radio_send(box->board, receiver, element, element_len);
-        receiver = element + element_len;
+        radio_send(box->board, frame, frame + HWMP_FRAME_ELEMENT_AT,
+                   frame_len - HWMP_FRAME_ELEMENT_AT);
+        frame += frame_len;
     }
 }
 
 /*
- * The table is kept before its frames are sent: a frame may be lost, but no box may hear a
- * sequence number that this one does not know of after a restart.
+ * Counts the answer of a call. If the call was accepted, keeps the table and then sends the
+ * frames. The order matters: a frame may be lost, but no box may hear a sequence number that
+ * this box does not know after a restart.
  */
 static void settle(struct box *box, struct hwmp_outcome outcome)
 {
@@ -72,7 +77,7 @@ static void settle(struct box *box, struct hwmp_outcome outcome)
     send_frames(box, outcome);
 }
 
-/* ---- what comes from the radio */
+/* ---- what the radio reports */
 
 static void report_breaks(struct box *box, uint64_t now)
 {
@@ -95,6 +100,7 @@ static void receive_elements(struct box *box, uint64_t now)
 
 /* ---- what is due */
 
+/* Reports whether something is due, and sets when it is due next. Period 0 means never. */
 static bool is_due(uint64_t *due, uint32_t period, uint64_t now)
 {
     if (period == 0 || now < *due)
@@ -120,7 +126,10 @@ static void request_as_root_if_due(struct box *box, uint64_t now)
 
 /* ---- scans */
 
-/* Where a destination's holdoff is noted: its place, else one whose holdoff is over. */
+/*
+ * Returns the place that notes the holdoff of a destination. If there is none yet, returns a
+ * place whose holdoff is over, or NULL if there is none.
+ */
 static struct box_asked *place_for(struct box *box, const uint8_t *destination, uint64_t now)
 {
     struct box_asked *over = NULL;
@@ -136,22 +145,29 @@ static struct box_asked *place_for(struct box *box, const uint8_t *destination, 
     return over;
 }
 
-/* A request floods the mesh, so scans that find no row in quick succession ask but once. */
+/*
+ * Asks for a destination, but only once within a holdoff: many scans may lack the row, and each
+ * request goes through the whole mesh.
+ */
 static void ask_unless_held_off(struct box *box, const uint8_t *destination, uint64_t now)
 {
-    uint8_t item[HWMP_ITEM_OCTETS] = {0};
+    uint8_t item[HWMP_ITEM_OCTETS];
     struct box_asked *asked = place_for(box, destination, now);
 
     if (asked == NULL || asked->until > now)
         return;
     memcpy(asked->destination, destination, HWMP_ADDRESS_OCTETS);
     asked->until = now + BOX_HOLDOFF_MS;
-    memcpy(item + 1, destination, HWMP_ADDRESS_OCTETS);
+    item[HWMP_ITEM_FLAGS_AT] = ANY_MAY_REPLY;
+    memcpy(item + HWMP_ITEM_ADDRESS_AT, destination, HWMP_ADDRESS_OCTETS);
     settle(box, hwmp_ask(box->table, sizeof box->table, box->output, sizeof box->output,
                          BOX_LIFETIME_MS, item, sizeof item));
 }
 
-/* A scan without an active row is dropped: a later one finds the row that was asked for. */
+/*
+ * Sends a scan to the next hop of its destination. Without an active row the box drops the scan
+ * and asks for the destination, so that a later scan finds the row.
+ */
 static void forward(struct box *box, struct box_scan *scan, uint64_t now)
 {
     struct hwmp_hop hop =
@@ -180,17 +196,17 @@ static void take_scans(struct box *box, uint64_t now)
 
 /* ---- the loop */
 
-/* Lowest octet first, whatever the processor does. */
+/* The table has the lowest octet first, on every processor. */
 uint64_t box_latest_clock(const struct box *box)
 {
     uint64_t clock = 0;
 
     for (size_t i = 0; i < CLOCK_OCTETS; i++)
-        clock |= (uint64_t)box->table[CLOCK_AT + i] << (8 * i);
+        clock |= (uint64_t)box->table[HWMP_LATEST_CLOCK_AT + i] << (OCTET_BITS * i);
     return clock;
 }
 
-/* Breaks go first, so that no scan is sent to a neighbour that is known to be lost. */
+/* The turn takes breaks first, so that no scan goes to a neighbour that is known to be lost. */
 enum box_state box_turn(struct box *box)
 {
     uint64_t now = clock_ms(box->board);
@@ -204,7 +220,10 @@ enum box_state box_turn(struct box *box)
     return box->state;
 }
 
-/* No table has a row for its own address, so of a sound table the answer is HWMP_NO_NEXT_HOP. */
+/*
+ * Judges the table that was kept, through a next hop for the own address. No table has a row
+ * for its own address, so the answer for a sound table is HWMP_NO_NEXT_HOP.
+ */
 static enum box_state state_of_kept(const struct box *box, uint64_t now)
 {
     const uint8_t *own = box->config.own;

@@ -1,7 +1,7 @@
 /*
- * One box of a mesh: a point's table and buffers, and the main loop over them, for firmware
- * with a radio, a millisecond clock and no operating system. main_loop.c can be taken over as
- * it is; main_loop_mesh.c stands in for the hardware and plays three boxes.
+ * One box of a mesh: a point's table and buffers, and the main loop over them. The loop is for
+ * firmware with a radio, a millisecond clock and no operating system. Firmware can use
+ * main_loop.c as it is. main_loop_mesh.c stands in for the hardware of three boxes.
  */
 #ifndef MAIN_LOOP_H
 #define MAIN_LOOP_H
@@ -13,52 +13,51 @@
 #include "hwmp.h"
 
 enum {
-    /* A row for every other box of a mesh of 16, so that there is always one free. */
+    /* A row for every other box of a mesh of 16 boxes: HWMP_NO_ROOM then never comes. */
     BOX_ROWS = 15,
-    /* The longest element: its second octet counts at most 255 after it. */
-    BOX_ELEMENT_OCTETS = 257,
     BOX_SCAN_OCTETS = 32,
-    /* At most so many elements, broken neighbours and scans are taken in one turn of the loop. */
+    /* The most elements, the most broken neighbours and the most scans in one turn. */
     BOX_PER_TURN = 16,
-    /* So many destinations may be asked for within one holdoff. */
+    /* The most destinations that the box asks for within one holdoff. */
     BOX_ASKED = 4,
     BOX_HOLDOFF_MS = 1500,
-    /* For several periods of an announcement, so that one may be lost. */
+    /* Longer than several periods of an announcement, so that one announcement may be lost. */
     BOX_LIFETIME_MS = 10000,
-    /* Answers of the calls that the loop makes are below this. */
+    /* Every answer that the loop can get is below this. */
     BOX_ANSWERS = HWMP_NOT_HELD + 1
 };
 
-/* How a turn went, from good to bad: what the firmware has to see to. */
+/* How a turn went, from good to bad. Firmware must act on every state but BOX_WELL. */
 enum box_state {
     BOX_WELL,
     BOX_TABLE_FULL,      /* the mesh has more boxes than the table has rows */
-    BOX_CLOCK_WENT_BACK, /* nothing is received or forwarded until the clock is right */
-    BOX_DAMAGED          /* memory or firmware is at fault; start again */
+    BOX_CLOCK_WENT_BACK, /* the box receives and forwards nothing until the clock is right */
+    BOX_DAMAGED          /* memory or firmware is at fault: start the box again */
 };
 
+/* The hardware, which main_loop.c only hands on. */
 struct board;
 
 struct box_config {
     uint8_t own[HWMP_ADDRESS_OCTETS];
-    /* Sequence number of a box that starts for the first time. */
+    /* The own sequence number of a box that starts for the first time. */
     uint32_t first_number;
-    /* Periods in milliseconds; 0 is never. */
+    /* Periods in milliseconds. 0 means never. */
     uint32_t announcement_period;
     uint32_t root_request_period;
 };
 
-/* An element as the radio heard it, over a link of that metric at that moment. */
+/* An element that the radio received, and the metric of its link at that moment. */
 struct box_heard {
     uint8_t transmitter[HWMP_ADDRESS_OCTETS];
     uint32_t link_metric;
     size_t element_len;
-    uint8_t element[BOX_ELEMENT_OCTETS];
+    uint8_t element[HWMP_MAX_ELEMENT_OCTETS];
 };
 
 /*
- * What the mesh carries. The TTL bounds its way: the tables have no loop at any moment, but
- * they may change while a scan is under way.
+ * A scan, which is what the mesh carries. Its TTL bounds its way: the tables have no loop at
+ * any moment, but they may change while the scan is under way.
  */
 struct box_scan {
     uint8_t destination[HWMP_ADDRESS_OCTETS];
@@ -66,6 +65,7 @@ struct box_scan {
     uint8_t octets[BOX_SCAN_OCTETS];
 };
 
+/* A destination that the box does not ask for again before a clock. */
 struct box_asked {
     uint8_t destination[HWMP_ADDRESS_OCTETS];
     uint64_t until;
@@ -80,49 +80,58 @@ struct box {
     struct box_asked asked[BOX_ASKED];
     uint64_t announcement_due;
     uint64_t root_request_due;
+    /* How often the box got each answer since it started. */
     uint32_t answers[BOX_ANSWERS];
     enum box_state state;
 };
 
 /*
- * Starts a box, or starts it again with the table that was kept. A fresh table is made only
- * where none was kept: docs/FIRMWARE.md says what a second one costs.
+ * Starts a box, or starts it again with the table that it kept. Makes a fresh table only if no
+ * table was kept: docs/FIRMWARE.md, 'Restart', says what a second fresh table costs.
  */
 enum box_state box_start(struct box *box, const struct box_config *config, struct board *board);
 
-/* One turn of the loop. Gives the worst state that was met in it. */
+/* Makes one turn of the loop. Returns the worst state that it met. */
 enum box_state box_turn(struct box *box);
 
-/* The latest clock that the table has: a clock that lost its time can go on from there. */
+/* Returns the latest clock in the table. A clock that lost its time can go on from there. */
 uint64_t box_latest_clock(const struct box *box);
 
-/* ---- What the firmware provides. None of these may call the library on the same table. */
+/* ---- What the firmware provides. None of these may call the library on the box's table. */
 
-/* Never goes back, over a restart either. */
+/* Returns the clock. It must never go back, not even over a restart. */
 uint64_t clock_ms(struct board *board);
 
-/* Takes the oldest element received; false if there is none. Longer ones are dropped. */
+/*
+ * Takes the oldest element received. Returns false if there is none. The firmware must drop an
+ * element that is longer than HWMP_MAX_ELEMENT_OCTETS.
+ */
 bool radio_receive(struct board *board, struct box_heard *heard);
 
-/* Sends an element to a neighbour, or to all if the receiver is all ones. */
+/* Sends an element to a neighbour, or to every neighbour if the receiver is all ones. */
 void radio_send(struct board *board, const uint8_t receiver[HWMP_ADDRESS_OCTETS],
                 const uint8_t *element, size_t element_len);
 
-/* Gives each neighbour once that the radio has sent to in vain since; false if there is none. */
+/*
+ * Takes a neighbour that the radio has given up sending to. Returns false if there is none.
+ * The firmware must report each failure once.
+ */
 bool radio_gave_up(struct board *board, uint8_t neighbour[HWMP_ADDRESS_OCTETS]);
 
-/* Takes the oldest scan, heard or made by this box; false if there is none. */
+/* Takes the oldest scan, received or made by this box. Returns false if there is none. */
 bool scan_receive(struct board *board, struct box_scan *scan);
+/* Sends a scan to a neighbour. */
 void scan_send(struct board *board, const uint8_t next_hop[HWMP_ADDRESS_OCTETS],
                const struct box_scan *scan);
-/* A scan for this box. */
+/* Takes a scan for this box. */
 void scan_arrived(struct board *board, const struct box_scan *scan);
 
 /*
- * Keeps the table over a restart, whole: if power fails meanwhile, the one kept before is
- * still there. Recalls the last one kept; false if none ever was.
+ * Keeps the table over a restart, whole: if power fails meanwhile, the table kept before is
+ * still there.
  */
 void memory_keep(struct board *board, const uint8_t *table, size_t table_len);
+/* Brings back the last table kept. Returns false if none was ever kept. */
 bool memory_recall(struct board *board, uint8_t *table, size_t table_len);
 
 #endif

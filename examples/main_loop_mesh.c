@@ -1,9 +1,9 @@
 /*
  * Stands in for the hardware below main_loop.c: three boxes in one process, a clock that
- * counts turns, and a radio between them. Box 0 sends a scan to box 2 every second. Box 2 is
- * put up late; an octet of box 1's table is damaged; boxes 1 and 2 lose their link and get it
- * back; box 1 loses its power and its clock. Prints what is sent, what arrives and what each
- * box was answered.
+ * counts turns, and a radio between the boxes. Box 0 sends a scan to box 2 every second.
+ * Meanwhile box 2 is put up late, an octet of box 1's table is damaged, boxes 1 and 2 lose
+ * their link and get it back, and box 1 loses its power and its clock. The program prints what
+ * the boxes send, which scans arrive, and which answers each box got from the library.
  */
 #include <inttypes.h>
 #include <stdio.h>
@@ -11,22 +11,42 @@
 
 #include "main_loop.h"
 
+enum { BOX_0, BOX_1, BOX_2, BOXES };
+
 enum {
-    BOXES = 3,
     TURN_MS = 10,
-    END_MS = 12500,
     SCAN_EVERY_MS = 1000,
     SCAN_TTL = 8,
-    /* What is sent to a full queue is lost, as on a real radio. */
+    /* Where a scan of this program has its number. */
+    SCAN_NUMBER_AT = 0,
+    /* A frame or scan that meets a full queue is lost, as on a real radio. */
     QUEUE = 8
 };
 
-static const uint8_t all_ones[HWMP_ADDRESS_OCTETS] = {255, 255, 255, 255, 255, 255};
+/* When things happen. */
+enum {
+    START_MS = 0,
+    BOX_2_UP_MS = 1500,
+    DAMAGE_MS = 2500,
+    LINK_LOST_MS = 5500,
+    LINK_BACK_MS = 9500,
+    POWER_LOST_MS = 10500,
+    END_MS = 12500
+};
 
+/* Link metrics: between boxes 0 and 1, between boxes 1 and 2, and between boxes 0 and 2. */
+enum { NO_LINK = 0, FIRST_LINK = 10, GOOD_LINK = 20, BAD_LINK = 200 };
+
+/* The bit that the damage flips in the status of box 1's first row. */
+enum { DAMAGED_BIT = 0x80 };
+
+static const uint8_t all_ones[HWMP_ADDRESS_OCTETS] = HWMP_ALL_ONES;
+
+/* All boxes begin with own number 0. Box 2 is a portal and the root. */
 static const struct box_config configs[BOXES] = {
-    {{2, 0, 0, 0, 0, 1}, 0, 0, 0},
-    {{2, 0, 0, 0, 0, 2}, 0, 0, 0},
-    {{2, 0, 0, 0, 0, 3}, 0, 4000, 10000},
+    {.own = {2, 0, 0, 0, 0, 1}},
+    {.own = {2, 0, 0, 0, 0, 2}},
+    {.own = {2, 0, 0, 0, 0, 3}, .announcement_period = 4000, .root_request_period = 10000},
 };
 
 struct board {
@@ -35,7 +55,7 @@ struct board {
     struct box_scan scans[QUEUE];
     size_t scans_first, scans_count;
     bool gave_up[BOXES];
-    /* The clock counts from there since the box got its power. */
+    /* The box got its power at powered_at. Its clock had the value clock_base then. */
     uint64_t clock_base, powered_at;
     bool is_kept;
     uint8_t kept[HWMP_TABLE_OCTETS(BOX_ROWS)];
@@ -45,7 +65,7 @@ static struct board boards[BOXES];
 static struct box boxes[BOXES];
 static uint64_t now_ms;
 
-/* The metric of the link between two boxes at the moment; 0 is no link. */
+/* The metric of the link between two boxes at the moment. */
 static uint32_t links[BOXES][BOXES];
 
 static void set_link(size_t a, size_t b, uint32_t metric)
@@ -59,7 +79,7 @@ static size_t number_of(const struct board *board)
     return (size_t)(board - boards);
 }
 
-/* BOXES if no box has the address. */
+/* Returns the number of the box that has the address, or BOXES if there is none. */
 static size_t box_at(const uint8_t address[HWMP_ADDRESS_OCTETS])
 {
     size_t i = 0;
@@ -94,14 +114,15 @@ bool memory_recall(struct board *board, uint8_t *table, size_t table_len)
 
 /* ---- radio: elements */
 
-static const char *name_of(uint8_t id)
+/* Returns the name of an element's type, by its ID, which is the first octet. */
+static const char *name_of(const uint8_t *element)
 {
-    switch (id) {
-    case 126:
+    switch (element[0]) {
+    case HWMP_RANN:
         return "RANN";
-    case 130:
+    case HWMP_RREQ:
         return "RREQ";
-    case 131:
+    case HWMP_RREP:
         return "RREP";
     default:
         return "RERR";
@@ -124,18 +145,18 @@ static void queue_element(size_t from, size_t to, const uint8_t *element, size_t
 
 static void send_to_all(size_t from, const uint8_t *element, size_t element_len)
 {
-    printf("%5" PRIu64 " ms: box %zu sends %s to all\n", now_ms, from, name_of(element[0]));
+    printf("%5" PRIu64 " ms: box %zu sends %s to all\n", now_ms, from, name_of(element));
     for (size_t to = 0; to < BOXES; to++)
-        if (links[from][to] != 0)
+        if (links[from][to] != NO_LINK)
             queue_element(from, to, element, element_len);
 }
 
-/* Whether the neighbour is in reach; if not, the radio gives up on it. */
+/* Reports whether a box is in reach. If it is not, the radio gives up on it. */
 static bool reaches(struct board *board, size_t to)
 {
     if (to == BOXES)
         return false;
-    if (links[number_of(board)][to] != 0)
+    if (links[number_of(board)][to] != NO_LINK)
         return true;
     board->gave_up[to] = true;
     return false;
@@ -151,7 +172,7 @@ void radio_send(struct board *board, const uint8_t receiver[HWMP_ADDRESS_OCTETS]
         send_to_all(from, element, element_len);
         return;
     }
-    printf("%5" PRIu64 " ms: box %zu sends %s to box %zu\n", now_ms, from, name_of(element[0]),
+    printf("%5" PRIu64 " ms: box %zu sends %s to box %zu\n", now_ms, from, name_of(element),
            to);
     if (reaches(board, to))
         queue_element(from, to, element, element_len);
@@ -180,7 +201,7 @@ bool radio_gave_up(struct board *board, uint8_t neighbour[HWMP_ADDRESS_OCTETS])
     return false;
 }
 
-/* ---- radio: scans. The first octet of one is its number. */
+/* ---- radio: scans */
 
 static void queue_scan(struct board *board, const struct box_scan *scan)
 {
@@ -195,7 +216,7 @@ void scan_send(struct board *board, const uint8_t next_hop[HWMP_ADDRESS_OCTETS],
     size_t to = box_at(next_hop);
 
     printf("%5" PRIu64 " ms: box %zu sends scan %d to box %zu\n", now_ms, number_of(board),
-           scan->octets[0], to);
+           scan->octets[SCAN_NUMBER_AT], to);
     if (reaches(board, to))
         queue_scan(&boards[to], scan);
 }
@@ -212,21 +233,23 @@ bool scan_receive(struct board *board, struct box_scan *scan)
 
 void scan_arrived(struct board *board, const struct box_scan *scan)
 {
-    printf("%5" PRIu64 " ms: scan %d is at box %zu, hops: %d\n", now_ms, scan->octets[0],
-           number_of(board), SCAN_TTL - scan->ttl);
+    printf("%5" PRIu64 " ms: scan %d is at box %zu, hops: %d\n", now_ms,
+           scan->octets[SCAN_NUMBER_AT], number_of(board), SCAN_TTL - scan->ttl);
 }
 
 /* ---- the run */
 
+/* Gives box 0 a scan for box 2. */
 static void make_scan(void)
 {
     struct box_scan scan = {.ttl = SCAN_TTL};
 
-    memcpy(scan.destination, configs[2].own, HWMP_ADDRESS_OCTETS);
-    scan.octets[0] = (uint8_t)(now_ms / SCAN_EVERY_MS);
-    queue_scan(&boards[0], &scan);
+    memcpy(scan.destination, configs[BOX_2].own, HWMP_ADDRESS_OCTETS);
+    scan.octets[SCAN_NUMBER_AT] = (uint8_t)(now_ms / SCAN_EVERY_MS);
+    queue_scan(&boards[BOX_0], &scan);
 }
 
+/* Lets the clock of a box that lost its time go on from the latest clock in its table. */
 static void set_clock(size_t i)
 {
     printf("%5" PRIu64 " ms: box %zu has its clock go on from its table\n", now_ms, i);
@@ -234,6 +257,7 @@ static void set_clock(size_t i)
     boards[i].powered_at = now_ms;
 }
 
+/* Starts a box, or starts it again. Returns false if it cannot start. */
 static bool start(size_t i)
 {
     enum box_state state = box_start(&boxes[i], &configs[i], &boards[i]);
@@ -250,41 +274,41 @@ static void happen(const char *what)
     printf("%5" PRIu64 " ms: -- %s\n", now_ms, what);
 }
 
-/* What happens to the mesh from outside; false if a box cannot start again after it. */
+/* Does to the mesh what happens now. Returns false if a box cannot start again after it. */
 static bool events(void)
 {
     switch (now_ms) {
-    case 0:
-        set_link(0, 1, 10);
+    case START_MS:
+        set_link(BOX_0, BOX_1, FIRST_LINK);
         return true;
-    case 1500:
+    case BOX_2_UP_MS:
         happen("box 2 is put up: a good link to box 1, a bad one to box 0");
-        set_link(1, 2, 20);
-        set_link(0, 2, 200);
+        set_link(BOX_1, BOX_2, GOOD_LINK);
+        set_link(BOX_0, BOX_2, BAD_LINK);
         return true;
-    case 2500:
+    case DAMAGE_MS:
         happen("an octet of box 1's table is damaged");
-        boxes[1].table[HWMP_HEAD_OCTETS] ^= 0x80;
+        boxes[BOX_1].table[HWMP_HEAD_OCTETS] ^= DAMAGED_BIT;
         return true;
-    case 5500:
+    case LINK_LOST_MS:
         happen("the good link is lost");
-        set_link(1, 2, 0);
+        set_link(BOX_1, BOX_2, NO_LINK);
         return true;
-    case 9500:
+    case LINK_BACK_MS:
         happen("the good link is back");
-        set_link(1, 2, 20);
+        set_link(BOX_1, BOX_2, GOOD_LINK);
         return true;
-    case 10500:
+    case POWER_LOST_MS:
         happen("box 1 loses its power, and its clock counts from 0 again");
-        boards[1].clock_base = 0;
-        boards[1].powered_at = now_ms;
-        return start(1);
+        boards[BOX_1].clock_base = 0;
+        boards[BOX_1].powered_at = now_ms;
+        return start(BOX_1);
     default:
         return true;
     }
 }
 
-/* What firmware does about the state of a turn; false if that did not help. */
+/* Does what firmware must do about the state of a turn. Returns false if it did not help. */
 static bool see_to(size_t i, enum box_state state)
 {
     switch (state) {
@@ -325,7 +349,7 @@ int main(void)
     for (size_t i = 0; i < BOXES; i++)
         if (!start(i))
             return 1;
-    for (now_ms = 0; now_ms < END_MS; now_ms += TURN_MS) {
+    for (now_ms = START_MS; now_ms < END_MS; now_ms += TURN_MS) {
         if (!events())
             return 1;
         if (now_ms % SCAN_EVERY_MS == 0)

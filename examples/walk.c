@@ -1,6 +1,6 @@
 /*
- * Walks over the tables of three points in a row, which learn of the last one from its
- * announcement; then the link between the last two breaks.
+ * Walks over the tables of three points in a row. The first two learn of the last one from its
+ * announcement. Then the link between the last two breaks.
  * Build: cc -std=c11 -Iinclude examples/walk.c target/staticlib/libhwmp.a -o walk
  */
 #include <inttypes.h>
@@ -9,36 +9,47 @@
 
 #include "hwmp.h"
 
-enum { POINTS = 3, ROWS = 4, LIFETIME = 1000 };
+enum { FIRST, MIDDLE, LAST, POINTS };
 
-#define TABLE HWMP_TABLE_OCTETS(ROWS)
+enum { ROWS = 4, FIRST_NUMBER = 0, LINK_METRIC = 10, NO_FLAGS = 0, NO_TABLES = 0 };
 
-static const uint8_t points[POINTS][6] = {
+/* Milliseconds. The rows expire a lifetime after the start. */
+enum { START_MS = 0, LIFETIME_MS = 1000, EXPIRED_MS = START_MS + LIFETIME_MS };
+
+#define TABLE_OCTETS HWMP_TABLE_OCTETS(ROWS)
+
+static const uint8_t points[POINTS][HWMP_ADDRESS_OCTETS] = {
     {2, 0, 0, 0, 0, 1}, {2, 0, 0, 0, 0, 2}, {2, 0, 0, 0, 0, 3}};
-static const uint8_t stranger[6] = {2, 0, 0, 0, 0, 9};
+static const uint8_t stranger[HWMP_ADDRESS_OCTETS] = {2, 0, 0, 0, 0, 9};
 
 /* The tables of all points side by side, as a walk takes them. */
-static uint8_t tables[POINTS * TABLE];
+static uint8_t tables[POINTS * TABLE_OCTETS];
 static uint8_t output[HWMP_OUTPUT_OCTETS];
 
-/* Hands the element of the one frame in the output on to a point, over a link of metric 10. */
-static void pass_on(size_t from, size_t to)
+static uint8_t *table_of(size_t point)
 {
-    uint8_t element[257];
-    size_t length = 2 + (size_t)output[7];
+    return tables + point * TABLE_OCTETS;
+}
 
-    memcpy(element, output + 6, length);
+/* Hands the element of the one frame in the output to a point. */
+static void deliver(size_t from, size_t to)
+{
+    uint8_t element[HWMP_MAX_ELEMENT_OCTETS];
+    size_t element_len = HWMP_FRAME_OCTETS(output) - HWMP_FRAME_ELEMENT_AT;
+
+    memcpy(element, output + HWMP_FRAME_ELEMENT_AT, element_len);
     printf("point %zu hears point %zu: %" PRIu32 "\n", to, from,
-           hwmp_receive(tables + to * TABLE, TABLE, output, sizeof output, 0, points[from], 10,
-                        element, length)
+           hwmp_receive(table_of(to), TABLE_OCTETS, output, sizeof output, START_MS,
+                        points[from], LINK_METRIC, element, element_len)
                .answer);
 }
 
-static void walk(const char *what, uint32_t count, uint64_t clock, const uint8_t start[6],
-                 const uint8_t destination[6])
+static void walk(const char *what, uint32_t count, uint64_t clock,
+                 const uint8_t start[HWMP_ADDRESS_OCTETS],
+                 const uint8_t destination[HWMP_ADDRESS_OCTETS])
 {
     struct hwmp_walked walked =
-        hwmp_walk(tables, count * TABLE, count, clock, start, destination);
+        hwmp_walk(tables, count * TABLE_OCTETS, count, clock, start, destination);
 
     printf("%s: %" PRIu32 ", %" PRIu32 " hops\n", what, walked.answer, walked.hops);
 }
@@ -46,22 +57,28 @@ static void walk(const char *what, uint32_t count, uint64_t clock, const uint8_t
 int main(void)
 {
     for (size_t i = 0; i < POINTS; i++)
-        hwmp_fresh(tables + i * TABLE, TABLE, points[i], 0);
-    walk("before any announcement", POINTS, 0, points[0], points[2]);
+        if (hwmp_fresh(table_of(i), TABLE_OCTETS, points[i], FIRST_NUMBER) != HWMP_ACCEPTED)
+            return 1;
+    /* HWMP_NO_ROUTE */
+    walk("before any announcement", POINTS, START_MS, points[FIRST], points[LAST]);
 
-    hwmp_announce(tables + 2 * TABLE, TABLE, output, sizeof output, 0, LIFETIME);
-    pass_on(2, 1);
-    pass_on(1, 0);
-    walk("from the first to the last", POINTS, 0, points[0], points[2]);
-    walk("from the last to itself", POINTS, 0, points[2], points[2]);
-    walk("to one that is no point here", 2, 0, points[0], points[2]);
-    walk("to one that nobody knows", POINTS, 0, points[0], stranger);
-    walk("when the rows have expired", POINTS, LIFETIME, points[0], points[2]);
+    hwmp_announce(table_of(LAST), TABLE_OCTETS, output, sizeof output, NO_FLAGS, LIFETIME_MS);
+    deliver(LAST, MIDDLE);
+    deliver(MIDDLE, FIRST);
+    walk("from the first to the last", POINTS, START_MS, points[FIRST], points[LAST]);
+    walk("from the last to itself", POINTS, START_MS, points[LAST], points[LAST]);
+    /* The last table is left out. The walk ends at its address all the same. */
+    walk("to one that is no point here", POINTS - 1, START_MS, points[FIRST], points[LAST]);
+    /* HWMP_NO_ROUTE */
+    walk("to one that nobody knows", POINTS, START_MS, points[FIRST], stranger);
+    walk("when the rows have expired", POINTS, EXPIRED_MS, points[FIRST], points[LAST]);
 
-    hwmp_break(tables + TABLE, TABLE, output, sizeof output, 0, points[2]);
-    walk("after the break", POINTS, 0, points[0], points[2]);
+    /* HWMP_NO_ROUTE after one hop: the middle point has no active row any more. */
+    hwmp_break(table_of(MIDDLE), TABLE_OCTETS, output, sizeof output, START_MS, points[LAST]);
+    walk("after the break", POINTS, START_MS, points[FIRST], points[LAST]);
 
-    walk("from one that is no point", POINTS, 0, stranger, points[2]);
-    walk("over no tables", 0, 0, points[0], points[2]);
+    /* HWMP_BAD_LIST and HWMP_TABLE_LENGTH */
+    walk("from one that is no point", POINTS, START_MS, stranger, points[LAST]);
+    walk("over no tables", NO_TABLES, START_MS, points[FIRST], points[LAST]);
     return 0;
 }
