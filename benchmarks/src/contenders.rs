@@ -1,4 +1,4 @@
-//! The implementations that are compared, each as it is timed and with its calls counted.
+//! The implementations that are compared, each once as it is timed and once with its calls counted.
 
 use std::hint::black_box;
 
@@ -12,8 +12,8 @@ pub struct Contender {
     pub counted: Implementation,
 }
 
-/// Each call is made through a pointer that the compiler cannot see through, so none of it is
-/// moved out of the bracket.
+/// Makes each call through a pointer that the compiler cannot see through, so that it moves none of
+/// the call out of the bracket.
 macro_rules! contender {
     ($by:path) => {
         Contender {

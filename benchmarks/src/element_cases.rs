@@ -1,5 +1,5 @@
-//! What is timed of elements: reading every number, writing a frame and judging the list of
-//! the largest of each type. Both implementations are called as C would call them.
+//! What is timed for elements: reading every number, writing a frame and judging the list, for the
+//! largest element of each type. Both implementations are called as C would call them.
 
 use hwmp_tests::elements::{self, KINDS, Kind};
 use hwmp_tests::probe::{Probe, REFERENCE};
@@ -79,7 +79,7 @@ pub fn inputs(case: &ElementCase, random: &mut Random) -> Vec<Input> {
     (0..ELEMENTS).map(input).collect()
 }
 
-/// An element without a fault in its list, so that no search in it ends early.
+/// Returns an element without a fault in its list, so that no search in the list ends early.
 pub fn faultless(kind: &Kind, count: usize, random: &mut Random) -> Vec<u8> {
     loop {
         let element = elements::well_formed(kind, count, random);
@@ -89,7 +89,8 @@ pub fn faultless(kind: &Kind, count: usize, random: &mut Random) -> Vec<u8> {
     }
 }
 
-/// Times mean little unless all do the same work: 0 from each, and the same outcome.
+/// Times mean little unless all implementations do the same work. Each must answer 0, and all must
+/// have the same outcome.
 pub fn confirm(case: &ElementCase, inputs: &mut [Input], bys: &[&Probe]) {
     for input in inputs.iter_mut() {
         let mut outcomes = bys.iter().map(|by| {

@@ -1,5 +1,6 @@
-//! What the checked library costs beside plain Rust and beside Rust by the same method: in
-//! instructions, in time and in stack.
+//! Measures what the library costs compared with plain Rust and with Rust by the library's method:
+//! in instructions, in time and in stack. RESULTS.txt has the output of one run, and
+//! docs/PERFORMANCE.md explains it.
 
 mod cases;
 mod contenders;

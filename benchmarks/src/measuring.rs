@@ -1,4 +1,4 @@
-//! Every call on full tables of every size, on inputs that are the same for whatever is measured.
+//! Makes every call on full tables of every size. The inputs are the same whatever is measured.
 
 use hwmp_tests::implementation::Implementation;
 use hwmp_tests::random::Random;
@@ -17,7 +17,7 @@ pub struct Subject {
     pub rows: usize,
 }
 
-/// What can be found out about a call by each of several implementations.
+/// Measures a call by each of several implementations.
 pub trait Meter {
     fn measure<Input>(
         &mut self,
@@ -28,7 +28,8 @@ pub trait Meter {
     );
 }
 
-/// The calls that emit nothing also by the library's method in Rust.
+/// Measures all calls by the library and the reference. The calls that emit nothing are also
+/// measured in Rust by the library's method.
 pub fn measure_all(seed: u64, meter: &mut impl Meter) {
     for case in &SILENT {
         measure_case(case, seed, &[&LIBRARY, &REFERENCE, &SAME_METHOD], meter);

@@ -1,4 +1,4 @@
-//! What was measured of the calls, and its tables.
+//! Keeps what was measured for the calls, and prints it as tables.
 
 use hwmp_tests::implementation::Implementation;
 
@@ -12,8 +12,8 @@ const LIBRARY: usize = 0;
 pub const PLAIN: usize = 1;
 pub const SAME: usize = 2;
 
-/// The figures of one call at one number of rows, in the order of the contenders. There are no
-/// instructions if they could not be counted.
+/// The figures of one call at one number of rows, in the order of the contenders. `instructions` is
+/// empty if they could not be counted.
 struct Line {
     subject: Subject,
     instructions: Vec<f64>,
@@ -74,7 +74,8 @@ impl Report {
         Report { counts, lines }
     }
 
-    /// The library beside another contender, a line for each call that both were measured on.
+    /// Prints the library next to another contender, with a line for each call that both were
+    /// measured on.
     pub fn compare(&self, name: &str, other: usize) {
         println!(
             "{:<36}{:>28}{:>28}",
@@ -93,7 +94,7 @@ impl Report {
         println!();
     }
 
-    /// How cost grows with the number of rows.
+    /// Prints how cost grows with the number of rows.
     pub fn growth(&self) {
         if self.counts.is_some() {
             self.growth_in(&INSTRUCTIONS);
@@ -111,7 +112,8 @@ impl Report {
         self.by_rows(&format!("{name}, library/plain"), 2, ratio);
     }
 
-    /// A line for each call, a column for each number of rows: they were measured in this order.
+    /// Prints a line for each call and a column for each number of rows. The figures were measured
+    /// in this order.
     fn by_rows(&self, title: &str, decimals: usize, figure: impl Fn(&Line) -> f64) {
         let columns: String = ROWS.iter().map(|rows| format!("{rows:>9}")).collect();
         println!("{:<32}{columns}", format!("{title}; R ="));
@@ -124,7 +126,7 @@ impl Report {
     }
 }
 
-/// Dashes where nothing was measured.
+/// Returns dashes where nothing was measured.
 fn side_by_side(line: &Line, unit: &Unit, other: usize) -> String {
     let figures = (unit.figures)(line);
     if figures.is_empty() {

@@ -1,4 +1,4 @@
-//! The stack that the library's entries take.
+//! Measures the stack that the library's entries take.
 
 use std::arch::asm;
 
@@ -17,23 +17,24 @@ use crate::walk_cases;
 const OCTETS: usize = 16 * 1024;
 const PAINT: u8 = 0xa5;
 
-/// The caller's part at the top: arguments from the seventh on lie there, up to three, and 32
-/// octets keep the stack aligned. It does not count.
+/// The caller's part at the top, which does not count. Arguments from the seventh on lie there, up
+/// to three of them; 32 octets keep the stack aligned.
 const CALLER_OCTETS: usize = 32;
 
 #[repr(align(16))]
 struct Stack([u8; OCTETS]);
 
-/// A function of C by its name, and the answer that shows that it did all its work.
+/// A C function by its name, and the answer that shows that it did all its work.
 type Entry = (&'static str, *const (), u32);
 
-/// Calls a function on a painted stack; the lowest octet that lost its paint tells how deep
-/// it went, its return address included. The answer is held against the one given, so that a
-/// call refused early is not measured unseen.
+/// Calls a function on a painted stack. The lowest octet that lost its paint tells how deep the
+/// call went, its return address included. The answer must be the expected one, so that a call that
+/// is refused early does not pass unseen.
 ///
 /// # Safety
-/// The function must be one of C that may be called with these arguments, at most nine, and
-/// returns its answer in the low 32 bits of rax.
+///
+/// The function must be a C function that may be called with these arguments, at most nine, and
+/// must return its answer in the low 32 bits of rax.
 unsafe fn depth((name, function, expected): Entry, arguments: &[usize]) -> (&'static str, usize) {
     let mut all = [0; 9];
     all[..arguments.len()].copy_from_slice(arguments);
@@ -44,8 +45,8 @@ unsafe fn depth((name, function, expected): Entry, arguments: &[usize]) -> (&'st
     }
     let top = below.as_mut_ptr_range().end;
     let returned: u64;
-    // SAFETY: the stack is large enough for any entry and aligned as C asks; the caller
-    // vouches for the call.
+    // SAFETY: the stack is large enough for any entry and aligned as C requires. The caller vouches
+    // for the call.
     unsafe {
         asm!(
             "mov r12, rsp",
@@ -80,10 +81,10 @@ const RECEIVE: Entry = ("hwmp_receive", raw::hwmp_receive as _, ACCEPTED);
 const WALK: Entry = ("hwmp_walk", raw::hwmp_walk as _, ACCEPTED);
 const FRESH: Entry = ("hwmp_fresh", raw::hwmp_fresh as _, ACCEPTED);
 
-/// Arguments in their order, those that belong together as one part.
+/// Arguments in their order. Those that belong together form one part.
 type Parts<'a> = &'a [&'a [usize]];
 
-/// Each entry with its depth, on a table and with operands that make it do the most.
+/// Returns each entry with its depth, on a table and with operands that make it do the most.
 pub fn depths(random: &mut Random) -> [(&'static str, usize); 7] {
     let mut input = cases::largest(random);
     let table = [input.table.as_mut_ptr() as usize, input.table.len()];
@@ -91,7 +92,8 @@ pub fn depths(random: &mut Random) -> [(&'static str, usize); 7] {
     let items = [input.items.as_ptr() as usize, input.items.len()];
     let address = input.address.as_ptr() as usize;
     let (clock, lifetime, flags) = (CLOCK as usize, LIFETIME as usize, 1);
-    // The rows are lost last but one, and the table is overwritten last.
+    // The break, which loses the rows, comes last but one. Fresh, which overwrites the table, comes
+    // last.
     let calls: [(Entry, Parts); 7] = [
         (NEXT_HOP, &[&table, &[clock, address]]),
         (FORGET, &[&table, &[address]]),
@@ -101,12 +103,12 @@ pub fn depths(random: &mut Random) -> [(&'static str, usize); 7] {
         (BREAK, &[&table, &output, &[clock, address]]),
         (FRESH, &[&table, &[address, 7]]),
     ];
-    // SAFETY: all that is lent outlives the calls, and each entry gets the arguments that
+    // SAFETY: everything lent outlives the calls, and each entry gets the arguments that
     // include/hwmp.h declares.
     calls.map(|(entry, parts)| unsafe { depth(entry, &parts.concat()) })
 }
 
-/// Receive, with the type that goes deepest.
+/// Returns the depth of receive, for the type that goes deepest.
 pub fn receive_depth(random: &mut Random) -> (&'static str, usize) {
     let depths = cases::largest_received(random).map(|mut input| {
         let table = [input.table.as_mut_ptr() as usize, input.table.len()];
@@ -118,7 +120,7 @@ pub fn receive_depth(random: &mut Random) -> (&'static str, usize) {
         ];
         let element = [input.element.as_ptr() as usize, input.element.len()];
         let parts: Parts = &[&table, &output, &arrival, &element];
-        // SAFETY: all that is lent outlives the call, and the entry gets the arguments that
+        // SAFETY: everything lent outlives the call, and the entry gets the arguments that
         // include/hwmp.h declares.
         unsafe { depth(RECEIVE, &parts.concat()) }
     });
@@ -126,7 +128,7 @@ pub fn receive_depth(random: &mut Random) -> (&'static str, usize) {
     deepest.expect("four types")
 }
 
-/// The walk, through as many points and rows as there can be.
+/// Returns the depth of the walk, through the most points and rows that there can be.
 pub fn walk_depth(random: &mut Random) -> (&'static str, usize) {
     let input = walk_cases::input(16, 128, random);
     let arguments = [
@@ -137,7 +139,7 @@ pub fn walk_depth(random: &mut Random) -> (&'static str, usize) {
         input.start.as_ptr() as usize,
         input.destination.as_ptr() as usize,
     ];
-    // SAFETY: all that is lent outlives the call, and the entry gets the arguments that
+    // SAFETY: everything lent outlives the call, and the entry gets the arguments that
     // include/hwmp.h declares.
     unsafe { depth(WALK, &arguments) }
 }
@@ -151,7 +153,7 @@ const WRITE_SINGLY: Entry = (
 );
 const FAULTS: Entry = ("probe_faults", probe::raw::probe_faults as _, 0);
 
-/// The element functions, on the type whose list is read most closely.
+/// Returns the depth of the element functions, for the type whose list is read most closely.
 pub fn element_depths(random: &mut Random) -> [(&'static str, usize); 4] {
     let element = element_cases::faultless(&KINDS[1], 20, random);
     let element = [element.as_ptr() as usize, element.len()];
@@ -167,7 +169,7 @@ pub fn element_depths(random: &mut Random) -> [(&'static str, usize); 4] {
         (WRITE_SINGLY, &[&element, &[address], &out, &[0, 1]]),
         (FAULTS, &[&element, &[address]]),
     ];
-    // SAFETY: all that is lent outlives the calls, and each function gets the arguments that
-    // the tests declare for it.
+    // SAFETY: everything lent outlives the calls, and each function gets the arguments that the
+    // tests declare for it.
     calls.map(|(entry, parts)| unsafe { depth(entry, &parts.concat()) })
 }

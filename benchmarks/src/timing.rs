@@ -1,5 +1,5 @@
-//! Times several implementations side by side: short batches in turn, again and again, and
-//! the median of each, so that a disturbance of the machine meets all of them alike.
+//! Times several implementations side by side: short batches in turn, again and again, and the
+//! median of each. A disturbance of the machine then meets all of them alike.
 
 use std::hint::black_box;
 use std::time::Instant;
@@ -10,7 +10,7 @@ const BATCH_NANOSECONDS: f64 = 200_000.0;
 /// A call of one of the implementations on an input.
 pub type Call<By, Input> = fn(&By, &mut Input) -> u32;
 
-/// Median nanoseconds per call, in the order of the implementations.
+/// Returns the median nanoseconds per call, in the order of the implementations.
 pub fn nanoseconds<By, Input>(
     call: Call<By, Input>,
     inputs: &mut [Input],
@@ -28,14 +28,15 @@ pub fn nanoseconds<By, Input>(
     samples.into_iter().map(median).collect()
 }
 
-/// How often to go through the inputs to fill a batch; this also warms up.
+/// Returns how often to go through the inputs to fill a batch. This also warms up.
 fn passes<By, Input>(call: Call<By, Input>, inputs: &mut [Input], by: &By) -> usize {
     let once = batch(call, inputs, by, 100) * inputs.len() as f64;
     (BATCH_NANOSECONDS / once).ceil() as usize
 }
 
-/// Nanoseconds per call over some passes through the inputs. The implementation is called
-/// through a pointer that the compiler cannot see through, so none is inlined here.
+/// Returns the nanoseconds per call over some passes through the inputs. It calls the
+/// implementation through a pointer that the compiler cannot see through, so that nothing is
+/// inlined here.
 fn batch<By, Input>(call: Call<By, Input>, inputs: &mut [Input], by: &By, passes: usize) -> f64 {
     let start = Instant::now();
     for _ in 0..passes {

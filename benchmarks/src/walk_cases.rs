@@ -1,4 +1,4 @@
-//! Walks that are timed: full tables side by side, and a way through all their points to a
+//! The walks that are timed: full tables side by side, and a path through all their points to a
 //! destination that is none of them.
 
 use hwmp_tests::answers::ACCEPTED;
@@ -37,7 +37,7 @@ pub fn inputs(points: usize, rows: usize, random: &mut Random) -> Vec<Input> {
     (0..MESHES).map(input).collect()
 }
 
-/// The way leads through the last row of each table, so that each is searched to its end.
+/// The path leads through the last row of each table, so that each table is searched to its end.
 pub fn input(points: usize, rows: usize, random: &mut Random) -> Input {
     let tables = (0..points).map(|_| tables::full(rows, random));
     let mut tables: Vec<Vec<u8>> = tables.collect();
@@ -59,7 +59,7 @@ fn own_address(table: &[u8]) -> [u8; 6] {
     table[..6].try_into().expect("six octets")
 }
 
-/// Makes the last row one of known number that is active at the clock.
+/// Makes the last row active at the clock and of known number.
 fn lead(table: &mut [u8], destination: [u8; 6], next_hop: [u8; 6]) {
     let at = table.len() - ROW_OCTETS;
     let row = &mut table[at..];
@@ -69,8 +69,8 @@ fn lead(table: &mut [u8], destination: [u8; 6], next_hop: [u8; 6]) {
     row[24..].copy_from_slice(&(CLOCK + 1).to_le_bytes());
 }
 
-/// Times mean little unless all do the same work: the destination is met after as many hops as
-/// there are points.
+/// Times mean little unless all implementations do the same work. Each must meet the destination
+/// after as many hops as there are points.
 pub fn confirm(inputs: &[Input], bys: &[&Implementation]) {
     for input in inputs {
         let expected = Walked {

@@ -22,7 +22,7 @@ pub fn forget(by: &Implementation, input: &mut Input) -> u32 {
     (by.forget)(&mut input.table, &input.address)
 }
 
-/// Puts the last row back, which is the one forgotten.
+/// Forgets the last row and puts it back.
 pub fn forget_and_mend(by: &Implementation, input: &mut Input) -> u32 {
     let before = *input.table.last_chunk::<ROW_OCTETS>().expect("a row");
     let answer = forget(by, input);
@@ -59,8 +59,9 @@ pub fn break_and_mend(by: &Implementation, input: &mut Input) -> u32 {
     answer
 }
 
-/// Makes the rows valid again after they were lost: one octet a row, for all alike. The other
-/// tables have their turn before these octets are read, so that no read waits for them.
+/// Makes the lost rows valid again. It writes one octet a row, which is the same work for all
+/// implementations. The other tables have their turn before these octets are read, so no read waits
+/// for the writes.
 pub fn mend(input: &mut Input) {
     for row in input.table[HEAD_OCTETS..].chunks_exact_mut(ROW_OCTETS) {
         row[0] = 1;
@@ -76,7 +77,7 @@ pub fn spoil_head(input: &mut Input, _: &mut Random) {
     input.table[0] |= 1;
 }
 
-/// Makes the last row active at the clock and its destination the one asked for.
+/// Makes the last row active at the clock, and its destination the address asked for.
 pub fn want_last_row(input: &mut Input, _: &mut Random) {
     let row = input.table.len() - ROW_OCTETS;
     input.table[row] = 1;
@@ -86,7 +87,7 @@ pub fn want_last_row(input: &mut Input, _: &mut Random) {
         .copy_from_slice(&input.table[row + 4..row + 10]);
 }
 
-/// Names 20 destinations, by turns one of the rows, while there are any, and one without a
+/// Names 20 destinations: in turn one that has a row, as long as there are any, and one without a
 /// row.
 pub fn name_20(input: &mut Input, random: &mut Random) {
     let (rows, _) = input.table[HEAD_OCTETS..].as_chunks::<ROW_OCTETS>();
@@ -109,8 +110,8 @@ pub fn lead_through_neighbour(input: &mut Input, _: &mut Random) {
     lead_through(input.address, input);
 }
 
-/// The same through another neighbour, so that only the next hops keep the rows from being
-/// lost.
+/// Makes every row active at the clock, of known number and through another neighbour. Only their
+/// next hops keep the rows from being lost.
 pub fn lead_elsewhere(input: &mut Input, random: &mut Random) {
     lead_through(tables::individual(random).0, input);
 }

@@ -1,5 +1,5 @@
-//! What is timed: calls that check the whole table and then search it, one refused early, the
-//! making of a fresh table, the calls that emit, and receiving.
+//! The calls that are timed: calls that check the whole table and then search it, one that is
+//! refused early, the making of a fresh table, the calls that emit, and receiving.
 
 mod calls;
 mod receiving;
@@ -21,7 +21,7 @@ const TABLES: usize = 8;
 #[derive(Clone, PartialEq)]
 pub struct Input {
     pub table: Vec<u8>,
-    /// The destination or neighbour that is asked about, or the transmitter.
+    /// The destination or neighbour asked about, or the transmitter.
     pub address: [u8; 6],
     pub items: Vec<u8>,
     pub element: Vec<u8>,
@@ -36,7 +36,7 @@ pub struct Case {
     pub call: Call<Implementation, Input>,
     /// Turns a full table into one that suits the case.
     prepare: fn(&mut Input, &mut Random),
-    /// The frames to be emitted, by the number of rows.
+    /// How many frames the call must emit, by the number of rows.
     frames: fn(usize) -> usize,
 }
 
@@ -72,8 +72,8 @@ const fn emitting(
 
 fn nothing(_: &mut Input, _: &mut Random) {}
 
-/// The calls that emit nothing. Where a row was forgotten it is put back for the next call, and
-/// the time includes that.
+/// The calls that emit nothing. A forgotten row is put back for the next call, and the time
+/// includes this repair.
 pub const SILENT: [Case; 6] = [
     silent(
         "next hop, no such row",
@@ -103,8 +103,8 @@ pub const SILENT: [Case; 6] = [
     silent("fresh", ACCEPTED, calls::fresh, nothing),
 ];
 
-/// The calls that emit. The last case also makes the lost rows valid again for the next call,
-/// and its time includes that.
+/// The calls that emit. The last case also makes the lost rows valid again for the next call, and
+/// its time includes this repair.
 pub const EMITTING: [Case; 5] = [
     emitting("ask for 20", |_| 1, calls::ask, calls::name_20),
     emitting("announce", |_| 1, calls::announce, nothing),
@@ -123,9 +123,9 @@ pub const EMITTING: [Case; 5] = [
     ),
 ];
 
-/// Receiving, at a full table that has rows for the end of the path and for the transmitter;
-/// with one row they are the same. So that each call finds a newer number, it is stepped in the
-/// element after the call, and after an error the rows are made valid again; times include that.
+/// Receiving, with a full table that has rows for the subject and for the transmitter; in a table
+/// of one row they are one address. After a call the number in the element is stepped, so that the
+/// next call finds a newer one. After an error the rows are made valid again. Times include both.
 pub const RECEIVING: [Case; 6] = [
     emitting("receive a RANN", |_| 1, receiving::newer, receiving::rann),
     emitting(
@@ -160,7 +160,7 @@ pub const RECEIVING: [Case; 6] = [
     ),
 ];
 
-/// A full table, and an address that it has no row for.
+/// Returns a full table and an address for which it has no row.
 fn full(rows: usize, random: &mut Random) -> Input {
     Input {
         table: tables::full(rows, random),
@@ -181,7 +181,8 @@ pub fn inputs(case: &Case, rows: usize, random: &mut Random) -> Vec<Input> {
     (0..TABLES).map(|_| input()).collect()
 }
 
-/// What makes each call do the most: many rows that one break loses, and many items.
+/// Returns the input that makes each call do the most: many rows that one break loses, and many
+/// items.
 pub fn largest(random: &mut Random) -> Input {
     let mut input = full(128, random);
     calls::name_20(&mut input, random);
@@ -189,8 +190,9 @@ pub fn largest(random: &mut Random) -> Input {
     input
 }
 
-/// Times mean little unless all do the same work: the answer that the case is named for, as
-/// many frames, and the same octets. Twice, since a timed call follows others.
+/// Times mean little unless all implementations do the same work. Each must give the answer and the
+/// number of frames of the case, and all must leave the same octets. Each call is made twice,
+/// because a timed call follows other calls.
 pub fn confirm(case: &Case, rows: usize, inputs: &[Input], bys: &[&Implementation]) {
     for input in inputs {
         let mut outcomes = bys.iter().map(|by| {

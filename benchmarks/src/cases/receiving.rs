@@ -19,7 +19,7 @@ pub fn receive(by: &Implementation, input: &mut Input) -> u32 {
     note_frames(outcome, input)
 }
 
-/// Steps the number of the path afterwards, so that the next call finds a newer one.
+/// Receives the element and then steps its number, so that the next call finds a newer one.
 pub fn newer(by: &Implementation, input: &mut Input) -> u32 {
     let answer = receive(by, input);
     let at = if input.element[0] == Rreq::ID { 15 } else { 11 };
@@ -46,8 +46,8 @@ fn number(row: &[u8; ROW_OCTETS]) -> [u8; 4] {
     row[16..20].try_into().expect("four octets")
 }
 
-/// All rows active and of known number, through the transmitter, which has the first row. The
-/// path ends at the last one; its number is newer than that of the row.
+/// Makes all rows active, of known number and through the transmitter, which has the first row. The
+/// path leads to the destination of the last row, with a number newer than that of the row.
 fn prepare(input: &mut Input) -> Vec<u8> {
     input.address = destination(&rows(input)[0]);
     lead_through(input.address, input);
@@ -56,7 +56,7 @@ fn prepare(input: &mut Input) -> Vec<u8> {
     path_fields(destination(last), newer, LIFETIME, METRIC)
 }
 
-/// Flags, hop count and TTL, with hops left.
+/// Flags, hop count and TTL. The TTL allows forwarding.
 const HEAD: [u8; 3] = [0, 3, 20];
 
 pub fn rann(input: &mut Input, _: &mut Random) {
@@ -64,7 +64,7 @@ pub fn rann(input: &mut Input, _: &mut Random) {
     input.element = framed(Rann::ID, &[&HEAD[..], &path].concat());
 }
 
-/// The number is the row's, and the metric worse.
+/// The number equals that of the row, and the metric is worse.
 pub fn stale_rann(input: &mut Input, random: &mut Random) {
     rann(input, random);
     let row = input.table.len() - ROW_OCTETS;
@@ -73,7 +73,8 @@ pub fn stale_rann(input: &mut Input, random: &mut Random) {
     input.table[row + 20..][..4].copy_from_slice(&1_u32.to_le_bytes());
 }
 
-/// Goes on to the middle row's next hop. If there is one row only, this point is the source.
+/// The point forwards the reply to the next hop of the middle row. If there is only one row, this
+/// point is the source.
 pub fn rrep(input: &mut Input, _: &mut Random) {
     let path = prepare(input);
     let rows = rows(input);
@@ -86,19 +87,19 @@ pub fn rrep(input: &mut Input, _: &mut Random) {
     input.element = framed(Rrep::ID, &fields.concat());
 }
 
-/// A destination without a row.
+/// Asks for a destination without a row.
 pub fn rreq_for_1(input: &mut Input, random: &mut Random) {
     let new = stranger(random);
     rreq(input, &[new]);
 }
 
-/// How many of twenty destinations have a row to be answered from.
+/// Returns how many of twenty destinations have a row that answers.
 pub fn answered(rows: usize) -> usize {
     (rows - 1).min(10)
 }
 
-/// Up to ten with a row that answers, every second of which goes on all the same, and for the
-/// rest destinations without a row.
+/// Asks for up to ten destinations with a row that answers, every second with RF. The others have
+/// no row.
 pub fn rreq_for_20(input: &mut Input, random: &mut Random) {
     let rows = rows(input);
     let named = answered(rows.len());
@@ -134,8 +135,8 @@ fn rreq(input: &mut Input, destinations: &[Vec<u8>]) {
     input.element = framed(Rreq::ID, &fields.concat());
 }
 
-/// Names rows through the transmitter, while there are any, and then new addresses. The numbers
-/// are the rows' own, so that a row is the same again once it is valid.
+/// Names rows through the transmitter as long as there are any, and then new addresses. The numbers
+/// are those of the rows, so that a row is unchanged once it is valid again.
 pub fn rerr_with_25(input: &mut Input, random: &mut Random) {
     prepare(input);
     let mut fields = vec![0, Rerr::MOST as u8];
@@ -149,7 +150,7 @@ pub fn rerr_with_25(input: &mut Input, random: &mut Random) {
     input.element = framed(Rerr::ID, &fields);
 }
 
-/// The largest of these elements of each type, at the most rows.
+/// Returns the largest element of each type, for a table with the most rows.
 pub fn largest_received(random: &mut Random) -> [Input; 4] {
     let prepares = [rann, rrep, rreq_for_20, rerr_with_25];
     prepares.map(|prepare: fn(&mut Input, &mut Random)| {

@@ -1,6 +1,6 @@
-//! How many instructions calls take. The program runs itself once more under valgrind's
-//! callgrind, where it makes each call a few times and has a part of callgrind's output written
-//! for it. Only what lies between the call and its return is counted.
+//! Counts how many instructions calls take. The program runs itself once more under valgrind's
+//! callgrind. There it makes each call a few times, and callgrind writes a part of its output for
+//! each. Only what lies between the call and its return is counted.
 
 mod callgrind;
 mod parts;
@@ -18,17 +18,17 @@ use crate::timing::Call;
 
 pub use callgrind::counting;
 
-/// With this argument the program counts, and prints nothing of use.
+/// With this argument the program counts, and prints nothing useful.
 pub const ARGUMENT: &str = "--under-callgrind";
 
-/// The part that counts the bracket around nothing.
+/// The name of the part that counts a bracket around nothing.
 const BRACKET: &str = "bracket";
 
-/// The instructions in all of each part.
+/// The total of instructions of each part.
 pub struct Counts(HashMap<String, u64>);
 
 impl Counts {
-    /// Instructions of one call, the mean of so many.
+    /// Returns the instructions of one call, as the mean of `calls` calls.
     pub fn per_call(&self, subject: &Subject, by: &Implementation, calls: usize) -> f64 {
         let total = self.0[&part_name(subject, by)];
         total as f64 / calls as f64 - self.0[BRACKET] as f64
@@ -58,18 +58,18 @@ impl Meter for Counter {
     }
 }
 
-/// What the program does under callgrind.
+/// Does what the program does under callgrind.
 pub fn count(seed: u64) {
     counting(|| ());
     callgrind::end_part(BRACKET);
     measuring::measure_all(seed, &mut Counter);
 }
 
-/// Runs this program under callgrind; if that cannot be, the reason.
+/// Runs this program under callgrind, or returns the reason why it cannot.
 pub fn counts() -> Result<Counts, String> {
     let output = env::temp_dir().join(format!("hwmp-callgrind.{}", process::id()));
     let counted = run(&output).map(|text| Counts(parts::totals(&text)));
-    // There is none if valgrind did not start.
+    // There is no file if valgrind did not start.
     let _ = fs::remove_file(&output);
     counted
 }

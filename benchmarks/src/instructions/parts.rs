@@ -1,12 +1,12 @@
-//! The parts of callgrind's output, one after another in one file.
+//! Reads the parts of callgrind's output, which stand one after another in one file.
 
 use std::collections::HashMap;
 
 const NAME: &str = "desc: Trigger: Client Request: ";
 const TOTAL: &str = "totals: ";
 
-/// The instructions counted in each part that the program asked for, by its name. The part that
-/// callgrind writes at the end has none.
+/// Returns the instructions counted in each part that the program asked for, by its name. The part
+/// that callgrind writes at the end has no name.
 pub fn totals(output: &str) -> HashMap<String, u64> {
     let mut totals = HashMap::new();
     let mut part = None;
@@ -28,7 +28,8 @@ pub fn totals(output: &str) -> HashMap<String, u64> {
 mod tests {
     use super::totals;
 
-    /// As callgrind 3.19 writes it, but for most functions and for the parts' beginnings.
+    /// Output as callgrind 3.19 writes it, without most functions and without the beginnings of the
+    /// parts.
     const OUTPUT: &str = "\
 # callgrind format
 version: 1

@@ -1,14 +1,14 @@
-//! Safe Rust by the library's method: fields are read straight from the octets, and a
-//! destination that stands twice is found through marks. A row whose mark is not yet set is
-//! alone; only behind a mark that is set are the earlier rows searched.
+//! Safe Rust by the library's method. It reads fields straight from the octets, and finds a
+//! destination that stands twice through marks. A row whose mark is not yet set has no equal before
+//! it. Only where the mark is set does the check search the earlier rows.
 
 mod lookups;
 mod table;
 
 use hwmp_tests::implementation::{Implementation, REFERENCE};
 
-/// Only the calls that emit nothing are by this method. The others are the reference's, and
-/// are not timed under this name.
+/// Only the calls that emit nothing use this method. The others are the reference's, and are not
+/// timed under this name.
 pub const SAME_METHOD: Implementation = Implementation {
     name: "same method",
     fresh: lookups::fresh,
@@ -37,7 +37,7 @@ mod tests {
         }
     }
 
-    /// Runs one call by both, each on a copy of the table.
+    /// Makes one call by both, each on a copy of the table.
     fn agree<A: PartialEq + std::fmt::Debug>(
         table: &[u8],
         call: impl Fn(&Implementation, &mut [u8]) -> A,
@@ -49,7 +49,7 @@ mod tests {
         assert_eq!(found, expected);
     }
 
-    /// A version that did less would make the comparison worthless.
+    /// A version that did less work would make the comparison worthless.
     #[test]
     fn does_the_same_as_the_reference() {
         let random = &mut Random::announced("same method", 1021);

@@ -1,4 +1,4 @@
-//! What makes octets a table, and the search in it.
+//! Checks that octets are a table, and searches it.
 
 pub const HEAD: usize = 32;
 pub const ROW: usize = 32;
@@ -11,7 +11,7 @@ pub fn u64_at(octets: &[u8], at: usize) -> u64 {
     u64::from_le_bytes(octets[at..at + 8].try_into().unwrap())
 }
 
-/// An address as a little-endian number of 48 bits.
+/// Returns an address as a little-endian number of 48 bits.
 pub fn address(octets: &[u8]) -> u64 {
     let low = u32::from_le_bytes(octets[..4].try_into().unwrap());
     let high = u16::from_le_bytes(octets[4..6].try_into().unwrap());
@@ -60,7 +60,7 @@ pub fn row_for(rows: &[u8], destination: u64) -> Option<usize> {
         .position(|row| address(&row[4..]) == destination)
 }
 
-/// One of the marks, a power of two of them.
+/// Returns the mark of a destination. `marks` is how many there are, a power of two.
 fn mark_of(destination: u64, marks: usize) -> usize {
     (destination * 40503 >> 40) as usize & (marks - 1)
 }
@@ -86,7 +86,7 @@ fn rows_fit(rows: &[u8], own: u64, marks: &mut [u8]) -> bool {
     true
 }
 
-/// Few rows take few marks, since all marks have to be cleared first.
+/// A table of few rows uses few marks, because all of them must be cleared first.
 pub fn is_table(table: &[u8]) -> bool {
     if !head_fits(table) {
         return false;
