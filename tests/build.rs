@@ -1,6 +1,6 @@
-//! Links the library's archive, `../target/staticlib/libhwmp.a`, and beside it `libprobe.a`,
-//! through which the tests reach what the library has no open call for. To test another
-//! build, name the directory that holds both in HWMP_LIB_DIR.
+//! Links the library's archive, `../target/staticlib/libhwmp.a`, and `libprobe.a`, through which
+//! the tests reach functions that the library does not open to C. To test another build, name the
+//! directory that holds both archives in HWMP_LIB_DIR.
 
 use std::env;
 use std::path::{Path, PathBuf};
@@ -23,8 +23,8 @@ fn link(directory: &Path, name: &str) {
             archive.display()
         );
     }
-    // Not bundled: link-time optimisation would take the archive's members for Rust
-    // objects of this package, and the library is to be run as it was built.
+    // Not bundled, because link-time optimisation would take the archive's members for Rust objects
+    // of this package. The tests must run the library as it was built.
     println!("cargo::rustc-link-lib=static:-bundle={name}");
 }
 

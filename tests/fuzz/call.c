@@ -2,13 +2,13 @@
 
 #include <string.h>
 
-/* Where each buffer is lent. */
-static struct lent table_room, output_room; /* to be written */
+/* The pages in which each buffer is lent. */
+static struct lent table_room, output_room; /* which the library may write */
 static struct lent tables_room, address_room, destination_room, octets_room;
 
 /* A call's buffers as the library sees them. */
 struct buffers {
-    uint8_t *table; /* in pages that the library may not write, if the call may not */
+    uint8_t *table; /* in pages that may only be read, if the call may only read */
     uint8_t *output;
     const uint8_t *address;
     const uint8_t *destination;

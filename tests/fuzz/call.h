@@ -1,5 +1,5 @@
 /*
- * A call of the library as a value, and what came of making it on lent octets.
+ * A call of the library as a value, and its result on lent octets.
  */
 #ifndef CALL_H
 #define CALL_H
@@ -10,14 +10,14 @@
 #include "hwmp.h"
 #include "lent.h"
 
-/* One row more than a table may have, so that such a length is tried too. */
+/* One row more than a table may have, so that this length is tried too. */
 enum { MOST_TABLE_OCTETS = HWMP_TABLE_OCTETS(HWMP_MAX_ROWS + 1) };
 enum { MOST_TABLES_OCTETS = HWMP_MAX_POINTS * MOST_TABLE_OCTETS };
 enum { MOST_OUTPUT_OCTETS = 2048 };
-/* Of an element: Length counts up to 255 after ID and Length, and some more do not fit. */
+/* An element has up to 255 octets after ID and Length. Longer ones are tried too. */
 enum { MOST_ELEMENT_OCTETS = 300 };
 
-/* Element IDs of document 01; each element begins with ID and Length. */
+/* Element IDs of docs/PROTOCOL.md, 'Elements'. Each element begins with ID and Length. */
 enum { RANN = 126, RREQ = 130, RREP = 131, RERR = 132 };
 enum { ELEMENT_HEAD_OCTETS = 2 };
 
@@ -25,19 +25,19 @@ enum entry { FRESH, NEXT_HOP, FORGET, WALK, ASK, ANNOUNCE, ROOT_REQUEST, BREAK, 
 
 struct call {
     enum entry entry;
-    const uint8_t *table; /* of a walk, all of them */
+    const uint8_t *table; /* for a walk, all tables */
     size_t table_len;
     size_t output_len;
     uint64_t clock;
-    uint32_t number; /* own number, lifetime, link metric, or count of a walk */
+    uint32_t number; /* own number, lifetime, link metric, or count for a walk */
     uint8_t flags;
-    uint8_t address[6];     /* own, neighbour, transmitter or destination; of a walk, the start */
-    uint8_t destination[6]; /* of a walk */
+    uint8_t address[6];     /* own, neighbour, transmitter or destination; for a walk, the start */
+    uint8_t destination[6]; /* for a walk */
     const uint8_t *octets;  /* element or items */
     size_t octets_len;
 };
 
-/* Everything that a call returns; what it does not have is zero. */
+/* Everything that a call returns. Fields that the call does not have are zero. */
 struct result {
     uint32_t answer;
     uint32_t frames;
@@ -46,7 +46,7 @@ struct result {
     uint8_t next_hop[6];
 };
 
-/* What came of a call. Table and output are valid until the next call. */
+/* The result of a call. Table and output are valid until the next call. */
 struct made {
     struct result result;
     const uint8_t *table;
@@ -55,13 +55,13 @@ struct made {
 
 const char *entry_name(enum entry entry);
 
-/* May the call write the table that it is lent? */
+/* Reports whether the call may write the table that it is lent. */
 int writes_table(enum entry entry);
 
-/* May the call write frames? */
+/* Reports whether the call may write frames. */
 int may_send(enum entry entry);
 
-/* Makes the call with every buffer at this side, the output filled with one octet before. */
+/* Makes the call with every buffer at this side of its pages and the output filled with `fill`. */
 struct made make_call(const struct call *call, enum side side, uint8_t fill);
 
 #endif

@@ -1,6 +1,7 @@
 /*
  * Stands between harness and library (--wrap) and does one thing wrong, which HWMP_DAMAGE names.
- * tests/fuzz/run lists them with what must be found. Without a name nothing is wrong.
+ * tests/fuzz/run lists the damages, each with the finding that must follow. Without a name
+ * nothing is wrong.
  */
 #include <stdlib.h>
 #include <string.h>
@@ -21,7 +22,7 @@ static void write_to(const uint8_t *place)
     *(volatile uint8_t *)place ^= 1;
 }
 
-/* 0 and 1 by turns. */
+/* Returns 1 and 0 in turn. */
 static uint8_t next_turn(void)
 {
     static uint8_t turn;
@@ -152,7 +153,7 @@ struct hwmp_outcome __wrap_hwmp_break(uint8_t *table, size_t table_len, uint8_t 
     return outcome;
 }
 
-/* What a receive that was refused may do wrong. */
+/* The damages to a receive that was refused. */
 static void damage_refused(struct hwmp_outcome *outcome, uint8_t *table, size_t table_len,
                            uint8_t *output, size_t output_len)
 {
@@ -176,7 +177,7 @@ static void damage_refused(struct hwmp_outcome *outcome, uint8_t *table, size_t 
         outcome->answer = HWMP_STALE;
 }
 
-/* What a receive that was accepted may do wrong. */
+/* The damages to a receive that was accepted. */
 static void damage_accepted(struct hwmp_outcome *outcome, uint8_t *table, uint8_t *output,
                             size_t output_len)
 {

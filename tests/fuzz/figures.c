@@ -10,14 +10,15 @@
 enum { ANSWER_NUMBERS = 64 };
 
 /*
- * libFuzzer keeps an input that sets a counter which no other did. They are not counted up, and
- * little is told apart: the more inputs are kept, the fewer changes of each are tried.
+ * libFuzzer keeps an input that sets a counter which no other input set. Counters are only set,
+ * not counted up, and tell little apart: the more inputs libFuzzer keeps, the fewer changes of
+ * each it tries.
  */
 __attribute__((section("__libfuzzer_extra_counters"))) static uint8_t counters[1 << 16];
 
 static uint64_t inputs, seen[ENTRIES][ANSWER_NUMBERS];
 
-/* Print each call? */
+/* Whether each call is printed. */
 static int is_traced;
 
 enum noted { ANSWERED, SENT, LISTED, WALKED, ROW_CHANGED, ROWS_CHANGED, ROWS_HELD };
@@ -29,7 +30,7 @@ static void note(enum noted noted, uint64_t what)
     counters[mixed >> 48] = 1;
 }
 
-/* Few counts are told apart one by one, many by their magnitude. */
+/* Tells small counts apart one by one, and larger ones by their magnitude. */
 static uint64_t magnitude(uint64_t count)
 {
     uint64_t bits = 4;
@@ -41,7 +42,7 @@ static uint64_t magnitude(uint64_t count)
     return bits;
 }
 
-/* The call, and of an element of known type its ID. */
+/* Returns a number for the call and, if it receives an element of known type, the element's ID. */
 static uint64_t what_is_called(const struct call *call)
 {
     int has_id = call->entry == RECEIVE && call->octets_len != 0;
@@ -51,7 +52,7 @@ static uint64_t what_is_called(const struct call *call)
     return (uint64_t)call->entry * 256 + (is_known ? id : 0);
 }
 
-/* Which fields of a row differ, by the widths of document 01. */
+/* Returns which fields of a row differ, a bit each (docs/PROTOCOL.md, 'Table'). */
 static uint64_t fields_changed(const uint8_t *old, const uint8_t *new)
 {
     static const uint8_t widths[] = {1, 1, 1, 1, 6, 6, 4, 4, 8};

@@ -1,6 +1,6 @@
 /*
  * What was seen: figures for the reader, and counters by which the fuzzer tells inputs apart.
- * The archive is not instrumented, so that answers and changes are all there is to go by.
+ * The archive is not instrumented, so only answers and changes can guide the fuzzer.
  */
 #ifndef FIGURES_H
 #define FIGURES_H

@@ -1,5 +1,5 @@
 /*
- * Plays the octets of an input as calls on the tables of 16 points: libFuzzer's entry.
+ * Plays the octets of an input as calls on the tables of 16 points. This is libFuzzer's entry.
  * Each step is an octet, which chooses one of `steps` below, and its operands (input.h).
  */
 #include <string.h>
@@ -10,7 +10,7 @@
 #include "promises.h"
 
 enum { POINTS = HWMP_MAX_POINTS, ROWS = 8, FRAMES = 32 };
-/* No input takes long: libFuzzer is to try many. */
+/* No input may take long, because libFuzzer must try many. */
 enum { ENOUGH_CALLS = 300 };
 
 struct point {
@@ -18,7 +18,7 @@ struct point {
     size_t table_len;
 };
 
-/* An element that was sent, and by whom. */
+/* An element that was sent, and the point that sent it. */
 struct frame {
     uint8_t transmitter[6];
     uint8_t element[MOST_ELEMENT_OCTETS];
@@ -27,7 +27,7 @@ struct frame {
 
 static struct point points[POINTS];
 static struct frame frames[FRAMES];
-static size_t frames_kept; /* the last FRAMES of these */
+static size_t frames_kept; /* how many were sent; the last FRAMES of them are kept */
 static uint64_t clock_now;
 static size_t output_len;
 static size_t calls_made;
@@ -37,7 +37,7 @@ static struct point *take_point(struct input *input)
     return &points[take_octet(input) % POINTS];
 }
 
-/* A call at the present clock with the output of present length. */
+/* Returns a call at the present clock, with an output of the present length. */
 static struct call call_on(enum entry entry, const struct point *point)
 {
     return (struct call){.entry = entry,
@@ -62,7 +62,7 @@ static void keep_frames(const struct point *sender, const struct made *made)
     }
 }
 
-/* Makes the call, lets the point keep what it made of the table, and gives the answer. */
+/* Makes the call, stores its table and frames, and returns the answer. */
 static uint32_t play(const struct call *call, struct point *point)
 {
     struct made made = make_checked(call);
@@ -83,7 +83,7 @@ static void set_length(struct point *point, size_t length)
     point->table_len = length;
 }
 
-/* Point, rows (also 0 and 129, which are too few and too many), own address, number. */
+/* Operands: point, rows (also 0 and 129, which are too few and too many), own address, number. */
 static void fresh(struct input *input)
 {
     struct point *point = take_point(input);
@@ -97,7 +97,7 @@ static void fresh(struct input *input)
     play(&call, point);
 }
 
-/* Point, rows, how many of these follow, head, rows: a table by its fields, legal or not. */
+/* A table by its fields, legal or not. Operands: point, rows, how many of them follow, head, rows. */
 static void table(struct input *input)
 {
     struct point *point = take_point(input);
@@ -112,7 +112,7 @@ static void table(struct input *input)
         at += take_fields(input, "ooo0AAnne", point->table + at);
 }
 
-/* Point, rows, and all octets of the table as they are. */
+/* Operands: point, rows, all octets of the table as they are. */
 static void raw_table(struct input *input)
 {
     struct point *point = take_point(input);
@@ -122,7 +122,7 @@ static void raw_table(struct input *input)
     take_octets(input, point->table, point->table_len);
 }
 
-/* Point, place (2 octets), how many, octets to put there. */
+/* Operands: point, place (2 octets), how many, octets to put there. */
 static void overwrite(struct input *input)
 {
     struct point *point = take_point(input);
@@ -133,7 +133,7 @@ static void overwrite(struct input *input)
     take_octets(input, point->table + place, count < room ? count : room);
 }
 
-/* Point, length of its table (2 octets): cut off, or more zeros. */
+/* Cuts the table, or adds zeros. Operands: point, length of its table (2 octets). */
 static void resize(struct input *input)
 {
     struct point *point = take_point(input);
@@ -141,19 +141,19 @@ static void resize(struct input *input)
     set_length(point, take_plain(input, 2) % (sizeof point->table + 1));
 }
 
-/* Length of the output (2 octets) from now on. */
+/* Operands: length of the output from now on (2 octets). */
 static void room(struct input *input)
 {
     output_len = take_plain(input, 2) % (MOST_OUTPUT_OCTETS + 1);
 }
 
-/* Milliseconds. */
+/* Operands: milliseconds. */
 static void advance(struct input *input)
 {
     clock_now += take_number(input);
 }
 
-/* The clock from now on, 8 octets. */
+/* Operands: the clock from now on (8 octets). */
 static void set_clock(struct input *input)
 {
     clock_now = take_plain(input, 8);
@@ -168,13 +168,13 @@ static size_t take_list(struct input *input, const char *entry, uint8_t count, u
     return taken;
 }
 
-/* Type, count, damage, fields, entries. A damage of 1 or 2 makes the Length wrong, 3 the count. */
+/* Type, count, damage, fields, entries. Damage 1 or 2 makes the Length wrong, 3 the count. */
 static size_t take_element(struct input *input, uint8_t element[MOST_ELEMENT_OCTETS])
 {
     static const struct {
         uint8_t id;
         const char *fields;
-        const char *entry; /* none: no list, and no count before it */
+        const char *entry; /* NULL: no list, and no count before it */
         uint8_t most;
     } types[4] = {
         {RANN, "oooAnnn", NULL, 0},
@@ -206,7 +206,7 @@ static struct call take_receive(struct input *input, const struct point *point)
     return call;
 }
 
-/* Point, transmitter, link metric, element by its fields. */
+/* Operands: point, transmitter, link metric, element by its fields. */
 static void receive_element(struct input *input)
 {
     struct point *point = take_point(input);
@@ -218,7 +218,7 @@ static void receive_element(struct input *input)
     play(&call, point);
 }
 
-/* Point, transmitter, link metric, length (2 octets), octets of the element as they are. */
+/* Operands: point, transmitter, link metric, length (2 octets), octets of the element as they are. */
 static void receive_octets(struct input *input)
 {
     struct point *point = take_point(input);
@@ -231,7 +231,10 @@ static void receive_octets(struct input *input)
     play(&call, point);
 }
 
-/* Point, which frame (0 the last), link metric, place and octet to change it by (0 not at all). */
+/*
+ * Operands: point, which frame (0 is the last), link metric, place, octet to change it by (0
+ * changes nothing).
+ */
 static void deliver(struct input *input)
 {
     struct point *point = take_point(input);
@@ -253,8 +256,8 @@ static void deliver(struct input *input)
 }
 
 /*
- * Point, transmitter, lifetime, how many: announcements of 02:00:00:00:01:00 and following are
- * heard until one is refused.
+ * Receives announcements of 02:00:00:00:01:00 and the addresses after it, until one is refused.
+ * Operands: point, transmitter, lifetime, how many.
  */
 static void hear_many(struct input *input)
 {
@@ -274,7 +277,7 @@ static void hear_many(struct input *input)
         answer = play(&call, point);
 }
 
-/* Point, lifetime, octets to leave off the last item, how many items, these (flags, address). */
+/* Operands: point, lifetime, octets to cut off the last item, how many items, items. */
 static void ask(struct input *input)
 {
     struct point *point = take_point(input);
@@ -301,13 +304,13 @@ static void originate(struct input *input, enum entry entry)
     play(&call, point);
 }
 
-/* Point, flags, lifetime. */
+/* Operands: point, flags, lifetime. */
 static void announce(struct input *input)
 {
     originate(input, ANNOUNCE);
 }
 
-/* Point, flags, lifetime. */
+/* Operands: point, flags, lifetime. */
 static void request_as_root(struct input *input)
 {
     originate(input, ROOT_REQUEST);
@@ -322,25 +325,25 @@ static void play_on_address(struct input *input, enum entry entry)
     play(&call, point);
 }
 
-/* Point, neighbour. */
+/* Operands: point, neighbour. */
 static void report_break(struct input *input)
 {
     play_on_address(input, BREAK);
 }
 
-/* Point, destination. */
+/* Operands: point, destination. */
 static void next_hop(struct input *input)
 {
     play_on_address(input, NEXT_HOP);
 }
 
-/* Point, destination. */
+/* Operands: point, destination. */
 static void forget(struct input *input)
 {
     play_on_address(input, FORGET);
 }
 
-/* How many tables, start, destination, count if it is another (0 is not). */
+/* Operands: how many tables, start, destination, and a wrong count (0: the right one). */
 static void walk(struct input *input)
 {
     static uint8_t tables[MOST_TABLES_OCTETS];
@@ -366,7 +369,7 @@ static void (*const steps[])(struct input *) = {
     request_as_root, report_break,    next_hop,       forget,    walk,
 };
 
-/* Every point has a fresh table, so that few octets lead far. */
+/* Gives every point a fresh table, so that a short input already gets far. */
 static void begin(void)
 {
     for (uint8_t i = 0; i < POINTS; i++) {

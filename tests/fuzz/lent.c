@@ -7,7 +7,7 @@
 #include <sys/mman.h>
 #include <unistd.h>
 
-/* How far a wrong index may be off and still be seen. A multiple of any page size. */
+/* How far off a wrong index is still seen. A multiple of any page size. */
 enum { UNTOUCHABLE = 1 << 20 };
 
 static void must(int holds, const char *what)

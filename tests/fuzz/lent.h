@@ -1,6 +1,6 @@
 /*
- * Octets lent right beside memory that may not be touched: a call that reads or writes beyond
- * them ends the run with a signal instead of going unseen.
+ * Octets lent right next to memory that may not be touched. A call that reads or writes beyond
+ * the octets ends the run with a signal instead of going unseen.
  */
 #ifndef LENT_H
 #define LENT_H
@@ -12,9 +12,9 @@
 enum side { AT_START, AT_END };
 
 /*
- * The same pages at two places: `ours` is written by the harness, `theirs` lies between two
- * untouchable spans and is what the library gets. So pages that are read-only for the library
- * need not change their protection for each call.
+ * The same pages at two places. The harness writes to `ours`. The library gets `theirs`, which
+ * lies between two untouchable spans. Pages that are read-only for the library therefore need no
+ * change of protection for each call.
  */
 struct lent {
     uint8_t *ours;
@@ -22,11 +22,11 @@ struct lent {
     size_t room;
 };
 
-/* Room for so many octets, which the library may only read, or read and write. */
+/* Makes room for that many octets, which the library may only read, or read and write. */
 struct lent lent_to_read(size_t octets);
 struct lent lent_to_write(size_t octets);
 
-/* Copies the octets there; gives the place at which the library sees them. */
+/* Copies the octets into the room and returns the place at which the library sees them. */
 uint8_t *lend(const struct lent *lent, enum side side, const uint8_t *octets, size_t count);
 
 #endif

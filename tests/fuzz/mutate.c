@@ -1,6 +1,6 @@
 /*
- * How libFuzzer changes an input: by its steps (input.h), so that a change of one leaves those
- * behind it as they are.
+ * How libFuzzer changes an input: step by step (input.h), so that a change of one step leaves the
+ * steps after it as they are.
  */
 #include <string.h>
 
@@ -12,7 +12,7 @@ size_t LLVMFuzzerCustomCrossOver(const uint8_t *first, size_t first_count, const
                                  size_t second_count, uint8_t *crossed, size_t most,
                                  unsigned int seed);
 
-/* Where each step begins; behind them, where the last one ends. */
+/* Where each step begins and, as one more place, where the last one ends. */
 struct places {
     size_t at[MOST_STEPS + 1];
     size_t steps;
@@ -31,7 +31,7 @@ static struct places find_steps(const uint8_t *octets, size_t count)
     return places;
 }
 
-/* A number below the limit; the seed goes on to the next. */
+/* Returns a number below the limit and advances the seed. */
 static size_t choose(unsigned int *seed, size_t limit)
 {
     *seed = *seed * 1664525 + 1013904223;
@@ -39,7 +39,7 @@ static size_t choose(unsigned int *seed, size_t limit)
 }
 
 struct change {
-    size_t from, to; /* what is replaced */
+    size_t from, to; /* the octets that are replaced */
     uint8_t octets[STEP_HEAD_OCTETS + MOST_STEP_OCTETS];
     size_t count;
 };
@@ -55,7 +55,7 @@ static size_t apply(const struct change *change, uint8_t *octets, size_t count, 
     return changed;
 }
 
-/* What is handed to libFuzzer is the step without its length, which is set afterwards. */
+/* Lets libFuzzer change the step without its length, and then sets the length. */
 static void change_step(struct change *change)
 {
     uint8_t *operands = change->octets + STEP_HEAD_OCTETS;
@@ -67,7 +67,7 @@ static void change_step(struct change *change)
     change->count = STEP_HEAD_OCTETS + changed;
 }
 
-/* Points, counts, types and flags stand first in a step, and are small. */
+/* Sets one of the first operands to a small number: points, counts, types and flags stand there. */
 static void set_operand(struct change *change, unsigned int *seed)
 {
     size_t operands = change->count < STEP_HEAD_OCTETS ? 0 : change->count - STEP_HEAD_OCTETS;
@@ -91,10 +91,10 @@ size_t LLVMFuzzerCustomMutator(uint8_t *octets, size_t count, size_t most, unsig
     change.count = change.to - change.from;
     memcpy(change.octets, octets + change.from, change.count);
     switch (choose(&seed, 8)) {
-    case 0: /* the step is left out */
+    case 0: /* leave the step out */
         change.count = 0;
         break;
-    case 1: /* it is played a second time, somewhere */
+    case 1: /* play it a second time, somewhere */
         change.from = change.to = places.at[choose(&seed, places.steps + 1)];
         break;
     case 2:
@@ -108,7 +108,7 @@ size_t LLVMFuzzerCustomMutator(uint8_t *octets, size_t count, size_t most, unsig
     return apply(&change, octets, count, most);
 }
 
-/* The first steps of one input, then the last ones of another. */
+/* Joins the first steps of one input and the last steps of another. */
 size_t LLVMFuzzerCustomCrossOver(const uint8_t *first, size_t first_count, const uint8_t *second,
                                  size_t second_count, uint8_t *crossed, size_t most,
                                  unsigned int seed)

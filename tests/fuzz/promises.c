@@ -5,11 +5,11 @@
 #include <stdlib.h>
 #include <string.h>
 
-/* Two fills of the output that differ in every bit, so that one of them shows any write. */
+/* Two fills of the output that differ in every bit, so that at least one of them shows a write. */
 enum { FIRST_FILL = 0xaa, SECOND_FILL = 0x55 };
 
 #define BIT(n) (UINT64_C(1) << (n))
-/* Answers by their names without HWMP_: one, and all from the first to the last. */
+/* Answers by their names without HWMP_: one answer, and all from the first to the last. */
 #define ANSWER(name) BIT(HWMP_##name)
 #define ANSWERS(first, last) (BIT(HWMP_##last + 1) - BIT(HWMP_##first))
 
@@ -47,7 +47,7 @@ uint64_t listed_answers(enum entry entry)
     return listed[entry];
 }
 
-/* Of received elements, some answers belong to one type. */
+/* Some answers of a receive belong to one type of element. */
 static uint64_t listed_for(const struct call *call)
 {
     uint64_t listed = listed_answers(call->entry);
@@ -70,7 +70,7 @@ static int is_refusal(const struct call *call, const struct result *result)
            result->answer != HWMP_TOO_LONG;
 }
 
-/* Each octet is compared with the one before it: quicker than one by one with the value. */
+/* Compares each octet with the one before it, which is faster than comparing each with the value. */
 static int are_all(const uint8_t *octets, size_t count, uint8_t value)
 {
     return count == 0 || (octets[0] == value && memcmp(octets, octets + 1, count - 1) == 0);
@@ -100,7 +100,7 @@ static void check_refusal(const struct call *call, const struct made *made, uint
         found(call, result, "a refusal changed the output");
 }
 
-/* One frame from this place of the output on; gives the place behind it. */
+/* Checks one frame from this place of the output on, and returns the place after it. */
 static size_t check_frame(const struct call *call, const struct made *made, size_t at)
 {
     const struct result *result = &made->result;
@@ -129,7 +129,7 @@ static void check_output(const struct call *call, const struct made *made, uint8
         found(call, result, "output beyond the frames was changed");
 }
 
-/* Ask, announcement and root request send one frame to all, a break only to all. */
+/* Ask, announce and root request send one frame to all ones. A break sends any number, to all ones. */
 static void check_receivers(const struct call *call, const struct made *made)
 {
     const struct result *result = &made->result;
@@ -186,7 +186,7 @@ static int are_same(const struct result *a, const struct result *b)
            a->hops == b->hops && memcmp(a->next_hop, b->next_hop, 6) == 0;
 }
 
-/* The same call again, elsewhere in memory and with other octets in the output. */
+/* Compares a call with the same call made elsewhere in memory and with another output. */
 static void check_repeats(const struct call *call, const struct made *first,
                           const struct made *second)
 {
@@ -198,7 +198,7 @@ static void check_repeats(const struct call *call, const struct made *first,
         found(call, &first->result, "the same call writes other frames");
 }
 
-/* A next hop is looked for at the last clock, so that no clock's refusal hides HWMP_NOT_A_TABLE. */
+/* Asks for a next hop at the last clock, so that no refusal of the clock hides HWMP_NOT_A_TABLE. */
 static void check_stays_a_table(const struct call *call, const struct result *result,
                                 const uint8_t *table)
 {
@@ -223,7 +223,7 @@ static void check_forgotten(const struct call *call, const struct result *result
         found(call, result, "the row was not forgotten");
 }
 
-/* Every element sent passes all up to HWMP_BAD_COUNT at a point that has nothing to do with it. */
+/* Every element sent must pass the checks up to HWMP_BAD_COUNT at an unrelated point. */
 static void check_reads_back(const struct call *call, const struct result *result,
                              const uint8_t *frames)
 {

@@ -1,5 +1,5 @@
-//! The answers of the calls by their numbers in document 01: all but ACCEPTED and the two of a walk
-//! are refusals.
+//! The answers of the calls, by their numbers in docs/PROTOCOL.md, 'Refusals' and 'Walk'. ACCEPTED
+//! and the walk's NO_ROUTE and TOO_LONG are not refusals; all others are.
 
 pub const ACCEPTED: u32 = 0;
 pub const TABLE_LENGTH: u32 = 1;

@@ -1,5 +1,5 @@
-//! Octets lent right beside memory that may not be touched: a call that reads or writes
-//! beyond them ends the whole test run with a signal instead of going unseen.
+//! Octets lent right next to memory that may not be touched. A call that reads or writes beyond the
+//! octets ends the whole test run with a signal instead of going unseen.
 
 use std::ffi::{c_int, c_long, c_void};
 use std::ptr;
@@ -17,7 +17,7 @@ unsafe extern "C" {
     fn munmap(at: *mut c_void, length: usize) -> c_int;
 }
 
-// As Linux has them.
+// The values that Linux uses.
 const NO_ACCESS: c_int = 0;
 const READ_AND_WRITE: c_int = 1 | 2;
 const PRIVATE_AND_ANONYMOUS: c_int = 2 | 0x20;
@@ -55,7 +55,7 @@ impl Fence {
         Fence { start }
     }
 
-    /// A copy of the octets, beside the fence.
+    /// Copies the octets next to the fence and returns the copy.
     pub fn lend(&mut self, octets: &[u8], side: Side) -> &mut [u8] {
         let middle = self.middle();
         let lent = match side {

@@ -1,5 +1,5 @@
-//! The calls as values, so that tests and benchmarks run one text on each of the
-//! implementations.
+//! The calls as values, so that a test or benchmark is written once and runs on each
+//! implementation.
 
 use crate::library::{self, Hop, Outcome, Walked};
 use crate::reference::{
@@ -20,19 +20,19 @@ pub struct Implementation {
     pub walk: Walk,
 }
 
-/// On a table and an output, with lifetime and items.
+/// Operands: table, output, lifetime, items.
 pub type Ask = fn(&mut [u8], &mut [u8], u32, &[u8]) -> Outcome;
 
-/// With flags and lifetime.
+/// Operands: table, output, flags, lifetime.
 pub type Originate = fn(&mut [u8], &mut [u8], u8, u32) -> Outcome;
 
-/// With clock and neighbour.
+/// Operands: table, output, clock, neighbour.
 pub type Break = fn(&mut [u8], &mut [u8], u64, &[u8; 6]) -> Outcome;
 
-/// With clock, transmitter, link metric and element.
+/// Operands: table, output, clock, transmitter, link metric, element.
 pub type Receive = fn(&mut [u8], &mut [u8], u64, &[u8; 6], u32, &[u8]) -> Outcome;
 
-/// On tables side by side, with their count, clock, start and destination.
+/// Operands: tables side by side, their count, clock, start, destination.
 pub type Walk = fn(&[u8], u32, u64, &[u8; 6], &[u8; 6]) -> Walked;
 
 pub const LIBRARY: Implementation = Implementation {
@@ -89,7 +89,7 @@ pub const REFERENCE: Implementation = Implementation {
     },
 };
 
-/// A refusal carries zeros beside its number.
+/// A refusal carries zeros next to its number.
 fn hop(found: Result<Address, Refusal>) -> Hop {
     Hop {
         answer: answer(found),
@@ -97,7 +97,7 @@ fn hop(found: Result<Address, Refusal>) -> Hop {
     }
 }
 
-/// Zeros beside a refusal here too.
+/// A refusal carries zeros next to its number.
 fn outcome(emitted: Result<Emitted, Refusal>) -> Outcome {
     let Emitted { frames, octets } = emitted.unwrap_or_default();
     Outcome {
@@ -107,7 +107,7 @@ fn outcome(emitted: Result<Emitted, Refusal>) -> Outcome {
     }
 }
 
-/// A walk that stopped or was too long carries its hops too; a refusal carries zero.
+/// A walk that answers 41 or 42 carries its hops too. A refusal carries zero.
 fn walked(walked: Result<walk::Walked, Refusal>) -> Walked {
     match walked {
         Ok(walk::Walked { answer, hops }) => Walked {

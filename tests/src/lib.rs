@@ -1,7 +1,9 @@
-//! What the tests and benchmarks share: the library behind safe functions, a separately
-//! written implementation of document 01 to compare it with, random tables and elements, points
-//! that send to each other, thirty days of them, and what is asked of a call that was worked out
-//! by hand.
+//! The parts that the tests and benchmarks share:
+//!
+//! - the library behind safe functions, and a separately written implementation to compare it with;
+//! - random tables and elements;
+//! - points that send to each other, and thirty simulated days of them;
+//! - checks for calls that were worked out by hand.
 
 pub mod answers;
 pub mod comparing;

@@ -92,8 +92,8 @@ pub mod raw {
     }
 }
 
-// SAFETY, for all of them: each pointer comes from a reference that lives through the call,
-// lengths are those of the slices, and Rust's borrows keep the buffers apart.
+// SAFETY, for every function below: each pointer comes from a reference that lives through the
+// call, lengths are those of the slices, and Rust's borrows keep the buffers apart.
 
 pub fn fresh(table: &mut [u8], own: &[u8; 6], number: u32) -> u32 {
     unsafe { raw::hwmp_fresh(table.as_mut_ptr(), table.len(), own.as_ptr(), number) }

@@ -1,6 +1,6 @@
-//! Reading, writing and judging elements, by the library and by the reference. The library's
-//! functions come from a test-only archive, `libprobe.a`; the reference gets the same C
-//! shape, so that times compare like with like.
+//! Reads, writes and judges elements, by the library and by the reference. The library's functions
+//! come from a test-only archive, `libprobe.a`. The reference gets the same C signatures, so that a
+//! comparison of times is fair.
 
 use std::slice;
 
@@ -48,15 +48,16 @@ pub const REFERENCE: Probe = Probe {
     faults: reference_faults,
 };
 
-// SAFETY, for all three: each pointer comes from a reference that lives through the call,
-// lengths are those of the slices, and Rust's borrows keep the buffers apart.
+// SAFETY, for all three: each pointer comes from a reference that lives through the call, lengths
+// are those of the slices, and Rust's borrows keep the buffers apart.
 impl Probe {
-    /// 0 and the element's numbers in the first places, or a refusal.
+    /// Returns 0 and fills the first places with the element's numbers, or returns a refusal.
     pub fn read(&self, element: &[u8], numbers: &mut Numbers) -> u32 {
         unsafe { (self.read)(element.as_ptr(), element.len(), numbers.as_mut_ptr()) }
     }
 
-    /// 0 and receiver and element in the output from place `at` on, or a refusal.
+    /// Returns 0 and writes receiver and element into the output from place `at` on, or returns a
+    /// refusal.
     pub fn write(
         &self,
         element: &[u8],
@@ -70,13 +71,13 @@ impl Probe {
         unsafe { (self.write)(element, element_len, to.as_ptr(), out, out_len, at, singly) }
     }
 
-    /// The faults of the element's list, as a sum.
+    /// Returns the faults of the element's list, as a sum.
     pub fn faults(&self, element: &[u8], address: &[u8; 6]) -> u32 {
         unsafe { (self.faults)(element.as_ptr(), element.len(), address.as_ptr()) }
     }
 }
 
-// SAFETY, for all three: called as C would, with pointers to as much as is said.
+// SAFETY, for all three: the caller, as in C, hands over pointers to as many octets as it says.
 
 #[inline(never)]
 unsafe extern "C" fn reference_read(

@@ -9,7 +9,8 @@ impl Random {
         Random { state: seed }
     }
 
-    /// Takes the seed from HWMP_SEED (decimal), else the given one, and prints it.
+    /// Takes the seed from HWMP_SEED (decimal) if it is set, otherwise the given one, and prints
+    /// it.
     pub fn announced(purpose: &str, seed: u64) -> Random {
         let seed = match std::env::var("HWMP_SEED") {
             Ok(text) => text.parse().expect("HWMP_SEED is a decimal number"),
@@ -26,7 +27,7 @@ impl Random {
         mixed ^ (mixed >> 31)
     }
 
-    /// A number below `bound`. The bias of the remainder doesn't matter here.
+    /// Returns a number below `bound`. The bias of the remainder does not matter here.
     pub fn below(&mut self, bound: usize) -> usize {
         (self.number() % bound as u64) as usize
     }

@@ -1,5 +1,5 @@
-//! What the cases share: tables laid octet by octet, and calls that must leave just the
-//! table and the frames that were worked out.
+//! What the cases worked out by hand share: tables written octet by octet, and calls that must
+//! leave exactly the table and the frames that were worked out.
 
 use crate::answers::ACCEPTED;
 use crate::fence::{Fence, Side};
@@ -14,22 +14,22 @@ pub const ALL_ONES: Address = [0xFF; 6];
 pub const ZERO: Address = [0; 6];
 pub const GROUP: Address = [3, 0, 0, 0, 0, 9];
 
-/// No point.
+/// The address of no point.
 pub const STRANGER: Address = [2, 0, 0, 0, 1, 1];
 
 pub const LAST_CLOCK: u64 = (1 << 48) - 1;
 pub const LEAST_OUTPUT: usize = 1560;
 
-/// Each case is tried on both of these outputs, so that an octet which is not written shows
-/// in one of them.
+/// Each case is tried on both of these outputs. An octet that a call fails to write differs from
+/// what is expected in at least one of them.
 const OUTPUTS: [(usize, u8); 2] = [(LEAST_OUTPUT, 0xA5), (LEAST_OUTPUT + 217, 0x5A)];
 
-/// That of a point by its number; the first one is OWN.
+/// Returns the address of a point by its number. The first is OWN.
 pub const fn address(point: usize) -> Address {
     [2, 0, 0, 0, 0, 1 + point as u8]
 }
 
-/// A row's fields in the order of its octets; the zero octet is left out.
+/// The fields of a row in the order of its octets, without the zero octet.
 #[derive(Clone, Copy)]
 pub struct Row {
     pub status: u8,
@@ -54,7 +54,7 @@ pub const FREE: Row = Row {
 };
 
 impl Row {
-    /// A neighbour's row, as it is made while nothing but its link is known.
+    /// Returns a neighbour's row of unknown number, as it is made while only the link is known.
     pub fn unknown(self, metric: u32) -> Row {
         Row {
             known: 0,
@@ -79,7 +79,7 @@ impl Row {
     }
 }
 
-/// A table of OWN with the given counters, latest clock and rows.
+/// Returns a table of OWN with the given counters, latest clock and rows.
 pub fn table(number: u32, request_id: u32, latest_clock: u64, rows: &[Row]) -> Vec<u8> {
     let mut octets = [
         &OWN[..],
@@ -96,11 +96,11 @@ pub fn table(number: u32, request_id: u32, latest_clock: u64, rows: &[Row]) -> V
     octets
 }
 
-/// Some call with its operands, on a table and an output.
+/// A call with its operands, on a table and an output.
 pub type Call<'a> = &'a dyn Fn(&Implementation, &mut [u8], &mut [u8]) -> Outcome;
 
-/// Both implementations, on either side of a fence, must accept, leave the table so and
-/// write these frames and nothing beyond.
+/// Both implementations, on either side of a fence, must accept, leave the table `after`, write
+/// these frames and nothing beyond them.
 pub fn accepted(what: &str, before: &[u8], call: Call, after: &[u8], frames: &[Vec<u8>]) {
     let written = frames.concat();
     let expected = Outcome {
@@ -120,7 +120,7 @@ pub fn accepted(what: &str, before: &[u8], call: Call, after: &[u8], frames: &[V
     }
 }
 
-/// Both must refuse with that number and change nothing.
+/// Both implementations must refuse with that number and change nothing.
 pub fn refused(what: &str, before: &[u8], output: &[u8], call: Call, answer: u32) {
     let outcome = Outcome {
         answer,
@@ -135,12 +135,13 @@ pub fn refused(what: &str, before: &[u8], output: &[u8], call: Call, answer: u32
     leaves(what, before, output, call, &unchanged);
 }
 
-/// The same with an output that is long enough.
+/// Both implementations must refuse with that number and change nothing, although the output is
+/// long enough.
 pub fn refused_with_room(what: &str, before: &[u8], call: Call, answer: u32) {
     refused(what, before, &[0xA5; LEAST_OUTPUT], call, answer);
 }
 
-/// What a call must return and leave.
+/// What a call must return, and the octets it must leave.
 struct After<'a> {
     outcome: Outcome,
     table: &'a [u8],
@@ -162,7 +163,8 @@ fn leaves(what: &str, table: &[u8], output: &[u8], call: Call, after: &After) {
     }
 }
 
-/// A RREQ of OWN's to all ones; its destinations are flags, address and number.
+/// Returns the frame of a RREQ that OWN originates, to all ones. A destination is flags, address
+/// and number.
 pub fn rreq(
     flags: u8,
     request_id: u32,
@@ -188,7 +190,7 @@ pub fn rreq(
     frame
 }
 
-/// A RANN of OWN's to all ones.
+/// Returns the frame of a RANN that OWN originates, to all ones.
 pub fn rann(flags: u8, number: u32, lifetime: u32) -> Vec<u8> {
     [
         &ALL_ONES[..],
@@ -201,7 +203,7 @@ pub fn rann(flags: u8, number: u32, lifetime: u32) -> Vec<u8> {
     .concat()
 }
 
-/// A RERR to all ones with flags 0.
+/// Returns the frame of a RERR with flags 0, to all ones.
 pub fn rerr(destinations: &[(Address, u32)]) -> Vec<u8> {
     let count = destinations.len() as u8;
     let mut frame = [&ALL_ONES[..], &[132, 2 + 10 * count, 0, count]].concat();

@@ -1,5 +1,5 @@
-//! Answers worked out by hand from document 01, asked of the library and the reference
-//! alike: lengths, the order of the refusals, and the edges of each call.
+//! Answers of fresh, forget and next hop, worked out by hand from docs/PROTOCOL.md and asked of the
+//! library and the reference: lengths, the order of the refusals, and the edges of each call.
 
 use hwmp_tests::answers::{
     ACCEPTED, BAD_ADDRESS, CLOCK_TOO_LARGE, NO_NEXT_HOP, NOT_A_TABLE, NOT_HELD, OLD_CLOCK,
@@ -16,7 +16,7 @@ const ABSENT: [u8; 6] = [2, 0, 0, 0, 0, 8];
 const GROUP: [u8; 6] = [3, 0, 0, 0, 0, 9];
 const LAST_CLOCK: u64 = (1 << 48) - 1;
 
-/// A table of 4 rows; the third leads to DESTINATION through NEXT_HOP.
+/// Returns a table of 4 rows. The third leads to DESTINATION through NEXT_HOP.
 fn table(status: u8, expiry: u64, latest_clock: u64) -> Vec<u8> {
     let mut octets = vec![0; 32 + 4 * 32];
     octets[..6].copy_from_slice(&OWN);
@@ -31,7 +31,7 @@ fn table(status: u8, expiry: u64, latest_clock: u64) -> Vec<u8> {
     octets
 }
 
-/// What next hop returns: the address with an acceptance, zeros with a refusal.
+/// Returns what next hop must return: the address with an acceptance, zeros with a refusal.
 fn hop(answer: u32) -> Hop {
     let address = if answer == ACCEPTED { NEXT_HOP } else { [0; 6] };
     Hop { answer, address }
@@ -42,7 +42,7 @@ fn only_whole_tables_of_1_to_128_rows_have_a_length() {
     let lengths: Vec<usize> = (1..=128).map(|rows| 32 + 32 * rows).collect();
     for by in BOTH {
         for length in 0..=32 + 32 * 131 {
-            // Zeros are no table, so a length that fits is refused with 21 instead.
+            // Zeros are not a table, so a length that fits is refused with 21 instead.
             let (fresh, others) = if lengths.contains(&length) {
                 (ACCEPTED, NOT_A_TABLE)
             } else {
@@ -62,7 +62,7 @@ fn only_whole_tables_of_1_to_128_rows_have_a_length() {
     println!("lengths 0 to {}: 128 of them fit", 32 + 32 * 131);
 }
 
-/// The faults chosen by the bits of `chosen`, and the answer: the lowest of them, or 0.
+/// Returns the faults chosen by the bits of `chosen`, and the answer: the lowest fault, or 0.
 fn faults(numbers: &[u32], chosen: u32) -> (Vec<u32>, u32) {
     let bits = numbers.iter().enumerate();
     let faults: Vec<u32> = bits
@@ -240,7 +240,7 @@ fn next_hop_needs_an_active_row() {
 
 #[test]
 fn forget_needs_a_held_row_and_zeroes_it() {
-    // Status, expiry; destination; answer. The latest clock plays no part.
+    // Status, expiry; destination; answer. The latest clock does not matter.
     let edges = [
         (1, 6000, DESTINATION, ACCEPTED),
         (1, 0, DESTINATION, ACCEPTED),

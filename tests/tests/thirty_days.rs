@@ -1,5 +1,5 @@
 //! Thirty simulated days of sixteen points, twice: from clock 0 on, and up to the last clock. The
-//! program `thirty_days` lives through them with any number of incidents a day.
+//! program `thirty_days` runs them with any number of incidents a day.
 
 use hwmp_tests::random::Random;
 use hwmp_tests::thirty_days::{Days, STRETCHES, Stretch};

@@ -1,6 +1,6 @@
-//! Thirty simulated days of sixteen points, from clock 0 on and up to the last clock. The arguments
-//! are the incidents on a mean day and, if not the usual one, the seed. Days with fewer than some
-//! hundred incidents are too empty to pass the checks.
+//! Runs thirty simulated days of sixteen points, once from clock 0 on and once up to the last
+//! clock. The arguments are the mean number of incidents a day and, optionally, the seed. With
+//! fewer than some hundred incidents a day, too little happens to pass the checks.
 
 use std::env;
 use std::process::exit;

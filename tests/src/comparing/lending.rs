@@ -1,4 +1,4 @@
-//! Operands lent beside a fence, on either side of it.
+//! Operands lent next to a fence, on either side of it.
 
 use crate::fence::{Fence, Side};
 use crate::random::Random;

@@ -1,5 +1,5 @@
-//! Calls made on the library and on the reference, with equal operands on equal tables, and
-//! held together octet by octet.
+//! Makes each call on the library and on the reference, with equal operands on equal tables, and
+//! compares the results octet by octet.
 
 mod lending;
 mod pair;

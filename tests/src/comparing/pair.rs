@@ -2,11 +2,11 @@ use std::ops::Range;
 
 use crate::random::Random;
 
-/// Octets on both sides of the lent ones, which no call may touch.
+/// How many octets on each side of the lent ones no call may touch.
 const GUARD: usize = 64;
 const GUARD_OCTET: u8 = 0xA5;
 
-/// The same octets lent to both from the middle of a larger buffer.
+/// The same octets lent to both implementations, each from the middle of a larger buffer.
 pub struct Pair {
     library: Vec<u8>,
     reference: Vec<u8>,
@@ -14,7 +14,7 @@ pub struct Pair {
 }
 
 impl Pair {
-    /// They start at any remainder by 16, as firmware may place them anywhere.
+    /// The octets start at any remainder modulo 16, because firmware may place them anywhere.
     pub fn new(octets: &[u8], random: &mut Random) -> Pair {
         let start = GUARD + random.below(16);
         let lent = start..start + octets.len();
@@ -39,7 +39,8 @@ impl Pair {
         &mut self.reference[self.lent.clone()]
     }
 
-    /// Where the first octet differs, guards too; the lent ones begin at 0.
+    /// Returns the place of the first octet that differs, guards included. The lent octets begin at
+    /// 0.
     pub fn difference(&self) -> Option<isize> {
         if self.library == self.reference {
             return None;

@@ -10,7 +10,7 @@ use super::lending::{lend, lend_address};
 use super::pair::Pair;
 use super::tally::Tally;
 
-/// What the comparisons of one test share. Operands are lent beside the fence.
+/// What the comparisons of one test share. Operands are lent next to the fence.
 pub struct Run {
     pub random: Random,
     pub answers: Tally,
@@ -38,7 +38,7 @@ pub struct Point {
     table: Pair,
     /// The table before the last call.
     before: Vec<u8>,
-    /// What the last call that may emit has written.
+    /// What the last call that may emit wrote.
     emitted: Vec<u8>,
 }
 
@@ -60,7 +60,7 @@ impl Point {
         &self.before
     }
 
-    /// The frames of the last call that may emit.
+    /// Returns the frames of the last call that may emit.
     pub fn emitted(&self) -> &[u8] {
         &self.emitted
     }
@@ -70,14 +70,14 @@ impl Point {
         self.before.extend_from_slice(self.table.octets());
     }
 
-    /// Changes the table of both, as a call that is not compared would.
+    /// Changes the table of both implementations, as a call that is not compared would.
     pub fn change(&mut self, change: impl Fn(&mut [u8])) {
         change(self.table.of_library());
         change(self.table.of_reference());
     }
 
-    /// Runs one call on both and holds answers and all octets, guards too, together. Its name
-    /// and operands are put into words only if something differs.
+    /// Makes one call on both implementations. Answers and all octets, guards included, must agree.
+    /// `what` describes the call, and is only used if something differs.
     fn compare<A: PartialEq + std::fmt::Debug>(
         &mut self,
         what: impl Fn() -> String,
@@ -94,8 +94,9 @@ impl Point {
         found
     }
 
-    /// The same for a call that emits, with some output. What a refusal leaves alone, and
-    /// what an acceptance does, is known without the reference.
+    /// Makes one call that may emit on both implementations, with some output. Answers and all
+    /// octets must agree. Without the reference it also checks that output beyond the frames is
+    /// unchanged and that a refusal returns zeros and leaves the table.
     fn compare_emitting(
         &mut self,
         what: impl Fn() -> String,

@@ -1,12 +1,12 @@
 use std::collections::BTreeMap;
 
-/// How often each thing that was counted came out in each way.
+/// Counts how often each thing came out in each way.
 #[derive(Default)]
 pub struct Tally {
     counts: BTreeMap<(&'static str, u32), u64>,
 }
 
-/// What is counted, and the ways in which it can come out.
+/// A thing that is counted, and the ways in which it can come out.
 pub type Listed = (&'static str, &'static [u32]);
 
 impl Tally {
@@ -22,13 +22,13 @@ impl Tally {
         self.counts.values().sum()
     }
 
-    /// How often something was counted, however it came out.
+    /// Returns how often a thing was counted, with any outcome.
     pub fn total_of(&self, what: &'static str) -> u64 {
         let all = self.counts.range((what, 0)..=(what, u32::MAX));
         all.map(|(_, count)| count).sum()
     }
 
-    /// How often each outcome came, whatever was counted.
+    /// Returns how often each outcome came, for all things together.
     pub fn by_outcome(&self) -> BTreeMap<u32, u64> {
         let mut sums = BTreeMap::new();
         for ((_, outcome), count) in &self.counts {
@@ -47,8 +47,8 @@ impl Tally {
         }
     }
 
-    /// Each listed outcome at least so often, and no other: a comparison that never met an
-    /// outcome says nothing about it.
+    /// Each listed outcome must have come at least `least` times, and no other may have come. A
+    /// comparison that never met an outcome says nothing about it.
     pub fn check(&self, listed: &[Listed], least: u64) {
         for &(what, outcomes) in listed {
             for &outcome in outcomes {

@@ -18,7 +18,7 @@ pub struct Walk {
     pub destination: [u8; 6],
 }
 
-/// What the comparisons of walks share. All octets are lent beside a fence of their own.
+/// What the comparisons of walks share. Each buffer is lent next to its own fence.
 pub struct Walks {
     pub random: Random,
     pub answers: Tally,
@@ -42,8 +42,9 @@ impl Walks {
         }
     }
 
-    /// Walks by both, which must agree. That nothing is changed, what a refusal carries and how
-    /// many hops there can be is known without the reference.
+    /// Makes one walk by both implementations, which must agree. Without the reference it also
+    /// checks that nothing is changed, that a refusal carries no hops, and that there are at most
+    /// as many hops as tables.
     pub fn compare(&mut self, walk: &Walk) -> Walked {
         let random = &mut self.random;
         let tables = lend(&walk.tables, &mut self.tables, random);

@@ -5,8 +5,7 @@ use crate::random::Random;
 
 type Damage = fn(&mut Vec<u8>, &mut Random);
 
-/// Some of these leave an element well-formed now and then, as a bit flipped in a number
-/// does.
+/// Some damages occasionally leave an element well-formed, for example a bit flipped in a number.
 const DAMAGES: [Damage; 16] = [
     // Cut.
     |octets, random| octets.truncate(random.below(octets.len())),
@@ -61,7 +60,8 @@ pub fn damaged(mut octets: Vec<u8>, random: &mut Random) -> Vec<u8> {
     octets
 }
 
-/// Octets that share with an element at most a type's ID, a right Length, and no entries.
+/// Returns octets that share with an element at most a type's ID, a correct Length, and the absence
+/// of entries.
 pub fn shapeless(random: &mut Random) -> Vec<u8> {
     let mut octets = Vec::new();
     lengthen(&mut octets, random.below(300), random);
@@ -85,7 +85,7 @@ fn lengthen(octets: &mut Vec<u8>, by: usize, random: &mut Random) {
     octets.extend((0..by).map(|_| random.octet()));
 }
 
-/// The count octet, where there is one.
+/// Returns the count octet, or 0 if there is none.
 fn count(octets: &[u8]) -> u8 {
     let at = Kind::of(octets).and_then(Kind::count_at);
     at.and_then(|at| octets.get(at)).copied().unwrap_or(0)
@@ -105,7 +105,8 @@ fn without_list(octets: &mut Vec<u8>) {
     }
 }
 
-/// A Length that fits the count only if both go round, with the octets that it says.
+/// Gives the element a count above the most, with a Length that fits the count only modulo 256, and
+/// as many octets as that Length says.
 fn count_beyond_the_most(octets: &mut Vec<u8>, random: &mut Random) {
     let kind = Kind::of(octets).expect("was well-formed");
     if let Some(list) = &kind.list {

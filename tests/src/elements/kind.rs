@@ -1,10 +1,11 @@
-//! The layouts of document 01 as lists of fields, apart from the reference's.
+//! The layouts of docs/PROTOCOL.md, 'Elements', as lists of fields, written separately from the
+//! reference's.
 
 use std::ops::RangeInclusive;
 
 use Field::{Address, Number, Octet};
 
-/// What a field holds, and so how many octets it takes.
+/// What a field holds. It decides how many octets the field takes.
 #[derive(Clone, Copy)]
 pub enum Field {
     Octet,
@@ -83,13 +84,13 @@ pub const KINDS: [Kind; 4] = [
 ];
 
 impl Kind {
-    /// The type that the first octet names.
+    /// Returns the type that the first octet names.
     pub fn of(octets: &[u8]) -> Option<&'static Kind> {
         let id = octets.first()?;
         KINDS.iter().find(|kind| kind.id == *id)
     }
 
-    /// The legal counts of entries; a type without a list has none.
+    /// Returns the legal counts of entries. A type without a list has only 0.
     pub fn counts(&self) -> RangeInclusive<usize> {
         match &self.list {
             Some(list) => list.least..=list.most,
@@ -97,12 +98,12 @@ impl Kind {
         }
     }
 
-    /// The place of the count octet in the element.
+    /// Returns the place of the count octet in the element.
     pub fn count_at(&self) -> Option<usize> {
         self.list.as_ref().map(|_| 2 + width(self.fields))
     }
 
-    /// The place where the list begins, or would if the type had one.
+    /// Returns the place where the list begins, or would begin if the type had one.
     pub(super) fn list_at(&self) -> usize {
         2 + width(self.fields) + usize::from(self.list.is_some())
     }
@@ -113,7 +114,7 @@ impl List {
         width(self.entry)
     }
 
-    /// The place of the address in an entry.
+    /// Returns the place of the address in an entry.
     pub(super) fn address_at(&self) -> usize {
         let before = self
             .entry

@@ -13,7 +13,8 @@ pub use operands::{Room, listed_places, some_address, some_room};
 
 use kind::Field;
 
-/// Half of the elements are well-formed, with each type and each of its counts alike.
+/// Returns an element that is well-formed in half of all cases. All types are equally likely, and
+/// so are all counts of a type.
 pub fn any(random: &mut Random) -> Vec<u8> {
     match random.below(16) {
         0 => damage::shapeless(random),
@@ -28,7 +29,7 @@ fn any_well_formed(random: &mut Random) -> Vec<u8> {
     well_formed(kind, random.pick(&counts), random)
 }
 
-/// An element of that type with so many entries and any values in its fields.
+/// Returns an element of that type with `count` entries and any values in its fields.
 pub fn well_formed(kind: &Kind, count: usize, random: &mut Random) -> Vec<u8> {
     let mut octets = vec![kind.id, 0];
     for &field in kind.fields {
@@ -55,28 +56,28 @@ fn push(octets: &mut Vec<u8>, field: Field, address: [u8; 6], random: &mut Rando
     }
 }
 
-/// The element with these octets after ID and Length.
+/// Returns the element with these octets after ID and Length.
 pub fn framed(id: u8, fields: &[u8]) -> Vec<u8> {
     let mut octets = [&[id, 0], fields].concat();
     fit_length(&mut octets);
     octets
 }
 
-/// Originator (of a RREP the destination), number, lifetime and metric, which stand together in
-/// every type but a RERR.
+/// Returns the fields of a path, which stand together in every type but a RERR: the subject
+/// (`end`), number, lifetime and metric.
 pub fn path_fields(end: [u8; 6], number: u32, lifetime: u32, metric: u32) -> Vec<u8> {
     let [number, lifetime, metric] = [number, lifetime, metric].map(u32::to_le_bytes);
     [&end[..], &number, &lifetime, &metric].concat()
 }
 
-/// The Length octet for what follows it; from 256 octets on it goes round.
+/// Sets the Length octet to count what follows it. From 256 octets on it wraps.
 fn fit_length(octets: &mut [u8]) {
     if octets.len() >= 2 {
         octets[1] = (octets.len() - 2) as u8;
     }
 }
 
-/// Flags with each bit set and clear, the reserved ones too; counts at both ends.
+/// Flags have each bit set and clear, reserved bits too. Counts include both ends of their range.
 fn any_octet(random: &mut Random) -> u8 {
     let any = random.octet();
     random.pick(&[0, 1, 2, 4, 7, 0x80, 0xF8, 0xFF, any, any, any, any])
@@ -95,8 +96,8 @@ fn any_address(random: &mut Random) -> [u8; 6] {
     }
 }
 
-/// The addresses of a list: unrelated ones, ones that differ in an octet or in a bit only,
-/// or any at all; with faults laid over them.
+/// Returns the addresses of a list: unrelated ones, ones that differ in one octet or one bit only,
+/// or any at all. Some then get faults.
 fn listed_addresses(count: usize, random: &mut Random) -> Vec<[u8; 6]> {
     let base = individual(random).0;
     let sort = random.below(8);
@@ -121,7 +122,7 @@ fn one_octet_off(mut address: [u8; 6], octet: usize, by: u8) -> [u8; 6] {
     address
 }
 
-/// Each fault alone, several together, and what is nearly one.
+/// Makes each fault alone, several together, and addresses that are nearly faulty.
 fn lay_faults(addresses: &mut [[u8; 6]], random: &mut Random) {
     let count = addresses.len();
     if random.one_in(4) {

@@ -2,8 +2,8 @@ use super::Kind;
 use crate::random::Random;
 use crate::tables::{individual, not_individual, one_bit_off};
 
-/// An address to look for: one of the list, nearly one of it, any octets of the element, or
-/// one from elsewhere.
+/// Returns an address to search for: one of the list, one that is nearly in it, any octets of the
+/// element, or an unrelated one.
 pub fn some_address(octets: &[u8], random: &mut Random) -> [u8; 6] {
     let listed = some_listed_address(octets, random);
     let stretch = some_stretch(octets, random);
@@ -22,7 +22,7 @@ fn some_listed_address(octets: &[u8], random: &mut Random) -> Option<[u8; 6]> {
     octets[at..at + 6].try_into().ok()
 }
 
-/// Where the addresses of the whole entries in the list stand, as far as the octets go.
+/// Returns the places of the addresses of all whole entries in the list, as far as the octets go.
 pub fn listed_places(octets: &[u8]) -> Vec<usize> {
     let Some(kind) = Kind::of(octets) else {
         return Vec::new();
@@ -49,7 +49,8 @@ pub struct Room {
     pub at: usize,
 }
 
-/// Room for the element's frame in the middle or at the end of an output, or too little.
+/// Returns room for the element's frame in the middle or at the end of an output, or too little
+/// room.
 pub fn some_room(octets: &[u8], random: &mut Random) -> Room {
     let frame = 6 + octets.len();
     let (near, beyond) = (random.below(40), random.below(40));
@@ -60,7 +61,7 @@ pub fn some_room(octets: &[u8], random: &mut Random) -> Room {
         1 => (random.below(frame), 0),
         2 => (out, out - random.below(frame)),
         3 => (out, out + random.below(3)),
-        // Place and frame together go round, or the place is below 0 if read as signed.
+        // The sum of place and frame wraps, or the place is negative if read as signed.
         4 => (out, usize::MAX - random.below(frame + 8)),
         5 => (out, at + random.pick(&[1 << 16, 1 << 31, 1 << 32, 1 << 63])),
         _ => (out, at),

@@ -1,5 +1,5 @@
-//! Points that send to each other, and what must hold of them after every call: each table is
-//! one, what was sent can be read, and demand 3.
+//! Points that send to each other. After every accepted call the point's octets must still be a
+//! table, its frames must be readable, and demand 3 must hold (docs/PROTOCOL.md, 'Demands').
 
 mod ways;
 mod window;
@@ -19,10 +19,10 @@ use ways::Walk;
 pub use ways::Ways;
 pub use window::Window;
 
-/// A frame that one of the points has sent.
+/// A frame that one of the points sent.
 pub struct Sent {
     pub from: usize,
-    /// The point that it is for, if not for all.
+    /// The point that the frame is for, or None if it is for all.
     pub to: Option<usize>,
     pub element: Vec<u8>,
 }
@@ -31,21 +31,21 @@ pub struct Mesh {
     addresses: Vec<[u8; 6]>,
     points: Vec<Point>,
     pub clock: u64,
-    /// For each point as a destination.
+    /// One window for each point as a destination.
     windows: Vec<Window>,
     ways: Ways,
-    /// Of all walks along valid rows.
+    /// The most hops of any walk along valid rows.
     pub most_hops: usize,
     pub expired_met: u64,
 }
 
-/// What is counted beside the answers.
+/// What is counted in addition to the answers.
 pub const ACCEPTED_BY_ID: &str = "accepted by a mesh, by ID";
 pub const WALKS: &str = "walks, with the premise 1, without 0";
 pub const LOOPS: &str = "walks that meet a point twice, without the premise 0";
 
 impl Mesh {
-    /// Fresh tables of so many rows for these addresses, each with some own number.
+    /// Makes fresh tables of `rows` rows for these addresses, each with some own number.
     pub fn fresh(
         addresses: Vec<[u8; 6]>,
         rows: usize,
@@ -96,7 +96,7 @@ impl Mesh {
         self.after(point, outcome, run, seen)
     }
 
-    /// The same for an element that a point receives.
+    /// Lets a point receive an element, checks what must hold after it, and returns what it sends.
     pub fn receive(
         &mut self,
         point: usize,
@@ -111,12 +111,12 @@ impl Mesh {
         self.after(point, outcome, run, seen)
     }
 
-    /// The next hop, which changes nothing.
+    /// Asks for a next hop, which changes nothing.
     pub fn next_hop(&mut self, point: usize, clock: u64, destination: [u8; 6], run: &mut Run) {
         self.points[point].next_hop(clock, destination, run);
     }
 
-    /// A refused call has changed nothing, so that nothing new is to be checked.
+    /// A refused call changed nothing, so there is nothing new to check.
     fn after(&mut self, point: usize, outcome: Outcome, run: &Run, seen: &mut Tally) -> Vec<Sent> {
         if outcome.answer != ACCEPTED {
             return Vec::new();
@@ -129,7 +129,7 @@ impl Mesh {
         sent
     }
 
-    /// Cuts what a point has emitted into frames; each must be one that can be read.
+    /// Cuts what a point emitted into frames. Each element must be readable.
     fn cut_sent(&mut self, from: usize, outcome: Outcome) -> Vec<Sent> {
         let emitted = self.points[from].emitted().to_vec();
         let mut sent = Vec::new();
@@ -146,7 +146,7 @@ impl Mesh {
         sent
     }
 
-    /// The numbers beside addresses in an element.
+    /// Notes the numbers next to addresses in an element.
     fn note_carried(&mut self, element: &Element) {
         match element {
             Element::Rann(rann) => self.note(rann.originator, rann.number),
@@ -171,7 +171,7 @@ impl Mesh {
         }
     }
 
-    /// The own number of a point and the known ones of its rows; and where its rows lead.
+    /// Notes the own number of a point, the known numbers of its rows, and where its rows lead.
     fn note_held(&mut self, point: usize) {
         let octets = self.points[point].table().to_vec();
         let table = Table::cut(&octets).expect("a table's length");
@@ -183,7 +183,7 @@ impl Mesh {
         self.ways.take(point, &table, &self.addresses);
     }
 
-    /// There are rows for points only, so no other address has a window.
+    /// Only points are destinations of walks, so no other address needs a window.
     fn note(&mut self, address: Address, number: SequenceNumber) {
         if let Some(place) = self.place_of(address) {
             self.windows[place].note(number.0);
@@ -194,7 +194,7 @@ impl Mesh {
         self.addresses.iter().position(|known| *known == address.0)
     }
 
-    /// The destinations of the rows that the last call of a point has changed.
+    /// Returns the destinations of the rows that the last call of a point changed.
     fn changed_destinations(&self, point: usize) -> Vec<usize> {
         let point = &self.points[point];
         let [before, after] = [point.before(), point.table()].map(|octets| {
@@ -217,7 +217,7 @@ impl Mesh {
         }
     }
 
-    /// Demand 3 for one destination: from no point does a walk meet a point twice.
+    /// Checks demand 3 for one destination: no walk from any point may meet a point twice.
     fn check_walks(&mut self, destination: usize, run: &Run, seen: &mut Tally) {
         let premise = self.meets_premise(destination);
         for start in 0..self.points.len() {

@@ -2,8 +2,9 @@ use crate::reference::Address;
 use crate::reference::table::{Table, VALID};
 use crate::reference::walk::MOST_POINTS;
 
-/// Where each point's valid rows lead, expired or not: for each point and each destination the
-/// next hop, all by their numbers. A next hop that is no point ends a walk, as no row does.
+/// Where each point's valid rows lead, expired or not. For each point and each destination it has
+/// the next hop, all by their numbers. A next hop that is not a point ends a walk, and so does a
+/// missing row.
 pub struct Ways([[Option<Way>; MOST_POINTS]; MOST_POINTS]);
 
 #[derive(Clone, Copy)]
@@ -17,7 +18,7 @@ impl Ways {
         Ways([[None; MOST_POINTS]; MOST_POINTS])
     }
 
-    /// Takes the ways of one point anew from its table.
+    /// Replaces the ways of one point by those in its table.
     pub(super) fn take(&mut self, point: usize, table: &Table, addresses: &[[u8; 6]]) {
         let number = |address: Address| addresses.iter().position(|known| *known == address.0);
         self.0[point] = [None; MOST_POINTS];
@@ -30,7 +31,7 @@ impl Ways {
         }
     }
 
-    /// Some point with a row through the given one, sought from a place on.
+    /// Returns a point with a row through `next_hop`. The search begins at the point `from`.
     pub fn leading_through(&self, next_hop: usize, from: usize) -> Option<usize> {
         let points = (from..MOST_POINTS).chain(0..from);
         let leads = |&point: &usize| {
@@ -40,7 +41,8 @@ impl Ways {
         points.into_iter().find(leads)
     }
 
-    /// Walks from point to point towards the destination, up to the first that is met again.
+    /// Walks from point to point towards the destination, until a point is met again or there is no
+    /// way.
     pub(super) fn walk(&self, start: usize, destination: usize, clock: u64) -> Walk {
         let mut met = 0_u32;
         let mut at = start;
@@ -62,7 +64,7 @@ impl Ways {
 
 #[derive(Debug, PartialEq, Eq)]
 pub(super) enum Walk {
-    /// After so many hops, so many of them along rows that had expired.
+    /// The walk ended after `hops` hops, `expired` of them along expired rows.
     Ends {
         hops: usize,
         expired: u64,

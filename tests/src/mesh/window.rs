@@ -1,8 +1,8 @@
-/// The numbers held or carried for one destination, from the first on.
+/// The window of all numbers noted so far for one destination, held or carried.
 #[derive(Clone, Copy)]
 pub enum Window {
     Empty,
-    /// They are `low` and up to `span` numbers after it, and there is no shorter stretch.
+    /// All numbers lie from `low` to `low + span`, and no shorter stretch has them all.
     Within {
         low: u32,
         span: u32,
@@ -25,13 +25,14 @@ impl Window {
         };
     }
 
-    /// Whether all lie within 2^31 consecutive numbers round zero.
+    /// Reports whether all numbers lie within 2^31 consecutive ones, where 0 follows 4,294,967,295.
     pub fn meets_premise(&self) -> bool {
         !matches!(self, Window::TooWide)
     }
 }
 
-/// Widened at one of its ends. It cannot be both, since together they go once round.
+/// Widens the window at one of its ends. A number outside it cannot be in reach of both ends,
+/// because its distances from them add up to at least 2^32.
 fn widened(low: u32, span: u32, number: u32) -> Window {
     let above_low = number.wrapping_sub(low);
     let below_high = low.wrapping_add(span).wrapping_sub(number);

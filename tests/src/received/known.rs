@@ -2,7 +2,7 @@ use crate::random::Random;
 use crate::reference::table::{CLOCK_MAX, Head, Row, Table};
 use crate::tables::{boundary32, individual};
 
-/// What a table tells about operands that suit it. Octets that are no table tell little.
+/// What a table tells about operands that suit it. Octets that are not a table tell little.
 pub(super) struct Known {
     pub head: Head,
     pub rows: Vec<Row>,
@@ -19,7 +19,7 @@ impl Known {
         }
     }
 
-    /// A row, or if there is none a free one's zeros.
+    /// Returns a held row, or the zeros of a free row if there is none.
     pub fn some_row(&self, random: &mut Random) -> Row {
         match self.rows[..] {
             [] => Row::default(),
@@ -33,7 +33,7 @@ impl Known {
             .find(|row| row.destination.0 == destination)
     }
 
-    /// The number that is held for an address.
+    /// Returns the number that the table holds for an address, or 0.
     pub fn number_for(&self, address: [u8; 6]) -> u32 {
         if address == self.head.own.0 {
             self.head.number.0
@@ -42,7 +42,7 @@ impl Known {
         }
     }
 
-    /// At the latest clock or soon after, or when a row expires.
+    /// Returns a clock at the latest clock or soon after it, or close to the expiry of a row.
     pub fn some_clock(&self, random: &mut Random) -> u64 {
         let latest = self.head.latest_clock;
         let expiry = self.some_row(random).expiry;
@@ -52,7 +52,7 @@ impl Known {
         clock.clamp(latest.min(CLOCK_MAX), CLOCK_MAX)
     }
 
-    /// A neighbour that rows lead through, one with a row of its own, or a new one.
+    /// Returns a neighbour that rows lead through, one with its own row, or a new one.
     pub fn some_transmitter(&self, random: &mut Random) -> [u8; 6] {
         let (next_hop, destination) = (
             self.some_row(random).next_hop,
@@ -67,7 +67,8 @@ impl Known {
         }
     }
 
-    /// Small, or near the metric of the transmitter's own row.
+    /// Returns a link metric that is small, or near the metric of the transmitter's own row, or at
+    /// an edge of the range.
     pub fn some_link_metric(&self, transmitter: [u8; 6], random: &mut Random) -> u32 {
         let own_row = self.row_for(transmitter).map_or(1, |row| row.metric.0);
         let (near, edge) = (
@@ -77,7 +78,8 @@ impl Known {
         random.pick(&[1, 7, near, near, near, edge]).max(1)
     }
 
-    /// The source of a reply: this point, one that a row leads to, or a stranger.
+    /// Returns the source of a reply: this point, one that a row leads to, the transmitter, or a
+    /// stranger.
     pub fn some_source(&self, transmitter: [u8; 6], random: &mut Random) -> [u8; 6] {
         let row = self.some_row(random);
         let new = individual(random).0;
@@ -95,7 +97,7 @@ impl Known {
     }
 }
 
-/// Equal, newer, older, half the circle apart and nearly so, or any.
+/// Returns a number that is equal, newer, older, about half the circle away, or any.
 pub(super) fn near(number: u32, random: &mut Random) -> u32 {
     let half = 1 << 31;
     let steps = [0, 0, 0, 1, 1, u32::MAX, half, half - 1, half + 1];

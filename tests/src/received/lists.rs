@@ -4,8 +4,8 @@ use crate::random::Random;
 use crate::reference::element::{Destination, Rerr, Rreq};
 use crate::tables::{individual, not_individual};
 
-/// The destinations of a request: all ones alone, or several, the own address among them,
-/// destinations of rows, the transmitter, and new ones.
+/// Returns the destinations of a request: all ones alone, or several, among them the own address,
+/// destinations of rows, the transmitter, and new addresses.
 pub(super) fn destinations(
     known: &Known,
     transmitter: [u8; 6],
@@ -30,7 +30,7 @@ pub(super) fn destinations(
         let held = known.number_for(*address);
         let (flags, number) = (some_flags(random), near(held, random));
         if all_answered {
-            // By each row that is active and of known number.
+            // Each row that is active and of known number answers.
             destination(flags & !Destination::DO, *address, held)
         } else {
             destination(flags, *address, number)
@@ -43,19 +43,19 @@ fn destination(flags: u8, address: [u8; 6], number: u32) -> Vec<u8> {
     [&[flags][..], &address, &number.to_le_bytes()].concat()
 }
 
-/// DO and RF in each of their four ways, with any reserved bits or none.
+/// Returns flags with DO and RF in each of their four combinations, with any reserved bits or none.
 fn some_flags(random: &mut Random) -> u8 {
     random.octet() & random.pick(&[0x03, 0xFF])
 }
 
-/// Flags of a request with these destinations: unicast only if that is allowed.
+/// Returns flags for a request with these destinations, with unicast set only where it is allowed.
 pub(super) fn request_flags(list: &[Vec<u8>], random: &mut Random) -> u8 {
     let flags = random.octet();
     let one = matches!(list, [only] if only[1..7] != [0xFF; 6]);
     if one { flags } else { flags & !Rreq::UNICAST }
 }
 
-/// What an error names: rows through its transmitter, other rows, and new addresses.
+/// Returns the entries of a RERR: rows through its transmitter, other rows, and new addresses.
 pub(super) fn errors(known: &Known, transmitter: [u8; 6], random: &mut Random) -> Vec<Vec<u8>> {
     let any = 1 + random.below(Rerr::MOST);
     let count = random.pick(&[1, 2, any, any, Rerr::MOST]);
@@ -84,8 +84,8 @@ pub(super) fn errors(known: &Known, transmitter: [u8; 6], random: &mut Random) -
     addresses.iter().map(listed).collect()
 }
 
-/// So many individual addresses, none twice and none of those taken. If what is drawn does not
-/// suffice, new ones fill the list.
+/// Returns `count` individual addresses, all different and none of those taken. If drawing does not
+/// find enough, new addresses fill the list.
 fn distinct(
     count: usize,
     taken: &[[u8; 6]],
@@ -110,8 +110,8 @@ fn distinct(
     addresses
 }
 
-/// One address of the list made such that no point accepts it, or a flag that does not go with
-/// the list. A list without entries stays.
+/// Puts a bad address into the list, or sets a flag that does not suit it. A list without entries
+/// stays.
 pub(super) fn spoil(element: &mut [u8], own: [u8; 6], random: &mut Random) {
     let places = elements::listed_places(element);
     let (Some(&first), Some(&last)) = (places.first(), places.last()) else {
@@ -125,7 +125,7 @@ pub(super) fn spoil(element: &mut [u8], own: [u8; 6], random: &mut Random) {
         0 => not_individual(random).0,
         1 => [0xFF; 6],
         2 => other,
-        // The originator of a RREQ; of others some other octets.
+        // In a RREQ these octets are the originator. In other types they are any octets.
         3 => element
             .get(9..15)
             .map_or(other, |octets| octets.try_into().unwrap()),

@@ -1,5 +1,5 @@
-//! Random elements that suit a table, and how they come in: near the rows' numbers, metrics and
-//! expiries, from the rows' neighbours, about the rows' destinations.
+//! Random elements that suit a table, with the way they come in. They lie near the rows' numbers,
+//! metrics and expiries, come from the rows' neighbours, and are about the rows' destinations.
 
 mod known;
 mod lists;
@@ -14,7 +14,7 @@ use crate::tables;
 use known::Known;
 use path::Path;
 
-/// How an element comes in.
+/// An element, and how it comes in.
 #[derive(Clone, Debug)]
 pub struct Received {
     pub clock: u64,
@@ -23,7 +23,7 @@ pub struct Received {
     pub element: Vec<u8>,
 }
 
-/// One that the table may well accept, though its state may be against it.
+/// Returns an element that the table may well accept, though its state may still refuse it.
 pub fn suited(table: &[u8], random: &mut Random) -> Received {
     let known = Known::of(table);
     let transmitter = known.some_transmitter(random);
@@ -42,14 +42,14 @@ pub fn suited(table: &[u8], random: &mut Random) -> Received {
     received
 }
 
-/// The same with one fault or some other damage.
+/// Returns an element that suits the table except for one fault or some other damage.
 pub fn faulty(table: &[u8], random: &mut Random) -> Received {
     let mut received = suited(table, random);
     spoil(&mut received, table, random);
     received
 }
 
-/// Lays one fault or some other damage over what a point with this table is to receive.
+/// Puts one fault or some other damage into what a point with this table will receive.
 pub fn spoil(received: &mut Received, table: &[u8], random: &mut Random) {
     let own = Known::of(table).head.own.0;
     match random.below(16) {
@@ -102,7 +102,8 @@ fn rrep(known: &Known, received: &Received, random: &mut Random) -> Vec<u8> {
     .concat();
     // A reply with TTL 0 or 1 is always refused.
     fixed[2] = fixed[2].max(random.pick(&[1, 2, 2, 2, 2, 2, 2, 2]));
-    // They are passed on unread, so any octets will do, also addresses that are not individual.
+    // Dependents are forwarded unread, so any octets will do, also addresses that are not
+    // individual.
     fixed.extend((0..10 * dependents).map(|_| random.octet()));
     elements::framed(131, &fixed)
 }

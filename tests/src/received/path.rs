@@ -4,7 +4,7 @@ use crate::elements::{Kind, path_fields};
 use crate::random::Random;
 use crate::tables::{boundary32, individual, not_individual};
 
-/// What an element other than a RERR tells of a path.
+/// The path that an element other than a RERR tells of. `end` is the subject.
 pub(super) struct Path {
     pub end: [u8; 6],
     number: u32,
@@ -14,7 +14,7 @@ pub(super) struct Path {
 }
 
 impl Path {
-    /// A path to the end of some row, to the transmitter, or to a new address.
+    /// Draws a path to the destination of some row, to the transmitter, or to a new address.
     pub fn draw(known: &Known, received: &Received, random: &mut Random) -> Path {
         let row = known.some_row(random);
         let new = individual(random).0;
@@ -34,7 +34,7 @@ impl Path {
         }
     }
 
-    /// Flags, hop count and TTL.
+    /// Returns flags, hop count and TTL.
     pub fn head(&self, flags: u8, random: &mut Random) -> [u8; 3] {
         [
             flags,
@@ -48,7 +48,7 @@ impl Path {
     }
 }
 
-/// Such that the new expiry is near the stored one, if that is possible.
+/// Returns a lifetime that brings the new expiry near the stored one, where that is possible.
 fn some_lifetime(clock: u64, expiry: u64, random: &mut Random) -> u32 {
     let edge = boundary32(random).max(1);
     let just_before = expiry.saturating_sub(clock).saturating_sub(1);
@@ -57,7 +57,8 @@ fn some_lifetime(clock: u64, expiry: u64, random: &mut Random) -> u32 {
     random.pick(&[until_then, until_then, edge, 5000]).max(1)
 }
 
-/// Such that with the link it is near the row's, or near the largest that a path may have.
+/// Returns a metric that, with the link added, is near the row's metric or near the largest of a
+/// path.
 fn some_metric(link: u32, row: u32, random: &mut Random) -> u32 {
     let most = u32::MAX - 1;
     let below = random.pick(&[0, 0, 1, 1, 2]);
@@ -71,7 +72,7 @@ fn some_metric(link: u32, row: u32, random: &mut Random) -> u32 {
     metric.min(most.saturating_sub(link))
 }
 
-/// One field made such that no point accepts it. The fields of a RERR are in its list.
+/// Changes one field so that no point accepts it. A RERR has all such fields in its list.
 pub(super) fn spoil(element: &mut [u8], own: [u8; 6], random: &mut Random) {
     let Some((end_at, lifetime_at)) = places(element) else {
         return;
@@ -83,7 +84,7 @@ pub(super) fn spoil(element: &mut [u8], own: [u8; 6], random: &mut Random) {
         3 => element[4] = random.pick(&[0, 1]),
         4 => element[end_at..][..6].copy_from_slice(&not_individual(random).0),
         5 => element[end_at..][..6].copy_from_slice(&own),
-        // The source of a reply; of others it is some other field.
+        // In a RREP these octets are the source. In other types they are another field.
         _ => {
             let end: [u8; 6] = element[end_at..][..6].try_into().unwrap();
             let at = (lifetime_at + 8).min(element.len() - 6);
@@ -94,7 +95,7 @@ pub(super) fn spoil(element: &mut [u8], own: [u8; 6], random: &mut Random) {
     }
 }
 
-/// Where the end of the path and the lifetime stand.
+/// Returns the places of the subject and the lifetime.
 fn places(element: &[u8]) -> Option<(usize, usize)> {
     match Kind::of(element)?.name {
         "RANN" | "RREP" => Some((5, 15)),

@@ -1,4 +1,4 @@
-//! 'Errors and breaks' of document 01, as far as a point finds out itself.
+//! The report of a broken neighbour: docs/PROTOCOL.md, 'Errors and breaks'.
 
 use super::element::list::Entries;
 use super::element::{Element, NumberedAddress, Rerr};
@@ -33,7 +33,7 @@ pub fn report_break(
 }
 
 /// Invalidates the active rows through the neighbour and lists them in table order. The list is
-/// filled where it lies, since returning one with room for all rows would copy it.
+/// filled in place, because returning one with room for all rows would copy it.
 fn lose_rows(rows: &mut [[u8; ROW_OCTETS]], clock: u64, neighbour: Address, lost: &mut Lost) {
     for place in rows {
         let row = Row::decode(place);

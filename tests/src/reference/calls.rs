@@ -1,5 +1,5 @@
-//! The calls that emit nothing. Each runs its checks in the order of document 01, lowest
-//! number first, and writes only after the last of them.
+//! The calls that emit nothing. Each makes its checks in the order of docs/PROTOCOL.md, 'Refusals',
+//! lowest number first, and writes only after the last check.
 
 use super::refusal::ensure;
 use super::table::{Head, Row, write_head, write_row};

@@ -1,5 +1,5 @@
-//! Checks that several calls make, so that each call is a list of them in document 01's
-//! order.
+//! Checks that several calls make. Each call lists its checks in the order of docs/PROTOCOL.md,
+//! 'Refusals'.
 
 use super::refusal::ensure;
 use super::table::{CLOCK_MAX, Head, Table};
@@ -16,7 +16,7 @@ pub fn clock(clock: u64) -> Result<(), Refusal> {
     ensure(clock <= CLOCK_MAX, CLOCK_TOO_LARGE)
 }
 
-/// The transmitter of what is received, or the neighbour that broke.
+/// Judges the transmitter of an element, or the neighbour that broke.
 pub fn neighbour(neighbour: Address) -> Result<(), Refusal> {
     ensure(neighbour.is_individual(), BAD_NEIGHBOUR)
 }
@@ -33,8 +33,8 @@ pub fn clock_not_behind(clock: u64, table: &Table) -> Result<(), Refusal> {
     ensure(clock >= table.head().latest_clock, OLD_CLOCK)
 }
 
-/// The state's part in a call that brings a clock and a neighbour, and stores the clock if it
-/// is accepted: the head as it then will be.
+/// Makes the checks by the state for a call that brings a clock and a neighbour. Returns the head
+/// with the clock stored.
 pub fn head_at(clock: u64, neighbour: Address, table: &Table) -> Result<Head, Refusal> {
     is_table(table)?;
     clock_not_behind(clock, table)?;

@@ -1,4 +1,4 @@
-//! Counters that never stand in for one another, so each is a type of its own.
+//! Counters that never stand in for one another. Each is a type of its own.
 
 #[derive(Clone, Copy, Debug, Default, PartialEq, Eq)]
 pub struct SequenceNumber(pub u32);
@@ -35,10 +35,11 @@ impl RequestId {
 pub struct Metric(pub u32);
 
 impl Metric {
-    /// No path has it: it marks a row whose path is known to be lost.
+    /// No path has this metric. It marks a row whose path is known to be lost.
     pub const MAX: Metric = Metric(u32::MAX);
 
-    /// The metric of a path that is longer by a link; None if that is too large for a path.
+    /// Returns the metric of a path that is longer by a link, or None if it is too large for a
+    /// path.
     pub fn over(self, link: Metric) -> Option<Metric> {
         let sum = self.0.checked_add(link.0).map(Metric);
         sum.filter(|&sum| sum != Metric::MAX)
@@ -49,7 +50,7 @@ impl Metric {
 pub struct HopCount(pub u8);
 
 impl HopCount {
-    /// None after 255.
+    /// Returns None after 255.
     pub fn next(self) -> Option<HopCount> {
         self.0.checked_add(1).map(HopCount)
     }

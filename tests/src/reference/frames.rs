@@ -5,7 +5,7 @@ use super::refusal::ensure;
 use super::{Address, Refusal};
 use crate::answers::SHORT_OUTPUT;
 
-/// Room for all that one call can emit.
+/// Room for everything that one call can emit.
 pub const LEAST_OUTPUT: usize = 1560;
 
 /// What an acceptance reports.
@@ -15,14 +15,14 @@ pub struct Emitted {
     pub octets: usize,
 }
 
-/// A lent output and what of it is written.
+/// A lent output, and how much of it is written.
 pub struct Frames<'a> {
     output: &'a mut [u8],
     emitted: Emitted,
 }
 
 impl<'a> Frames<'a> {
-    /// Refused with 2 unless the output holds what any call can emit.
+    /// Refuses with 2 unless the output holds what any call can emit.
     pub fn start(output: &'a mut [u8]) -> Result<Frames<'a>, Refusal> {
         ensure(output.len() >= LEAST_OUTPUT, SHORT_OUTPUT)?;
         Ok(Frames {
@@ -45,7 +45,7 @@ impl<'a> Frames<'a> {
     }
 }
 
-/// What was emitted, cut into receivers and elements by the elements' Length octets.
+/// Cuts what was emitted into receivers and elements, by the elements' Length octets.
 pub fn cut_frames(emitted: &[u8]) -> impl Iterator<Item = ([u8; 6], &[u8])> {
     let mut rest = emitted;
     std::iter::from_fn(move || {

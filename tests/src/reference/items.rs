@@ -1,4 +1,4 @@
-//! What an ask names: up to 20 destinations, flags and address each.
+//! The items of an ask: up to 20 destinations, each flags and address.
 
 use super::element::list::{Entries, has_twice};
 use super::element::{Destination, Rreq};
@@ -43,7 +43,7 @@ impl<'a> Items<'a> {
         self.iter().map(|item| item.address)
     }
 
-    /// What can be said of them without the table. All ones is no individual address.
+    /// Makes the checks that need no table. All ones is not an individual address.
     pub fn check(&self) -> Result<(), Refusal> {
         let individual = self.addresses().all(Address::is_individual);
         ensure(individual, BAD_ADDRESS)?;
@@ -53,7 +53,7 @@ impl<'a> Items<'a> {
         ensure(fits, BAD_LIST)
     }
 
-    /// The destinations of the request, each with the number that the table knows of it.
+    /// Returns the destinations of the request, each with the number that the table knows for it.
     pub fn destinations(&self, table: &Table) -> Entries<{ Destination::OCTETS }, { Rreq::MOST }> {
         let mut destinations = Entries::new();
         for Item { flags, address } in self.iter() {

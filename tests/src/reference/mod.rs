@@ -1,5 +1,6 @@
-//! Document 01 in plain Rust, written from the document alone. The tests hold the library
-//! against it, and the benchmarks take it as the plain Rust version.
+//! The protocol in plain Rust, written separately from the library, from the paper that
+//! docs/PROTOCOL.md restates. The tests compare the library with it, and the benchmarks use it as
+//! the plain Rust version.
 
 mod address;
 pub mod bench;

@@ -1,6 +1,6 @@
-//! Fields at fixed places. The places are constants, so neither of these can fail.
+//! Fields at fixed places. The places are constants, so neither function can fail.
 
-/// The N octets of a field.
+/// Returns the N octets of a field.
 pub fn field<const N: usize, const M: usize>(octets: &[u8; M], at: usize) -> [u8; N] {
     octets[at..at + N].try_into().unwrap()
 }

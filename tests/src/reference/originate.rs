@@ -1,5 +1,5 @@
-//! 'Originating' of document 01: the elements that a point sends of its own accord. Each
-//! takes the next own number and goes to all ones.
+//! The elements that a point originates: docs/PROTOCOL.md, 'Originating'. Each takes the next own
+//! number and goes to all ones.
 
 use super::element::{Destination, Element, Rann, Rreq};
 use super::frames::{Emitted, Frames};
@@ -9,7 +9,7 @@ use super::table::{Head, write_head};
 use super::{Address, HopCount, Metric, Refusal, SequenceNumber, checks};
 use crate::answers::{ABOUT_ITSELF, BAD_LIST};
 
-/// The hops that a new element may take.
+/// The TTL of a new element.
 pub(super) const TTL: u8 = 31;
 
 pub fn ask(
@@ -76,8 +76,7 @@ pub fn root_request(
     Ok(frames.emitted())
 }
 
-/// The checks of an announcement and of a root request, which differ only in the flags that
-/// fit.
+/// Makes the checks of an announcement or a root request, which differ only in the flags allowed.
 fn start_as_root<'a>(
     octets: &[u8],
     output: &'a mut [u8],
@@ -92,7 +91,7 @@ fn start_as_root<'a>(
     Ok((table.head(), frames))
 }
 
-/// Emits a request with the counters of a head that has been stepped.
+/// Emits a request with the counters of a head that was already stepped.
 fn request(
     frames: &mut Frames,
     head: &Head,

@@ -1,9 +1,9 @@
 use crate::answers::ACCEPTED;
 
-/// A refusal by its number in document 01.
+/// A refusal by its number in docs/PROTOCOL.md, 'Refusals'.
 pub type Refusal = u32;
 
-/// 0 for an acceptance, else the refusal.
+/// Returns 0 for an acceptance, otherwise the refusal.
 pub fn answer<T>(outcome: Result<T, Refusal>) -> u32 {
     outcome.err().unwrap_or(ACCEPTED)
 }

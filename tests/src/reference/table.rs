@@ -1,4 +1,5 @@
-//! 'Table octets' of document 01: fields, their places, and what makes octets a table.
+//! The table of docs/PROTOCOL.md, 'Table': fields, their places, and what makes octets a legal
+//! table.
 
 use super::octets::{field, put};
 use super::{Address, HopCount, Metric, RequestId, SequenceNumber};
@@ -94,7 +95,7 @@ impl Head {
         octets
     }
 
-    /// The head with the next own number, which a new element takes.
+    /// Returns the head with the next own number, which a new element takes.
     pub fn numbered(self) -> Head {
         Head {
             number: self.number.next(),
@@ -102,7 +103,7 @@ impl Head {
         }
     }
 
-    /// The head with the next request ID as well.
+    /// Returns the head with the next own number and the next request ID.
     pub fn requested(self) -> Head {
         Head {
             request_id: self.request_id.next(),
@@ -172,7 +173,7 @@ impl Row {
         self.number_known == 1
     }
 
-    /// The row after its next hop was lost.
+    /// Returns the row after its next hop was lost.
     pub fn broken(self) -> Row {
         if self.has_known_number() {
             self.invalidated().raised(self.number.next())
@@ -188,7 +189,7 @@ impl Row {
         }
     }
 
-    /// The row with this number and the largest metric.
+    /// Returns the row with this number and the largest metric.
     pub fn raised(self, number: SequenceNumber) -> Row {
         Row {
             number,
@@ -223,7 +224,7 @@ impl Row {
         Ok(())
     }
 
-    /// A row without a sequence number is a neighbour's: one hop, straight to it.
+    /// A row of unknown number belongs to a neighbour: one hop, straight to it.
     fn check_unknown(&self) -> Result<(), Flaw> {
         ensure(self.number.0 == 0, Flaw::UnknownWithNumber)?;
         ensure(self.hop_count.0 == 1, Flaw::UnknownWithHopCount)?;
@@ -238,7 +239,7 @@ pub struct Table<'a> {
 }
 
 impl<'a> Table<'a> {
-    /// None if the length is not 32 + 32R with R from 1 to 128.
+    /// Returns None if the length is not 32 + 32R with R from 1 to 128.
     pub fn cut(octets: &'a [u8]) -> Option<Table<'a>> {
         let (head, rest) = octets.split_first_chunk()?;
         let (rows, remainder) = rest.as_chunks();
@@ -254,7 +255,8 @@ impl<'a> Table<'a> {
         self.rows.iter().map(Row::decode)
     }
 
-    /// Whether the octets are a table (refusal 21), and if not, a clause they break.
+    /// Checks that the octets are a legal table (refusal 21). If not, returns a clause that they
+    /// break.
     pub fn check(&self) -> Result<(), Flaw> {
         let head = self.head();
         head.check()?;
@@ -272,27 +274,27 @@ impl<'a> Table<'a> {
             .any(|row| row.is_held() && row.destination == destination)
     }
 
-    /// The held row of a destination and its place among the rows.
+    /// Returns the held row of a destination and its place among the rows.
     pub fn row_for(&self, destination: Address) -> Option<(usize, Row)> {
         self.rows()
             .enumerate()
             .find(|(_, row)| row.is_held() && row.destination == destination)
     }
 
-    /// The row of a destination if it is active.
+    /// Returns the row of a destination if it is active.
     pub fn active_row_for(&self, destination: Address, clock: u64) -> Option<(usize, Row)> {
         self.row_for(destination)
             .filter(|(_, row)| row.is_active(clock))
     }
 
-    /// The number known of a destination, whatever the status of its row.
+    /// Returns the number known for a destination, whatever the status of its row.
     pub fn known_number(&self, destination: Address) -> Option<SequenceNumber> {
         self.row_for(destination)
             .filter(|(_, row)| row.has_known_number())
             .map(|(_, row)| row.number)
     }
 
-    /// The places of the free rows, lowest first.
+    /// Returns the places of the free rows, lowest first.
     pub fn free_places(&self) -> impl Iterator<Item = usize> {
         let rows = self.rows.iter().enumerate();
         rows.filter(|(_, row)| row[0] == FREE)
@@ -300,17 +302,17 @@ impl<'a> Table<'a> {
     }
 }
 
-/// Lays a head into its place.
+/// Writes a head into its place.
 pub fn write_head(octets: &mut [u8], head: &Head) {
     octets[..HEAD_OCTETS].copy_from_slice(&head.encode());
 }
 
-/// The places of the rows.
+/// Returns the places of the rows.
 pub fn rows_mut(octets: &mut [u8]) -> &mut [[u8; ROW_OCTETS]] {
     octets[HEAD_OCTETS..].as_chunks_mut().0
 }
 
-/// Lays a row into its place.
+/// Writes a row into its place.
 pub fn write_row(octets: &mut [u8], place: usize, row: &Row) {
     rows_mut(octets)[place] = row.encode();
 }

@@ -1,4 +1,4 @@
-//! The walk of document 01's 'Walk and bench': from point to point along rows that are active.
+//! The walk of docs/PROTOCOL.md, 'Walk': from point to point along active rows.
 
 use super::element::list::has_twice;
 use super::refusal::ensure;
@@ -42,7 +42,7 @@ struct Points<'a> {
 }
 
 impl<'a> Points<'a> {
-    /// None unless the octets are 1 to 16 pieces of a table's length.
+    /// Returns None unless the octets are 1 to 16 pieces of a table's length.
     fn cut(octets: &'a [u8], count: u32) -> Option<Points<'a>> {
         let count = usize::try_from(count).ok()?;
         let fits = (1..=MOST_POINTS).contains(&count) && octets.len().is_multiple_of(count);
@@ -60,12 +60,12 @@ impl<'a> Points<'a> {
         pieces.map(|piece| Table::cut(piece).expect("as long as the first piece"))
     }
 
-    /// The own addresses, whether or not the rest of their octets is a table.
+    /// Returns the own addresses, whether or not the rest of the octets is a table.
     fn addresses(&self) -> impl Iterator<Item = Address> + Clone {
         self.iter().map(|table| table.head().own)
     }
 
-    /// The table of the point that has this address.
+    /// Returns the table of the point that has this address.
     fn at(&self, address: Address) -> Option<Table<'a>> {
         self.iter().find(|table| table.head().own == address)
     }

@@ -3,18 +3,19 @@
 use crate::random::Random;
 use crate::reference::Address;
 
-/// How the addresses of one table resemble each other. A search that confuses addresses
-/// shows it only if some of them are alike.
+/// How the addresses of one table resemble each other. A search that confuses addresses shows it
+/// only if some of them are alike.
 #[derive(Clone, Copy)]
 pub(super) enum Family {
     Unrelated,
-    /// All octets alike but one.
+    /// All octets are alike except one.
     OneOctet {
         base: [u8; 6],
         at: usize,
     },
-    /// As little-endian numbers all have one remainder by 1021, so that a search by
-    /// remainders finds them in one place.
+    /// All addresses, as little-endian numbers, differ by multiples of 2042 below 2^21. They have
+    /// one remainder modulo 1021, and at most two of the marks by which the library finds a
+    /// destination that stands twice.
     OneRemainder {
         base: u64,
     },
@@ -70,27 +71,27 @@ pub fn individual(random: &mut Random) -> Address {
     individual_from(random.octets())
 }
 
-/// A group address, all ones, or all zero.
+/// Returns a group address, all ones, or all zero.
 pub fn not_individual(random: &mut Random) -> Address {
     let mut group: [u8; 6] = random.octets();
     group[0] |= 1;
     Address(random.pick(&[group, [1, 0, 0, 0, 0, 0], [0xFF; 6], [0; 6]]))
 }
 
-/// Nearly the same address; it may be a group's or all zero.
+/// Returns the address with one bit changed, which may make it a group's or all zero.
 pub fn one_bit_off(mut address: [u8; 6], random: &mut Random) -> [u8; 6] {
     address[random.below(6)] ^= 1 << random.below(8);
     address
 }
 
-/// Different addresses that differ in one octet only, or in all.
+/// Returns different addresses that differ in one octet only, or in all.
 pub fn some_addresses(count: usize, random: &mut Random) -> Vec<[u8; 6]> {
     let base = individual(random).0;
     let octet = random.below(6);
     let alike = random.one_in(2);
     let address = |place: usize| {
         let mut address = if alike { base } else { individual(random).0 };
-        // Even, as the first octet of an individual address is.
+        // Even, because the first octet of an individual address is even.
         address[octet] = 2 + 2 * place as u8;
         address
     };

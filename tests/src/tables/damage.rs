@@ -6,14 +6,14 @@ use super::{
 use crate::random::Random;
 use crate::reference::table::{EXPIRY_MAX, MAX_ROWS};
 
-/// Octets that are hardly a table.
+/// Returns octets that are hardly ever a table.
 pub fn junk(length: usize, random: &mut Random) -> Vec<u8> {
     (0..length).map(|_| random.octet()).collect()
 }
 
 type Damage = fn(&mut [u8], &mut Random);
 
-/// Some of these leave a table legal now and then, as one octet changed in a number does.
+/// Some damages occasionally leave a table legal, for example one octet changed in a number.
 const DAMAGES: [Damage; 18] = [
     |octets, random| octets[random.below(octets.len())] ^= 1 << random.below(8),
     |octets, random| octets[random.below(octets.len())] = random.octet(),
@@ -52,14 +52,15 @@ pub fn damage(octets: &mut [u8], random: &mut Random) {
     damage(octets, random);
 }
 
-/// A legal table with one damage done to it.
+/// Returns a legal table with one damage done to it.
 pub fn damaged(rows: usize, random: &mut Random) -> Vec<u8> {
     let mut octets = legal(rows, random);
     damage(&mut octets, random);
     octets
 }
 
-/// A legal table, cut short or lengthened. Whole rows more or less may leave it legal.
+/// Returns a legal table, cut short or lengthened. If it loses or gains whole rows, it may stay
+/// legal.
 pub fn resized(rows: usize, random: &mut Random) -> Vec<u8> {
     let mut octets = legal(rows, random);
     let here = octets.len();

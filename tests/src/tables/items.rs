@@ -1,4 +1,4 @@
-//! The items of an ask, flags and address each.
+//! The items of an ask, each flags and address.
 
 use super::{address_at, individual, length, not_individual, one_bit_off, some_held_row};
 use crate::random::Random;
@@ -6,7 +6,7 @@ use crate::reference::element::Rreq;
 
 const OCTETS: usize = 7;
 
-/// Items that suit the table, for destinations with and without rows; or with faults.
+/// Returns items that suit the table, for destinations with and without rows. Some have faults.
 pub fn some_items(octets: &[u8], random: &mut Random) -> Vec<u8> {
     let any = 1 + random.below(Rreq::MOST);
     let count = random.pick(&[1, 2, Rreq::MOST, any]);
@@ -27,7 +27,7 @@ pub fn some_items(octets: &[u8], random: &mut Random) -> Vec<u8> {
     items
 }
 
-/// Individual addresses other than the own one, none twice.
+/// Returns different individual addresses, without the own one.
 fn distinct(octets: &[u8], count: usize, random: &mut Random) -> Vec<[u8; 6]> {
     let mut addresses: Vec<[u8; 6]> = Vec::with_capacity(count);
     while addresses.len() < count {
@@ -41,7 +41,8 @@ fn distinct(octets: &[u8], count: usize, random: &mut Random) -> Vec<[u8; 6]> {
     addresses
 }
 
-/// Mostly the destination of a row; or its next hop, an address much like another, or any.
+/// Returns mostly the destination of a row; otherwise a next hop, an address much like another, or
+/// any.
 fn some_address(octets: &[u8], others: &[[u8; 6]], random: &mut Random) -> [u8; 6] {
     let listed = octets.len() >= length(1);
     match (random.below(8), others) {
@@ -65,7 +66,7 @@ fn lay_faults(addresses: &mut [[u8; 6]], octets: &[u8], random: &mut Random) {
     }
 }
 
-/// Some of these lengths are an ask's again.
+/// Some of these lengths fit an ask again.
 fn resize(items: &mut Vec<u8>, random: &mut Random) {
     let here = items.len();
     let lengths = [

@@ -25,7 +25,7 @@ pub fn length(rows: usize) -> usize {
     HEAD_OCTETS + rows * ROW_OCTETS
 }
 
-/// Numbers at the ends and in the middle of the range, and any.
+/// Returns a number at either end or in the middle of the range, or any.
 pub fn boundary32(random: &mut Random) -> u32 {
     let any = random.number() as u32;
     random.pick(&[0, 1, 2, (1 << 31) - 1, 1 << 31, u32::MAX - 1, u32::MAX, any])
@@ -42,7 +42,7 @@ fn expiry(random: &mut Random) -> u64 {
     random.pick(&[any, any, edge])
 }
 
-/// Half of the latest clocks are low, so that not nearly all clocks lie behind them.
+/// Half of the latest clocks are low. Otherwise nearly all clocks would lie behind them.
 fn head(own: Address, random: &mut Random) -> Head {
     let clock = clock48(random);
     Head {
@@ -54,7 +54,7 @@ fn head(own: Address, random: &mut Random) -> Head {
     }
 }
 
-/// A row as receiving might leave it. One of unknown number leads straight to its
+/// Returns a row as receiving might leave it. A row of unknown number leads straight to its
 /// destination instead of through the next hop.
 pub fn held_row(destination: Address, next_hop: Address, random: &mut Random) -> Row {
     let any = random.octet();
@@ -79,10 +79,10 @@ pub fn held_row(destination: Address, next_hop: Address, random: &mut Random) ->
 /// What the rows of one table have in common.
 struct Mould {
     family: Family,
-    /// How many neighbours they lead through; with 0 each row has a next hop of its own.
+    /// How many neighbours the rows lead through. With 0, each row has a next hop of its own.
     neighbours: usize,
     free_in_8: usize,
-    /// How many of the held ones are sure to be lost if their next hop breaks soon.
+    /// How many of 64 held rows a break of their next hop is sure to lose, if it comes soon.
     fragile_in_64: usize,
 }
 
@@ -105,8 +105,8 @@ fn filled(rows: usize, mould: &Mould, random: &mut Random) -> Vec<u8> {
             [] => family.draw_other_than(&[own], random),
             _ => random.pick(&neighbours),
         };
-        // A neighbour has a row of its own now and then. Its address then stands both as
-        // destination and as next hop, and a search must not take one for the other.
+        // Sometimes a neighbour has a row of its own. Its address is then both a destination and a
+        // next hop, and a search must not confuse the two.
         let destination = if random.one_in(16) && !taken.contains(&next_hop) {
             next_hop
         } else {
@@ -122,8 +122,8 @@ fn filled(rows: usize, mould: &Mould, random: &mut Random) -> Vec<u8> {
     octets
 }
 
-/// The row made valid and of known number: a row of unknown number could not keep this next
-/// hop, and an invalidated one could not be lost.
+/// Returns the row made valid and of known number. A row of unknown number could not keep this next
+/// hop, and a break could not lose an invalidated row.
 fn fragile(row: Row, next_hop: Address, expiry: u64) -> Row {
     Row {
         status: VALID,
@@ -134,8 +134,8 @@ fn fragile(row: Row, next_hop: Address, expiry: u64) -> Row {
     }
 }
 
-/// A legal table: full, or with free rows anywhere, as forgetting leaves them. Its next hops
-/// are few or many, so that a break loses none, one or several rows.
+/// Returns a legal table: full, or with free rows anywhere, as forgetting leaves them. It has few
+/// or many next hops, so that a break loses none, one or several rows.
 pub fn legal(rows: usize, random: &mut Random) -> Vec<u8> {
     let mould = Mould {
         family: Family::random(random),
@@ -146,7 +146,7 @@ pub fn legal(rows: usize, random: &mut Random) -> Vec<u8> {
     filled(rows, &mould, random)
 }
 
-/// A legal table with every row held and unrelated addresses.
+/// Returns a legal table with every row held and unrelated addresses.
 pub fn full(rows: usize, random: &mut Random) -> Vec<u8> {
     let mould = Mould {
         family: Family::Unrelated,
@@ -157,8 +157,8 @@ pub fn full(rows: usize, random: &mut Random) -> Vec<u8> {
     filled(rows, &mould, random)
 }
 
-/// A legal table of which one break can lose nearly all rows, since only many rows lost at
-/// once need several RERRs.
+/// Returns a legal table of which one break can lose nearly all rows. Several RERRs are needed only
+/// if many rows are lost at once.
 pub fn leaning(rows: usize, random: &mut Random) -> Vec<u8> {
     let mould = Mould {
         family: Family::random(random),
@@ -169,12 +169,12 @@ pub fn leaning(rows: usize, random: &mut Random) -> Vec<u8> {
     filled(rows, &mould, random)
 }
 
-/// The offset of some row.
+/// Returns the offset of some row.
 fn some_row(octets: &[u8], random: &mut Random) -> usize {
     HEAD_OCTETS + ROW_OCTETS * random.below((octets.len() - HEAD_OCTETS) / ROW_OCTETS)
 }
 
-/// The offset of a row, a held one if that is quickly found.
+/// Returns the offset of a row, a held one if it is found quickly.
 fn some_held_row(octets: &[u8], random: &mut Random) -> usize {
     let rows = [(); 4].map(|_| some_row(octets, random));
     rows.into_iter()

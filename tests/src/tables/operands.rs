@@ -7,7 +7,7 @@ use crate::random::Random;
 use crate::reference::LEAST_OUTPUT;
 use crate::reference::table::CLOCK_MAX;
 
-/// A destination to ask the table for: mostly one of its own rows.
+/// Returns a destination to ask the table for, mostly that of one of its rows.
 pub fn some_destination(octets: &[u8], random: &mut Random) -> [u8; 6] {
     let listed = octets.len() >= length(1);
     match random.below(8) {
@@ -22,7 +22,7 @@ pub fn some_destination(octets: &[u8], random: &mut Random) -> [u8; 6] {
     }
 }
 
-/// A neighbour that may have broken: mostly the next hop of some row.
+/// Returns a neighbour that may have broken, mostly the next hop of some row.
 pub fn some_neighbour(octets: &[u8], random: &mut Random) -> [u8; 6] {
     let listed = octets.len() >= length(1);
     match random.below(16) {
@@ -35,7 +35,7 @@ pub fn some_neighbour(octets: &[u8], random: &mut Random) -> [u8; 6] {
     }
 }
 
-/// A clock at or near one that the table holds, at an end of the range, or beyond it.
+/// Returns a clock at or near one that the table holds, at an end of the range, or beyond it.
 pub fn some_clock(octets: &[u8], random: &mut Random) -> u64 {
     let listed = octets.len() >= length(1);
     let near = match random.below(10) {
@@ -48,7 +48,7 @@ pub fn some_clock(octets: &[u8], random: &mut Random) -> u64 {
     near.wrapping_add(step)
 }
 
-/// Flags of an announcement or a root request: mostly ones that a root may set.
+/// Returns flags for an announcement or a root request, mostly ones that a root may set.
 pub fn some_flags(random: &mut Random) -> u8 {
     let any = random.octet();
     random.pick(&[0, 0, 1, 1, 4, 5, 2, any])
@@ -59,7 +59,7 @@ pub fn some_lifetime(random: &mut Random) -> u32 {
     random.pick(&[0, 1, u32::MAX, edge, any, any, any, any])
 }
 
-/// Mostly the least output that every call accepts, or more.
+/// Returns mostly the least length that every call accepts, sometimes more, rarely less.
 pub fn some_output_length(random: &mut Random) -> usize {
     let shorter = random.below(LEAST_OUTPUT);
     let longer = LEAST_OUTPUT + 1 + random.below(500);

@@ -26,7 +26,7 @@ impl Days {
         self.call(point, |point, run| point.announce(flags, lifetime, run));
     }
 
-    /// Some point does something, or something happens to a link.
+    /// Lets some point do something, or something happen to a link.
     pub(super) fn incident(&mut self) {
         let point = self.some_point();
         let link = self.run.random.below(LINKS.len());
@@ -43,8 +43,8 @@ impl Days {
         self.happens_after(gap, Event::Incident);
     }
 
-    /// Mostly for points of the drive, now and then for a stranger. The own address, or one that
-    /// stands twice, is refused.
+    /// Asks mostly for points of the drive, sometimes for a stranger. The own address, or an
+    /// address twice, is refused.
     fn ask(&mut self, point: usize) {
         let lifetime = self.some_lifetime();
         let random = &mut self.run.random;
@@ -58,7 +58,7 @@ impl Days {
         self.call(point, |point, run| point.ask(lifetime, &items, run));
     }
 
-    /// The link goes away for some time.
+    /// Takes the link away for some time.
     fn lose_link(&mut self, link: usize) {
         self.drive.lose(link);
         let (one, other) = LINKS[link];
@@ -68,7 +68,7 @@ impl Days {
         self.happens_after(away, Event::LinkBack(link));
     }
 
-    /// That a link is gone: soon, late, or not at all.
+    /// Plans that a point finds out about a lost link: soon, late, or not at all.
     fn find_out(&mut self, point: usize, neighbour: usize) {
         let (soon, late) = (self.below(2 * SECOND), self.some_delay());
         let found_out = Event::Break { point, neighbour };
@@ -79,7 +79,8 @@ impl Days {
         }
     }
 
-    /// A neighbour was not heard for a while, though its link is there.
+    /// Reports a neighbour as broken although its link is there, as if it was not heard for a
+    /// while.
     fn report_some_neighbour(&mut self, point: usize) {
         let neighbours = self.drive.neighbours(point);
         if !neighbours.is_empty() {
@@ -101,7 +102,7 @@ impl Days {
         (self.mesh).next_hop(point, clock, destination, &mut self.run);
     }
 
-    /// Every point announces itself, so that each hears something at the last clock.
+    /// Lets every point announce itself, so that each hears something at the last clock.
     pub(super) fn last_moment(&mut self) {
         self.drive.restore(&mut self.run.random);
         for point in 0..self.mesh.addresses().len() {
@@ -114,7 +115,7 @@ impl Days {
         self.after(point, sent);
     }
 
-    /// From such that rows expire before anybody asks again to such that they outlast the days.
+    /// Some lifetimes let rows expire before anybody asks again. Others outlast the thirty days.
     fn some_lifetime(&mut self) -> u32 {
         let lifetimes = [SECOND, 30 * SECOND, HOUR / 6, 6 * HOUR, 2 * DAY];
         let lifetime = self.run.random.pick(&lifetimes) as u32;
@@ -122,7 +123,7 @@ impl Days {
         self.run.random.pick(&lifetimes)
     }
 
-    /// Now and then behind, as the clocks of two points may differ.
+    /// Sometimes behind, because the clocks of two points may differ.
     pub(super) fn some_clock(&mut self) -> u64 {
         let most = self.run.random.pick(&[20, HOUR]);
         let behind = self.below(most);

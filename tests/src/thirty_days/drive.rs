@@ -1,8 +1,8 @@
 use crate::random::Random;
 use crate::reference::walk::MOST_POINTS;
 
-/// Points along a drive: each has a link to the next, so that walks are long, and a few have one
-/// further on, so that ways compete.
+/// Points along a drive. Each has a link to the next, which makes walks long. A few have a link
+/// farther on, so that paths compete.
 pub const LINKS: [(usize, usize); 20] = [
     (0, 1),
     (1, 2),
@@ -26,11 +26,11 @@ pub const LINKS: [(usize, usize); 20] = [
     (12, 15),
 ];
 
-/// The link metrics as they are now, 0 where there is no link.
+/// The link metrics at present, 0 where there is no link.
 pub struct Drive([[u32; MOST_POINTS]; MOST_POINTS]);
 
 impl Drive {
-    /// All links are there.
+    /// Returns a drive that has all its links.
     pub fn whole(random: &mut Random) -> Drive {
         let mut drive = Drive([[0; MOST_POINTS]; MOST_POINTS]);
         drive.restore(random);
@@ -43,8 +43,8 @@ impl Drive {
         }
     }
 
-    /// The link has some metric from now on, whether it was there before or not. A longer one is
-    /// worse, and yet often better than the way along the line.
+    /// Gives the link some metric from now on, whether or not it was there before. A longer link is
+    /// worse, but often still better than the path along the line.
     pub fn renew(&mut self, link: usize, random: &mut Random) {
         let (one, other) = LINKS[link];
         let most = 40 * (other - one);
@@ -70,7 +70,7 @@ impl Drive {
         self.0[from][to]
     }
 
-    /// Those that can hear a point now.
+    /// Returns the points that can hear a point now.
     pub fn neighbours(&self, of: usize) -> Vec<usize> {
         let metrics = self.0[of].iter().enumerate();
         metrics

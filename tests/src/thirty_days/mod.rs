@@ -1,10 +1,12 @@
-//! Sixteen points along a drive through thirty simulated days, each call made by the library and by
-//! the reference. Roots request and portals announce again and again, points ask for each other,
-//! links change, go away and come back, and frames are lost, late, repeated, out of order, heard by
-//! anybody, and damaged. After every call each table must be one, and demand 3 must hold.
+//! Sixteen points along a drive live through thirty simulated days, and each call is made by the
+//! library and by the reference. Roots send root requests and portals announce themselves again and
+//! again. Points ask for each other. Links change, go away and come back. Frames are lost, late,
+//! repeated, out of order, heard by points they were not meant for, and damaged. After every
+//! accepted call the octets must still be a table, and demand 3 must hold (docs/PROTOCOL.md,
+//! 'Demands').
 //!
-//! Forget is left out, since demand 3 is false with it: once its row is forgotten, a point takes
-//! what is old for new.
+//! Forget is left out, because demand 3 is false with it: a point that forgot a row takes old
+//! elements for new ones.
 
 mod calling;
 mod drive;
@@ -35,8 +37,8 @@ pub struct Stretch {
     rows: usize,
 }
 
-/// In the first one there is a row for every other point, and none for a stranger. In the second
-/// one there is none either for the last of the points that one hears of (27).
+/// In the first stretch a table has a row for every other point and none for a stranger. In the
+/// second it also lacks a row for one point, so that the last point heard of is refused (27).
 pub const STRETCHES: [Stretch; 2] = [
     Stretch {
         name: "thirty days from the first clock on",
@@ -50,12 +52,12 @@ pub const STRETCHES: [Stretch; 2] = [
     },
 ];
 
-/// Which point requests as a root or announces itself as a portal, with which flags, and after how
-/// many gaps again.
+/// The points that send root requests (ROOTS) or announce themselves (PORTALS): point, flags, and
+/// after how many gaps it does so again.
 const ROOTS: [(usize, u8, u64); 2] = [(0, 5, 11), (13, 0, 17)];
 const PORTALS: [(usize, u8, u64); 2] = [(4, 1, 13), (9, 1, 19)];
 
-/// Counted for each point whose own number has passed from 4,294,967,295 to 0.
+/// Counted for each point whose own number passed from 4,294,967,295 to 0.
 const WRAPPED: &str = "own number passed to 0";
 
 pub struct Days {
@@ -71,15 +73,16 @@ pub struct Days {
     seen: Tally,
     /// The own number of each point after its latest call.
     numbers: Vec<u32>,
-    /// How many frames were sent, and for each receiver and sender the latest that arrived.
+    /// How many frames were sent. `heard` has, for each receiver and sender, the latest frame that
+    /// arrived.
     frames: u64,
     heard: [[u64; MOST_POINTS]; MOST_POINTS],
-    /// Of the walks that have met their destination.
+    /// The most hops of walks that met their destination.
     most_hops: u32,
 }
 
 impl Days {
-    /// Lives through a stretch, with so many incidents on a mean day.
+    /// Lives through a stretch, with a mean of `incidents_per_day` incidents a day.
     pub fn live(stretch: &Stretch, incidents_per_day: u64, random: Random) -> Days {
         let mut days = Days::start(stretch, incidents_per_day, random);
         days.plan();
@@ -115,7 +118,7 @@ impl Days {
         }
     }
 
-    /// What goes on from the first clock to the last, and what happens then.
+    /// Plans what begins at the first clock, and what happens at the last.
     fn plan(&mut self) {
         let roots = (0..ROOTS.len()).map(Event::RootRequest);
         let portals = (0..PORTALS.len()).map(Event::Announcement);
@@ -142,7 +145,7 @@ impl Days {
         }
     }
 
-    /// What is to be done after every call of a point that may send.
+    /// Does what follows every call of a point that may send.
     fn after(&mut self, point: usize, sent: Vec<Sent>) {
         self.note_number(point);
         self.check_premise();
@@ -157,9 +160,10 @@ impl Days {
         self.numbers[point] = number;
     }
 
-    /// The premise of demand 3, without which a walk that goes round would be excused. It holds
-    /// since own numbers start little below 2^32 and step far less than 2^31 times: all numbers of
-    /// a point lie in one window with 0, which is carried for it wherever its own is unknown.
+    /// Checks the premise of demand 3, without which a walk in a circle would be excused. The
+    /// premise holds because own numbers start a little below 2^32 and step far less than 2^31
+    /// times. All numbers of a point lie in one window with 0, which elements carry for a point
+    /// whose number is unknown.
     fn check_premise(&self) {
         for destination in 0..MOST_POINTS {
             let premise = self.mesh.meets_premise(destination);
@@ -183,7 +187,7 @@ fn fresh_mesh(rows: usize, incidents_per_day: u64, run: &mut Run) -> Mesh {
     Mesh::fresh(addresses, rows, number, run)
 }
 
-/// Before 2^32 by so many steps that the points pass it one after another in the course of the
+/// Returns a number so many steps before 2^32 that the points pass it one after another during the
 /// thirty days, however many incidents a day has.
 fn first_number(place: u64, incidents_per_day: u64) -> u32 {
     let steps = 1 + place * incidents_per_day / 8;

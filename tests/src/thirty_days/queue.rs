@@ -3,11 +3,11 @@ use std::rc::Rc;
 
 use crate::mesh::Sent;
 
-/// What is to happen at some time.
+/// An event that is planned.
 pub enum Event {
-    /// A root requests, by its place among the roots.
+    /// A root sends a root request. Its number is its place among the roots.
     RootRequest(usize),
-    /// A portal announces itself, by its place among the portals.
+    /// A portal announces itself. Its number is its place among the portals.
     Announcement(usize),
     Incident,
     /// A point finds out that it no longer hears another.
@@ -22,7 +22,7 @@ pub enum Event {
     LastMoment,
 }
 
-/// A frame by its number among all that were sent.
+/// A frame, with its number among all that were sent.
 pub struct Frame {
     pub number: u64,
     pub sent: Sent,
@@ -31,12 +31,12 @@ pub struct Frame {
 pub struct Arrival {
     pub frame: Rc<Frame>,
     pub receiver: usize,
-    /// Whether it gets there by no link of the drive.
+    /// Whether the frame arrives without a link of the drive.
     pub is_stray: bool,
 }
 
-/// What is to come, up to the last clock, earliest first. Of one clock, what was added first comes
-/// first.
+/// The events up to the last clock, earliest first. Events at one clock come in the order in which
+/// they were added.
 pub struct Queue {
     last: u64,
     waiting: BTreeMap<(u64, u64), Event>,
@@ -52,7 +52,7 @@ impl Queue {
         }
     }
 
-    /// Nothing happens after the last clock.
+    /// Drops an event after the last clock.
     pub fn add(&mut self, clock: u64, event: Event) {
         if clock <= self.last {
             self.added += 1;
@@ -60,7 +60,7 @@ impl Queue {
         }
     }
 
-    /// What would arrive after the last clock arrives then, so that nothing is left on its way.
+    /// Moves an arrival after the last clock to the last clock, so that every frame arrives.
     pub fn add_arrival(&mut self, clock: u64, arrival: Arrival) {
         self.add(clock.min(self.last), Event::Arrival(arrival));
     }

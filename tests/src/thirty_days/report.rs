@@ -1,4 +1,4 @@
-//! What the thirty days came to, and whether they were full enough to say anything.
+//! Reports the thirty days, and checks that enough happened in them to mean something.
 
 use std::collections::BTreeMap;
 use std::fmt::Display;
@@ -13,7 +13,7 @@ use crate::answers::{
 use crate::comparing::Listed;
 use crate::mesh::{ACCEPTED_BY_ID, LOOPS, WALKS};
 
-/// What the calls can answer, and how often each must have occurred.
+/// What the calls can answer, and how often each answer must have occurred.
 const LEAST_ANSWERED: u64 = 5;
 const ANSWERS: [Listed; 7] = [
     ("fresh", &[ACCEPTED]),
@@ -60,7 +60,7 @@ const IDS: [u32; 4] = [126, 130, 131, 132];
 const LEAST_HOPS: u32 = 8;
 
 impl Days {
-    /// Printed as one text, since two stretches may be lived through at once.
+    /// Prints one text, because two stretches may run at the same time.
     pub fn report(&self, name: &str) {
         let days = (self.last - self.first) / DAY;
         let mut answers = self.answers();
@@ -88,7 +88,7 @@ impl Days {
         println!("{name}:\n  {}", lines.join("\n  "));
     }
 
-    /// Whether everything has occurred that these days are to be full of.
+    /// Checks that everything occurred that must occur in these days.
     pub fn check(&self) {
         self.run.answers.check(&ANSWERS, LEAST_ANSWERED);
         self.walks.answers.check(&WALKED, LEAST_ANSWERED);
@@ -108,7 +108,7 @@ impl Days {
         }
     }
 
-    /// How often each answer was given, by all calls together.
+    /// Returns how often each answer was given, by all calls together.
     fn answers(&self) -> BTreeMap<u32, u64> {
         let mut answers = self.run.answers.by_outcome();
         for (answer, count) in self.walks.answers.by_outcome() {
@@ -125,7 +125,7 @@ impl Days {
         BAD_SORTS.map(|sort| (sort, self.seen.total_of(sort)))
     }
 
-    /// How many points' own numbers have passed from the largest to 0. None can do so twice.
+    /// Returns how many own numbers passed from the largest to 0. None can do so twice.
     fn wraps(&self) -> u64 {
         self.seen.total_of(WRAPPED)
     }

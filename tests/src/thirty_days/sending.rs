@@ -1,4 +1,4 @@
-//! How frames fare on their way, and what is received.
+//! What happens to frames on their way, and what is received.
 
 use std::rc::Rc;
 
@@ -8,7 +8,7 @@ use crate::comparing::Point;
 use crate::mesh::Sent;
 use crate::received::{self, Received};
 
-/// What is counted of the ways in which a delivery goes wrong.
+/// The ways in which a delivery goes wrong, as they are counted.
 pub const LOST: &str = "lost";
 pub const LATE: &str = "late";
 pub const REPEATED: &str = "repeated";
@@ -34,8 +34,8 @@ impl Days {
         }
     }
 
-    /// The neighbours of the sender; or the one that the frame is for, and now and then another
-    /// that hears it too.
+    /// Returns the neighbours of the sender, if the frame is for all. Otherwise returns the
+    /// neighbour that it is for, and sometimes another that overhears it.
     fn receivers(&mut self, sent: &Sent) -> Vec<usize> {
         let mut receivers = self.drive.neighbours(sent.from);
         if let Some(to) = sent.to {
@@ -69,7 +69,7 @@ impl Days {
         self.arrives_after(delay, frame, receiver, true);
     }
 
-    /// From seconds to hours.
+    /// Returns a delay from seconds to hours.
     pub(super) fn some_delay(&mut self) -> u64 {
         let bounds = [5 * SECOND, HOUR / 60, HOUR / 6, 6 * HOUR];
         let most = self.run.random.pick(&bounds);
@@ -120,8 +120,8 @@ impl Days {
         *latest = frame.number.max(*latest);
     }
 
-    /// What is damaged may pass for an element that no point has sent. Of these demand 3 says
-    /// nothing, so that the point must not learn from them: a copy of it receives them.
+    /// A damaged element may be valid although no point sent it. Demand 3 does not cover such an
+    /// element, so the point itself must not learn from it: a copy of the point receives it.
     fn receive_damaged(&mut self, mut received: Received, receiver: usize) {
         let table = self.mesh.table(receiver);
         let random = &mut self.run.random;

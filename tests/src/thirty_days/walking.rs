@@ -1,4 +1,4 @@
-//! Where a scan would go.
+//! Walks from point to point.
 
 use super::queue::Event;
 use super::{Days, HOUR};
@@ -8,7 +8,7 @@ use crate::library::Walked;
 use crate::tables;
 
 impl Days {
-    /// From every point to every point, twice a day.
+    /// Walks from every point to every point, twice a day.
     pub(super) fn tour(&mut self) {
         let mut walk = self.walk_at(self.mesh.clock);
         for start in self.mesh.addresses().to_vec() {
@@ -25,8 +25,8 @@ impl Days {
         }
     }
 
-    /// Now and then with a clock that is behind, from or to a stranger, or to no individual
-    /// address.
+    /// Walks somewhere. Sometimes the clock is behind, start or destination is a stranger, or the
+    /// destination is not an individual address.
     pub(super) fn walk_somewhere(&mut self) {
         let clock = self.some_clock();
         let mut walk = self.walk_at(clock);
@@ -35,7 +35,7 @@ impl Days {
         self.walk(&walk);
     }
 
-    /// With the tables as they are; start and destination are still to be set.
+    /// Returns a walk over the tables as they are. The caller must set start and destination.
     fn walk_at(&self, clock: u64) -> Walk {
         let points = 0..self.mesh.addresses().len();
         let tables: Vec<&[u8]> = points.map(|point| self.mesh.table(point)).collect();
@@ -48,8 +48,8 @@ impl Days {
         }
     }
 
-    /// Where demand 3 holds no walk goes on for as many hops as there are points (42): it would
-    /// have met one twice.
+    /// Where demand 3 holds, no walk has as many hops as there are points (42), because it would
+    /// have met a point twice.
     fn walk(&mut self, walk: &Walk) {
         let Walked { answer, hops } = self.walks.compare(walk);
         assert_ne!(answer, TOO_LONG, "{walk:?}");
@@ -58,7 +58,7 @@ impl Days {
         }
     }
 
-    /// Mostly that of a point of the drive.
+    /// Returns mostly the address of a point of the drive.
     fn some_address(&mut self) -> [u8; 6] {
         let random = &mut self.run.random;
         let stranger = tables::individual(random).0;

@@ -13,7 +13,7 @@ use hwmp_tests::tables;
 const TABLES: usize = 200_000;
 const CALLS_PER_TABLE: usize = 8;
 
-/// The answers that each call can give, and how often each must have occurred.
+/// The answers that each call can give, and how often each answer must have occurred.
 const LEAST_ANSWERED: u64 = 5_000;
 const ANSWERS: [Listed; 4] = [
     (
@@ -67,7 +67,7 @@ const ANSWERS: [Listed; 4] = [
     ),
 ];
 
-/// What accepted calls must have met besides; where it is a yes or no, 1 stands for yes.
+/// What else accepted calls must have met. In a count of yes and no, 1 stands for yes.
 const LEAST_SEEN: u64 = 500;
 const SEEN: [Listed; 13] = [
     (ITEMS, &UP_TO_20),
@@ -97,13 +97,13 @@ const NUMBER_OF_ROOT_PASSES: &str = "own number of a root request passes to 0";
 const ID_OF_ROOT_PASSES: &str = "request ID of a root request passes to 0";
 const FRAMES: &str = "frames of a break";
 const ROWS_LOST: &str = "rows lost by a break";
-/// None, one, all, and the counts about which one more RERR is needed.
+/// None, one, all, and the counts at which one more RERR is needed.
 const ROWS_LOST_COUNTED: [u32; 8] = [0, 1, 25, 26, 50, 51, 127, 128];
 const LATER: &str = "clock of a break later than the latest";
 const LOST_KNOWN: &str = "number of a lost row known";
 const LOST_PASSES: &str = "number of a lost row passes to 0";
 
-/// Any number of rows, and more often those about which one more RERR is needed.
+/// Returns any number of rows, and more often one at which one more RERR is needed.
 fn some_rows(random: &mut Random) -> usize {
     let near_full_error = 25 * (1 + random.below(5)) + random.below(2);
     match random.below(8) {
@@ -150,7 +150,7 @@ fn see_items(table: &[u8], items: &[u8], seen: &mut Tally) {
     }
 }
 
-/// Whether the own number of the table passes to 0 with the next step.
+/// Reports whether the next step takes the own number of the table to 0.
 fn number_passes(table: &[u8]) -> u32 {
     (table[8..12] == [0xFF; 4]).into()
 }

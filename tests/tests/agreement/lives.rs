@@ -1,5 +1,5 @@
-//! Tables that live: made fresh over junk and filled up to some row, then learning and all
-//! calls by turns, each on what the calls before it left.
+//! Tables with a history: each is made fresh over junk and filled up to some row. Then learning and
+//! all calls follow in any order, each on what the calls before it left.
 
 use hwmp_tests::answers::{
     ABOUT_ITSELF, ACCEPTED, BAD_ADDRESS, BAD_COUNT, BAD_LIST, BAD_NEIGHBOUR, CLOCK_TOO_LARGE,
@@ -13,7 +13,8 @@ use hwmp_tests::tables;
 const LIVES_PER_LENGTH: usize = 60;
 const STEPS: usize = 60;
 
-/// What a table that stays one can answer, and how often each must have occurred.
+/// What the calls can answer on octets that stay a table, and how often each answer must have
+/// occurred.
 const LEAST: u64 = 1_000;
 const ANSWERS: [Listed; 7] = [
     ("fresh", &[ACCEPTED]),
@@ -60,20 +61,20 @@ const SEVERAL: u32 = 2;
 
 const OWN: Address = Address([2, 0, 0, 0, 0, 0]);
 
-/// Some destinations more than there are rows, so that a table fills and still is asked for
-/// what it has no row for. The own address is among them.
+/// There are a few more destinations than rows. The table can fill up, and is still asked for
+/// destinations without a row. The own address is among them.
 fn some_destination(rows: usize, run: &mut Run) -> Address {
     Address([2, 0, 0, 0, 0, run.random.below(rows + 8) as u8])
 }
 
-/// Few neighbours, and one of them far more often than the others, so that many rows are
-/// lost with it.
+/// There are few neighbours, and one of them comes far more often than the others, so that its
+/// break loses many rows.
 fn some_next_hop(run: &mut Run) -> Address {
     let neighbour = run.random.pick(&[1, 1, 1, 1, 1, 1, 2, 3]);
     Address([2, 0, 0, 0, 0, neighbour])
 }
 
-/// Lays a row into a free place of both tables, as receiving does.
+/// Writes a row into a free place of both tables, as receiving does.
 fn learn(point: &mut Point, destination: Address, next_hop: Address, run: &mut Run) {
     let (rows, _) = point.table()[HEAD_OCTETS..].as_chunks::<ROW_OCTETS>();
     let known = rows.iter().any(|row| row[4..10] == destination.0);

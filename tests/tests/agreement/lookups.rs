@@ -12,7 +12,7 @@ use hwmp_tests::tables;
 /// Tables drawn for each number of rows.
 const TABLES_PER_LENGTH: usize = 950;
 
-/// The answers that each call can give, and how often each must have occurred.
+/// The answers that each call can give, and how often each answer must have occurred.
 const LEAST: u64 = 5_000;
 const ANSWERS: [Listed; 3] = [
     ("fresh", &[ACCEPTED, TABLE_LENGTH, BAD_ADDRESS]),
@@ -52,7 +52,7 @@ fn own_address(random: &mut Random) -> [u8; 6] {
     }
 }
 
-/// Some calls on one table, legal or not, then a fresh one in its place.
+/// Makes some calls on one table, legal or not, then makes it fresh.
 fn one_table(rows: usize, run: &mut Run) {
     let random = &mut run.random;
     let table = match random.below(12) {

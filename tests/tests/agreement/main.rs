@@ -1,5 +1,5 @@
-//! The library against the separately written implementation: random calls on random
-//! tables, compared octet by octet.
+//! Compares the library with the separately written implementation: random calls on random tables,
+//! octet by octet.
 
 mod emitting;
 mod lives;

@@ -16,8 +16,8 @@ use crate::rings::some_ring;
 
 const STREAMS: usize = 10_500;
 
-/// What each command can come to, in the order of the commands, and how often each must have
-/// occurred.
+/// The answers that each command can have, in the order of the commands, and how often each must
+/// have occurred.
 const LEAST_ANSWERED: u64 = 60;
 const ANSWERS: [Listed; 8] = [
     ("point", &[ACCEPTED, BAD_ADDRESS]),
@@ -44,7 +44,7 @@ const ANSWERS: [Listed; 8] = [
     ("walk", &[ACCEPTED, BAD_LIST, NO_ROUTE, TOO_LONG]),
 ];
 
-/// What a run ends on, by the command; all unknown ones count as 0.
+/// The commands on which a run can end, for each fault. All unknown commands count as 0.
 const LEAST_ENDED: u64 = 10;
 const ENDS: [Listed; 5] = [
     (UNKNOWN, &[0]),
@@ -59,7 +59,7 @@ const BAD_INDEX: &str = "E, bad index, by command";
 const SEVENTEENTH: &str = "E, 17th point";
 const FRAME: &str = "E, 129th frame, by command";
 
-/// What accepted commands report in their third column.
+/// What accepted commands print in their third column.
 const LEAST_THIRD: u64 = 15;
 const THIRD: [Listed; 5] = [
     (DELIVERED, &[0, 1, 2]),

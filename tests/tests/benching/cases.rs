@@ -5,7 +5,7 @@ use hwmp_tests::worked::{GROUP, STRANGER, address};
 use crate::commands::{advance, announce, ask, deliver, link, point, report_break, walk};
 use crate::script::{LIFETIME, input, line, output, points, prints, prints_all, script};
 
-/// The address of an element's sender is its transmitter, and the link is that of sender and
+/// The transmitter of an element is the point that sent it. The link is that of sender and
 /// receiver, both ways.
 #[test]
 fn links_hold_both_ways_until_they_are_set_again() {
@@ -21,7 +21,7 @@ fn links_hold_both_ways_until_they_are_set_again() {
                 (deliver(1, 0), "6 0 1"),
                 (deliver(0, 2), "6 5 0"),
                 (deliver(1, 2), "6 5 0"),
-                // The same at a worse and an equal metric, then at a better one.
+                // The same frame at a worse metric, and then at a better one.
                 (link(one, other, 11), "3 0 0"),
                 (deliver(0, 1), "6 25 0"),
                 (link(other, one, 9), "3 0 0"),
@@ -38,7 +38,7 @@ fn links_hold_both_ways_until_they_are_set_again() {
     }
 }
 
-/// All four octets of a metric count, and all of a lifetime and of an advance.
+/// All four octets of a metric count, and all four of a lifetime and of an advance.
 #[test]
 fn numbers_are_read_whole() {
     for octet in 0..4 {
@@ -72,7 +72,7 @@ fn numbers_are_read_whole() {
     }
 }
 
-/// A self link lets a point hear itself, which is refused as such.
+/// A link to itself lets a point hear itself, which is refused with 23.
 #[test]
 fn a_point_may_be_linked_to_itself() {
     let case = script(
@@ -114,7 +114,7 @@ fn two_points_may_have_one_address() {
     prints("twice", &case);
 }
 
-/// What an ask brings is one item: its flags, and 9 and 10 in their order.
+/// An ask has one item. Its refusals come in the order of their numbers.
 #[test]
 fn asks_are_refused_by_their_number() {
     let case = script(
@@ -135,7 +135,7 @@ fn asks_are_refused_by_their_number() {
     prints("asks", &case);
 }
 
-/// Point 2 learns the way to 0 by 1, which then loses it.
+/// Point 2 learns a path to point 0 through point 1, which then loses it.
 #[test]
 fn a_break_names_the_neighbour_by_its_number() {
     let case = script(
@@ -145,7 +145,7 @@ fn a_break_names_the_neighbour_by_its_number() {
             (deliver(0, 1), "6 0 1"),
             (deliver(1, 2), "6 0 1"),
             (walk(2, 0), "8 0 2"),
-            // No row of 2 leads through 0, and none of 1 through 2.
+            // No row of point 2 leads through point 0, and none of point 1 through point 2.
             (report_break(2, 0), "7 0 0"),
             (report_break(1, 2), "7 0 0"),
             (walk(2, 0), "8 0 2"),
@@ -153,7 +153,7 @@ fn a_break_names_the_neighbour_by_its_number() {
             (walk(1, 0), "8 41 0"),
             (walk(2, 0), "8 41 1"),
             (report_break(1, 0), "7 0 0"),
-            // The error is frame 3: it concerns 2, and passes on from there as frame 4.
+            // The error is frame 3. It concerns point 2, which forwards it as frame 4.
             (deliver(3, 0), "6 26 0"),
             (deliver(3, 2), "6 0 1"),
             (walk(2, 0), "8 41 0"),
@@ -178,7 +178,8 @@ fn ways_end_when_their_time_is_over() {
             (advance(1), "2 0 0"),
             (walk(1, 0), "8 41 0"),
             (report_break(1, 0), "7 0 0"),
-            // Heard again it is as old, but the next one counts from now on.
+            // Heard again, frame 0 is as old as the row. The next announcement is newer, and counts
+            // from now on.
             (deliver(0, 1), "6 25 0"),
             (announce(0, 5), "5 0 1"),
             (deliver(2, 1), "6 0 1"),
@@ -188,7 +189,7 @@ fn ways_end_when_their_time_is_over() {
     prints("clock", &case);
 }
 
-/// Own numbers go round: after 4,294,967,295 comes 0, which is newer.
+/// Own numbers wrap: after 4,294,967,295 comes 0, which is newer.
 #[test]
 fn own_numbers_go_round() {
     let first = [
@@ -209,8 +210,8 @@ fn own_numbers_go_round() {
     prints("round", &case);
 }
 
-/// Numbers more than half the circle apart let two points lead to each other: as many hops as
-/// there are points, and no more.
+/// Numbers more than half the circle apart let two points lead to each other. The walk has as many
+/// hops as there are points, and no more.
 #[test]
 fn a_walk_in_a_ring_ends() {
     let (near, far, asking, destination) = (0, 1, 2, 3);
@@ -246,7 +247,7 @@ fn a_walk_in_a_ring_ends() {
     }
 }
 
-/// A table has rows for all other points, as many as there can be.
+/// A table has a row for each other point, with as many points as there can be.
 #[test]
 fn a_point_hears_of_all_others() {
     let others = 1..16;

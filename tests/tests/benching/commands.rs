@@ -1,4 +1,4 @@
-//! The commands as document 01 lays them out.
+//! The commands as docs/PROTOCOL.md, 'Bench', lays them out.
 
 use hwmp_tests::worked::Address;
 

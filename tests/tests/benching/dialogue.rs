@@ -1,4 +1,4 @@
-//! A whole command is obeyed at once, while the input is still open.
+//! The bench obeys a whole command at once, while its input is still open.
 
 use std::io::{BufRead, BufReader, Write};
 use std::process::{ChildStdin, Stdio};
@@ -12,10 +12,10 @@ use crate::commands::{UNKNOWN, point};
 use crate::program::{Program, Running};
 use crate::worked::worked_case;
 
-/// Time enough for a line.
+/// How long a line may take.
 const LONGEST_WAIT: Duration = Duration::from_secs(10);
 
-/// For so long nothing is printed, if nothing is to be.
+/// How long the test waits to see that nothing is printed.
 const SILENCE: Duration = Duration::from_millis(20);
 
 /// The program with its input held open, and the lines that it has printed so far.
@@ -75,7 +75,7 @@ fn a_point_is_added_at_once() {
     dialogue.hear("1 0 0");
 }
 
-/// The run ends though more could be read.
+/// The run ends although more could be read.
 #[test]
 fn an_unknown_command_ends_the_run_at_once() {
     for unknown in UNKNOWN {
@@ -88,7 +88,7 @@ fn an_unknown_command_ends_the_run_at_once() {
     }
 }
 
-/// The case of document 01, each line read before the next command is sent.
+/// The worked case, with each line read before the next command is sent.
 #[test]
 fn each_command_of_the_case_is_obeyed_at_once() {
     let mut dialogue = Dialogue::begun();
@@ -110,7 +110,7 @@ fn half_a_command_waits_for_the_other_half() {
     }
 }
 
-/// What comes with a whole command is kept for later.
+/// Octets that come together with a whole command are kept for later.
 #[test]
 fn a_command_and_a_half_is_obeyed_as_far_as_it_goes() {
     let mut dialogue = Dialogue::begun();

@@ -47,7 +47,7 @@ fn an_unknown_command_ends_the_run() {
     }
 }
 
-/// Points are numbered from 0 as they are added, and none is there before.
+/// Points are numbered from 0 in the order in which they are added, and none is there before.
 #[test]
 fn a_point_that_is_not_there_ends_the_run() {
     for count in [0, 1, 2, 15, 16] {
@@ -103,7 +103,7 @@ fn a_refused_point_gets_no_number() {
     }
 }
 
-/// A 17th point ends the run, even if it would be refused; refused ones before do not count.
+/// A 17th point ends the run, even if it would be refused. Refused points before it do not count.
 #[test]
 fn the_17th_point_ends_the_run() {
     let all = points(16);
@@ -121,8 +121,8 @@ fn the_17th_point_ends_the_run() {
     );
 }
 
-/// 128 frames are kept. A command that brings more ends the run, even if some of its frames fit;
-/// one that emits none does not.
+/// The bench keeps 128 frames. A command that emits more ends the run, even if some of its frames
+/// fit. A command that emits none does not.
 #[test]
 fn the_129th_frame_ends_the_run() {
     let sent = |count| {
@@ -145,8 +145,8 @@ fn the_129th_frame_ends_the_run() {
     let full = script(full, &silent);
     prints("silent ones after 128", &full);
     ends("129th after silent ones", &full, &announce(2, LIFETIME));
-    // Point 1 knows point 0; asked for it by point 2 with RF it replies and passes the request
-    // on: two frames.
+    // Point 1 knows point 0. Asked for it by point 2 with RF, point 1 replies and forwards the
+    // request: two frames.
     let known = |count| {
         let asked = [
             (deliver(0, 1), "6 0 1"),

@@ -8,13 +8,14 @@ use hwmp_tests::tables;
 use crate::commands::{UNKNOWN, advance, announce, ask, deliver, link, point, report_break, walk};
 use crate::stream::{Mark, Stream};
 
-/// The stream cut anywhere, between two commands too.
+/// Cuts the stream anywhere, also between two commands.
 pub fn cut(stream: &Stream, random: &mut Random) -> Vec<u8> {
     let end = random.below(stream.octets.len() + 1);
     stream.octets[..end].to_vec()
 }
 
-/// The stream up to some command, and then a part of one that would have been accepted.
+/// Returns the stream up to some command, followed by a part of a command that would have been
+/// accepted.
 pub fn with_cut_command(stream: &Stream, random: &mut Random) -> Vec<u8> {
     let mark = some_mark(stream, random);
     let command = match random.below(8) {
@@ -37,7 +38,7 @@ fn some_mark(stream: &Stream, random: &mut Random) -> Mark {
     before.unwrap_or_else(|| stream.here())
 }
 
-/// The stream with a command put in that ends the run; what follows must not be looked at.
+/// Inserts a command that ends the run into the stream. The bench must ignore what follows it.
 pub fn with_bad_command(stream: &Stream, random: &mut Random) -> Vec<u8> {
     let mark = some_mark(stream, random);
     let (before, after) = stream.octets.split_at(mark.offset);
@@ -45,7 +46,7 @@ pub fn with_bad_command(stream: &Stream, random: &mut Random) -> Vec<u8> {
     [before, &bad, after].concat()
 }
 
-/// An unknown one, or one that names a point or frame that is not there.
+/// Returns an unknown command, or one that names a point or frame that is not there.
 fn some_bad_command(mark: &Mark, random: &mut Random) -> Vec<u8> {
     let good = random.below(mark.points.max(1)) as u8;
     let bad = some_bad_point(mark.points, random);
@@ -63,27 +64,29 @@ fn some_bad_command(mark: &Mark, random: &mut Random) -> Vec<u8> {
     }
 }
 
-/// Other octets may be operands of what follows, or digits where a number is meant.
+/// Returns an octet that is no command. Some of them would be digits in a text.
 fn some_unknown(random: &mut Random) -> u8 {
     let any = 9 + random.below(247) as u8;
     let known = random.pick(&UNKNOWN);
     random.pick(&[any, known])
 }
 
-/// The first that is not there, the first that never is, or any beyond.
+/// Returns the first point that is not there, the first that never is, or any beyond.
 fn some_bad_point(points: usize, random: &mut Random) -> u8 {
     let any = points + random.below(256 - points);
     random.pick(&[points, points.max(MOST_POINTS), any, 255]) as u8
 }
 
-/// The first that is not there, one that is there by its first octet alone, or any beyond.
+/// Returns the first frame that is not there, one whose first octet alone names a frame that is
+/// there, or any beyond.
 fn some_bad_frame(frames: usize, random: &mut Random) -> u16 {
     let any = frames + random.below(65_536 - frames);
     let by_first_octet = 256 * (1 + random.below(255)) + random.below(frames.max(1));
     random.pick(&[frames, by_first_octet, any, MOST_FRAMES.max(frames), 65_535]) as u16
 }
 
-/// Sixteen points, some refused ones among them, and one more, which may be one to refuse.
+/// Adds sixteen points, with some refused ones among them, and one more, which may itself be one to
+/// refuse.
 pub fn crowd(random: &mut Random) -> Vec<u8> {
     let mut octets = Vec::new();
     for address in tables::some_addresses(MOST_POINTS, random) {
@@ -100,8 +103,8 @@ pub fn crowd(random: &mut Random) -> Vec<u8> {
     octets
 }
 
-/// Frames up to the last that is kept and one too many. Commands that emit nothing are among
-/// them, also when no more frame is kept.
+/// Emits frames up to the last that is kept, and one more. Commands that emit nothing are among
+/// them, also when no more frames are kept.
 pub fn flood(random: &mut Random) -> Vec<u8> {
     let mut stream = Stream::default();
     let addresses = tables::some_addresses(3, random);
@@ -132,7 +135,7 @@ pub fn flood(random: &mut Random) -> Vec<u8> {
     stream.octets
 }
 
-/// A command that emits nothing, once there is a frame.
+/// Returns a command that emits nothing, once there is a frame.
 fn silent(frame: u16, random: &mut Random) -> Vec<u8> {
     match random.below(5) {
         0 => announce(0, 0),

@@ -1,4 +1,4 @@
-//! Streams in which points stand in a line, so that walks are long and can be cut anywhere.
+//! Streams in which points stand in a line, so that walks are long and can end anywhere.
 
 use hwmp_tests::random::Random;
 use hwmp_tests::reference::walk::MOST_POINTS;
@@ -8,12 +8,12 @@ use crate::commands::{advance, announce, deliver, link, point, report_break, wal
 use crate::script::LIFETIME;
 use crate::stream::Stream;
 
-/// What one end announces reaches all, or all up to some point. Then a point may lose its
-/// neighbour, or time goes by. All walk to that end, before and after.
+/// One end announces itself, which reaches all points or all up to some point. Then a point loses
+/// its neighbour, or time passes. All points walk to that end, before and after.
 pub fn some_line(random: &mut Random) -> Stream {
     let count = 3 + random.below(MOST_POINTS - 2);
     let first = random.below(count);
-    // The points by their places in the line.
+    // The points in the order of their places in the line.
     let points: Vec<u8> = (0..count)
         .map(|step| ((first + step) % count) as u8)
         .collect();

@@ -1,4 +1,4 @@
-//! Streams in which points ask, announce and hear each other, so that ways are found, broken and
+//! Streams in which points ask, announce and hear each other, so that paths are found, broken and
 //! walked.
 
 use hwmp_tests::random::Random;
@@ -9,7 +9,7 @@ use hwmp_tests::worked::Address;
 use crate::commands::{advance, announce, ask, deliver, link, point, report_break, walk};
 use crate::stream::Stream;
 
-/// A life of any kind; it ends by itself, or where a frame would be too many.
+/// Returns a stream of some points. It ends by itself, or where there would be a frame too many.
 pub fn some_life(random: &mut Random) -> Stream {
     let mut life = Life::begun(random);
     for _ in 0..30 + random.below(150) {
@@ -23,12 +23,12 @@ pub fn some_life(random: &mut Random) -> Stream {
 
 struct Life {
     stream: Stream,
-    /// Those of the points that were added.
+    /// The addresses of the points that were added.
     addresses: Vec<Address>,
     linked: [[bool; MOST_POINTS]; MOST_POINTS],
-    /// Frames that points within reach have not heard yet.
+    /// Frames that points within reach have not heard yet: frame and point.
     pending: Vec<(usize, usize)>,
-    /// In how many steps about fourteen are no deliveries.
+    /// Of this many steps, about fourteen are not deliveries.
     pace: usize,
 }
 
@@ -49,7 +49,7 @@ impl Life {
         life
     }
 
-    /// Now and then one that is refused is among them, or one with the address of another.
+    /// Sometimes a point among them is refused, or has the address of another.
     fn add_points(&mut self, count: usize, random: &mut Random) {
         let mut addresses = tables::some_addresses(count, random);
         if random.one_in(12) {
@@ -67,7 +67,7 @@ impl Life {
         self.addresses = addresses;
     }
 
-    /// In a line, a ring, a star, all with all, or anyhow.
+    /// Links the points in a line, a ring, a star, each with each, or at random.
     fn link_points(&mut self, random: &mut Random) {
         let count = self.addresses.len();
         let shape = random.below(5);
@@ -101,7 +101,7 @@ impl Life {
         self.push(&link(one as u8, other as u8, metric));
     }
 
-    /// Puts in a command; what it emits is pending for all that the sender reaches.
+    /// Appends a command. What it emits is pending for all points that the sender reaches.
     fn push(&mut self, command: &[u8]) {
         let before = self.stream.frames();
         if self.stream.has_ended() || self.stream.push(command).is_none() {
@@ -136,7 +136,7 @@ impl Life {
         }
     }
 
-    /// Mostly for another point.
+    /// Asks mostly for another point.
     fn ask(&mut self, asking: u8, random: &mut Random) {
         let (flags, lifetime) = (some_flags(random), some_lifetime(random));
         let destination = match random.below(24) {
@@ -147,8 +147,8 @@ impl Life {
         self.push(&ask(asking, flags, destination, lifetime));
     }
 
-    /// Mostly one of the first that are pending. It may be lost, or heard again. If all was heard
-    /// there are ways to walk, and then something new to hear.
+    /// Delivers mostly one of the first pending frames, which may also be lost or heard again. If
+    /// nothing is pending, walks, or lets a point announce or ask.
     fn deliver_some(&mut self, random: &mut Random) {
         let (point, other) = (self.some_point(random), self.some_point(random));
         let frames = self.stream.frames();
@@ -180,7 +180,7 @@ impl Life {
     }
 }
 
-/// Mostly small, so that several ways compete.
+/// Returns mostly a small metric, so that several paths compete.
 fn some_metric(random: &mut Random) -> u32 {
     if random.one_in(24) {
         return tables::boundary32(random).max(1);

@@ -1,5 +1,5 @@
 //! Streams at whose borders a program could lose octets: long ones, ones that come in pieces, and
-//! ones from a file. And the only ones long enough for the clock to reach its end.
+//! ones from a file. They include the only streams long enough for the clock to reach its end.
 
 use std::time::Duration;
 
@@ -24,8 +24,8 @@ fn whole_case() -> Vec<u8> {
     input(&worked_case())
 }
 
-/// Commands of that many octets in all that leave no point, frame or time behind. They have 5 or
-/// 11 octets, so that any length from 40 on can be made of them.
+/// Returns commands of `length` octets in total that add no point, frame or time. They have 5 or 11
+/// octets, so that any length from 40 on is possible.
 fn filler(length: usize) -> Vec<u8> {
     let refused =
         (0..5).find(|count| length >= 11 * count && (length - 11 * count).is_multiple_of(5));
@@ -36,9 +36,9 @@ fn filler(length: usize) -> Vec<u8> {
     octets
 }
 
-/// The case of document 01 with the end of each block at each of its octets, and a run that ends
-/// after it, so that the offset is seen too. From a file, since a read from a pipe may get less
-/// than a block.
+/// The worked case, with the end of each block at each of its octets, followed by a command that
+/// ends the run, so that its offset is seen too. It comes from a file, because a read from a pipe
+/// may get less than a block.
 #[test]
 fn no_octet_is_lost_at_the_end_of_a_block() {
     let (program, case) = (Program::named(), whole_case());
@@ -50,7 +50,7 @@ fn no_octet_is_lost_at_the_end_of_a_block() {
     }
 }
 
-/// The same with the end of a piece at each of its octets.
+/// The worked case, with the end of a piece at each of its octets.
 #[test]
 fn no_octet_is_lost_between_two_pieces() {
     let (program, case) = (Program::named(), whole_case());
@@ -61,7 +61,7 @@ fn no_octet_is_lost_between_two_pieces() {
     }
 }
 
-/// Inputs of about as many octets as fit into some blocks.
+/// Inputs with about as many octets as fit into some blocks.
 #[test]
 fn inputs_may_end_near_the_end_of_a_block() {
     let program = Program::named();
@@ -76,8 +76,8 @@ fn inputs_may_end_near_the_end_of_a_block() {
     }
 }
 
-/// A life that goes on with commands of many lengths. No more is delivered once few more frames
-/// would be kept, so that the run does not end.
+/// Returns a stream with commands of many lengths. It delivers no more once only few more frames
+/// fit, so that the run does not end.
 fn some_long_life(random: &mut Random) -> Vec<u8> {
     let mut life = some_life(random);
     while life.has_ended() {
@@ -102,7 +102,7 @@ fn some_long_life(random: &mut Random) -> Vec<u8> {
     life.octets
 }
 
-/// The ends of blocks lie anywhere in these.
+/// The ends of blocks lie anywhere in these streams.
 #[test]
 fn long_lives_are_the_same() {
     let program = Program::named();
@@ -112,7 +112,7 @@ fn long_lives_are_the_same() {
     }
 }
 
-/// Whatever piece of a command a read gets, the rest of it follows.
+/// Whatever piece of a command a read gets, the rest of the command follows.
 #[test]
 fn input_may_come_in_pieces() {
     let program = Program::named();
@@ -145,7 +145,7 @@ fn input_may_be_a_file() {
     assert_eq!(program.output_from_file(&[]), "");
 }
 
-/// The longest advances that leave the clock 65,535 milliseconds short of its end.
+/// How many of the longest advances leave the clock 65,535 milliseconds below its end.
 const ADVANCES: usize = 65_536;
 
 /// 2^48 - 1 is the last clock: 65,536 times 2^32 - 1, and 65,535.
@@ -166,7 +166,7 @@ fn the_clock_ends_at_2_to_the_48() {
     let ended = format!("{at_end}E {}\n", end + 10);
     prints(&[advance(65_535), advance(0), advance(1)], &ended);
     prints(&[advance(65_535), advance(0), advance(u32::MAX)], &ended);
-    // Calls have the last clock too, and rows outlive it.
+    // Calls also get the last clock, and rows outlive it.
     let mesh = [
         point(address(0), 0),
         point(address(1), 0),
@@ -182,7 +182,7 @@ fn the_clock_ends_at_2_to_the_48() {
     prints(&lasting, &format!("{printed}E {}\n", end + 5 + before_last));
 }
 
-/// Clocks beyond 32 bits: what was heard before expires when it must.
+/// At clocks beyond 32 bits, a row learnt before still expires when it must.
 #[test]
 fn a_way_lasts_across_4_294_967_295() {
     for lifetime in [2, u32::MAX] {

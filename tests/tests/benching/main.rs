@@ -1,6 +1,6 @@
-//! The bench program against the separately written one: whole outputs for random command
-//! streams, and streams worked out by hand from document 01. The program is the one that
-//! HWMP_BENCH names, else `../target/bin/bench`.
+//! Compares the bench program with the separately written one: whole outputs for random streams of
+//! commands, and streams worked out by hand from docs/PROTOCOL.md, 'Bench'. The program under test
+//! is `../target/bin/bench`, or the one that HWMP_BENCH names.
 
 mod agreement;
 mod cases;

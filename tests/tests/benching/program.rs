@@ -10,7 +10,7 @@ use std::time::Duration;
 
 use hwmp_tests::reference::bench;
 
-/// No input here keeps the program busy so long, or makes it print so many octets.
+/// No input here keeps the program busy for so long or makes it print so many octets.
 const LONGEST_RUN: Duration = Duration::from_secs(60);
 const MOST_PRINTED: u64 = 1 << 24;
 
@@ -34,13 +34,13 @@ impl Program {
         Program { path }
     }
 
-    /// What it prints if all its input is there at once.
+    /// Returns what the program prints if its whole input is there at once.
     pub fn output(&self, input: &[u8]) -> String {
         self.output_in_pieces([input], Duration::ZERO)
     }
 
-    /// The same if its input comes in pieces with pauses between, so that a read can end in the
-    /// middle of a command.
+    /// Returns what the program prints if its input comes in pieces with pauses between them, so
+    /// that a read can end in the middle of a command.
     pub fn output_in_pieces<'a>(
         &self,
         pieces: impl IntoIterator<Item = &'a [u8]> + Send,
@@ -48,14 +48,16 @@ impl Program {
     ) -> String {
         let mut running = self.start(Stdio::piped());
         let to = running.0.stdin.take().expect("piped");
-        // Written beside the reading, since no pipe holds all that may go through it.
+        // A thread writes the input while this one reads, because no pipe holds everything that may
+        // go through it.
         thread::scope(|scope| {
             scope.spawn(move || feed(to, pieces, pause));
             printed(running)
         })
     }
 
-    /// The same if its input is a file, of which every read gets as much as it asks for.
+    /// Returns what the program prints if its input is a file, from which every read gets as much
+    /// as it asks for.
     pub fn output_from_file(&self, input: &[u8]) -> String {
         static FILES: AtomicUsize = AtomicUsize::new(0);
         let number = FILES.fetch_add(1, Ordering::Relaxed);
@@ -74,18 +76,18 @@ impl Program {
         Running(started.unwrap_or_else(|error| panic!("{}: {error}", self.path.display())))
     }
 
-    /// Both must print the same for an input.
+    /// The program and the reference must print the same for an input.
     pub fn agrees(&self, input: &[u8], what: &str) {
         same(&self.output(input), &bench::output(input), input, what);
     }
 
-    /// The same for an input from a file.
+    /// The program and the reference must print the same for an input from a file.
     pub fn agrees_from_file(&self, input: &[u8], what: &str) {
         let found = self.output_from_file(input);
         same(&found, &bench::output(input), input, what);
     }
 
-    /// The same for an input in pieces.
+    /// The program and the reference must print the same for an input in pieces.
     pub fn agrees_in_pieces(&self, pieces: &[&[u8]], pause: Duration, what: &str) {
         let input = pieces.concat();
         let found = self.output_in_pieces(pieces.iter().copied(), pause);
@@ -93,18 +95,19 @@ impl Program {
     }
 }
 
-/// The program while it runs. With this it ends too, so that a test that fails leaves none behind.
+/// The program while it runs. Dropping this value ends the program, so that a test that fails
+/// leaves none behind.
 pub struct Running(pub Child);
 
 impl Drop for Running {
     fn drop(&mut self) {
-        // What fails here has ended before.
+        // An error here means that the program has already ended.
         let _ = self.0.kill();
         let _ = self.0.wait();
     }
 }
 
-/// Holds whole outputs together; a difference is told by the first line that has it.
+/// Compares whole outputs. A difference is reported by the first line that has it.
 pub fn same(found: &str, expected: &str, input: &[u8], what: &str) {
     if found == expected {
         return;
@@ -122,7 +125,7 @@ pub fn same(found: &str, expected: &str, input: &[u8], what: &str) {
     );
 }
 
-/// A program that has printed E need not read on.
+/// A program that printed E need not read on.
 fn feed<'a>(mut to: ChildStdin, pieces: impl IntoIterator<Item = &'a [u8]>, pause: Duration) {
     for piece in pieces {
         match to.write_all(piece) {

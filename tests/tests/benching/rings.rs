@@ -1,5 +1,5 @@
-//! Streams after which two points lead to each other. Numbers of the destination lie more than half
-//! the circle apart, where a late announcement can be newer than what came after it.
+//! Streams after which two points lead to each other. The numbers of the destination lie more than
+//! half the circle apart, where a late announcement can be newer than what came after it.
 
 use hwmp_tests::random::Random;
 use hwmp_tests::reference::walk::MOST_POINTS;
@@ -12,7 +12,8 @@ use crate::stream::Stream;
 /// The destination's number before its first announcement.
 const HALF_THE_CIRCLE_AND_ONE: u32 = (1 << 31) + 1;
 
-/// Four of the points, in any places, and walks from all to all in the end.
+/// Returns a stream with four points in any places, and walks from all points to the destination at
+/// the end.
 pub fn some_ring(random: &mut Random) -> Stream {
     let count = 4 + random.below(MOST_POINTS - 3);
     let addresses = tables::some_addresses(count, random);
@@ -37,11 +38,11 @@ pub fn some_ring(random: &mut Random) -> Stream {
     }
     let to = addresses[usize::from(destination)];
     let commands = [
-        // Frame 0 carries 2^31 + 2, and so do frames 1 and 2, which go on.
+        // Frame 0 carries 2^31 + 2, and so do frames 1 and 2, which forward it.
         announce(destination, LIFETIME),
         deliver(0, near),
         deliver(1, far),
-        // Frame 3 asks with 0, which the destination takes for newer: frame 4 replies with 1.
+        // Frame 3 asks with 0, which is newer to the destination. Frame 4 replies with 1.
         ask(asking, 1, to, LIFETIME),
         deliver(3, destination),
         deliver(4, near),
@@ -49,7 +50,7 @@ pub fn some_ring(random: &mut Random) -> Stream {
         announce(destination, LIFETIME),
         announce(destination, LIFETIME),
         deliver(6, near),
-        // From 3 the 2^31 + 2 of frame 2 is newer again.
+        // After 3, the 2^31 + 2 of frame 2 is newer again.
         deliver(2, near),
     ];
     for command in commands {

@@ -1,5 +1,4 @@
-//! Streams with the lines that were worked out for them, asked of the program and of the
-//! reference alike.
+//! Streams with the lines that were worked out for them, asked of the program and of the reference.
 
 use hwmp_tests::reference::bench;
 use hwmp_tests::worked::address;
@@ -21,12 +20,12 @@ pub fn output(script: &[Step]) -> String {
     script.iter().map(|(_, line)| format!("{line}\n")).collect()
 }
 
-/// Both must print just these lines.
+/// The program and the reference must print exactly these lines.
 pub fn prints(what: &str, script: &[Step]) {
     prints_all(what, &input(script), &output(script));
 }
 
-/// The same for a whole input and a whole output.
+/// The program and the reference must print exactly this output for this input.
 pub fn prints_all(what: &str, input: &[u8], expected: &str) {
     let outputs = [
         ("program", Program::named().output(input)),
@@ -37,7 +36,8 @@ pub fn prints_all(what: &str, input: &[u8], expected: &str) {
     }
 }
 
-/// The lines, and then a command on which the run ends. Another that would be accepted follows.
+/// The program and the reference must print the lines, and then end the run at the command `bad`. A
+/// command that would be accepted follows it.
 pub fn ends(what: &str, script: &[Step], bad: &[u8]) {
     let good = input(script);
     let expected = format!("{}E {}\n", output(script), good.len());
@@ -49,7 +49,7 @@ pub fn points(count: u8) -> Vec<Step> {
     added.collect()
 }
 
-/// Points in a line, with links at 10.
+/// Returns points in a line, with links of metric 10.
 pub fn line(count: u8) -> Vec<Step> {
     let links = (1..count).map(|place| (link(place - 1, place, 10), "3 0 0"));
     points(count).into_iter().chain(links).collect()

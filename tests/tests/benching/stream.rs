@@ -1,6 +1,6 @@
 use hwmp_tests::reference::bench::{Bench, Command, Done};
 
-/// What there is at a place between two commands.
+/// How many octets, points and frames there are at a place between two commands.
 #[derive(Clone, Copy)]
 pub struct Mark {
     pub offset: usize,
@@ -8,15 +8,15 @@ pub struct Mark {
     pub frames: usize,
 }
 
-/// Commands one after another. The reference's bench follows them, so that further ones can
+/// Commands one after another. The reference's bench follows them, so that further commands can
 /// name points and frames that are there.
 #[derive(Default)]
 pub struct Stream {
     pub octets: Vec<u8>,
-    /// Before each command, but for one that ends the run.
+    /// A mark before each command, except one that ends the run.
     pub marks: Vec<Mark>,
     bench: Bench,
-    /// Where the command stands that ends the run.
+    /// The place of the command that ends the run.
     end: Option<usize>,
 }
 
@@ -37,7 +37,7 @@ impl Stream {
         self.end.is_some()
     }
 
-    /// The place after the last command.
+    /// Returns the place after the last command.
     pub fn here(&self) -> Mark {
         Mark {
             offset: self.octets.len(),
@@ -46,7 +46,7 @@ impl Stream {
         }
     }
 
-    /// Puts in a command, and tells what comes of it; None if it ends the run.
+    /// Appends a command and returns its result, or None if it ends the run.
     pub fn push(&mut self, command: &[u8]) -> Option<Done> {
         assert!(!self.has_ended(), "the run has ended");
         let here = self.here();
@@ -60,7 +60,7 @@ impl Stream {
         done
     }
 
-    /// All but the command that ends the run.
+    /// Returns all octets except those of the command that ends the run.
     pub fn without_end(&self) -> &[u8] {
         &self.octets[..self.end.unwrap_or(self.octets.len())]
     }

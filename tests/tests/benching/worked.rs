@@ -1,11 +1,11 @@
-//! The case of document 01.
+//! The worked case of docs/PROTOCOL.md, 'Bench'.
 
 use hwmp_tests::worked::address;
 
 use crate::commands::{ask, deliver, link, walk};
 use crate::script::{LIFETIME, Step, input, output, points, prints, prints_all, script};
 
-/// 'Case' in document 01.
+/// Returns the worked case, command by command with its lines.
 pub fn worked_case() -> Vec<Step> {
     script(
         points(3),
@@ -32,7 +32,7 @@ fn the_case_of_document_01() {
     prints("case", &case);
 }
 
-/// Between two commands the end of the input is no fault; within one it is.
+/// The end of the input is no fault between two commands. Within a command it is.
 #[test]
 fn the_case_cut_at_every_octet() {
     let case = worked_case();

@@ -4,7 +4,7 @@ use hwmp_tests::reference::table::Flaw;
 
 use crate::sample::Sample;
 
-/// What is done to the legal table, and the clause this breaks, if any.
+/// What is done to the legal table, and the clause that this breaks, if any.
 pub struct Case {
     pub clause: &'static str,
     pub change: Box<dyn Fn(&mut Sample)>,
@@ -26,7 +26,8 @@ impl Cases {
         self.flaw = Some(flaw);
     }
 
-    /// Fields that document 01 leaves free, so that no value of theirs may be refused.
+    /// Lists fields that docs/PROTOCOL.md, 'Table', leaves free, so that no value of them may be
+    /// refused.
     pub fn no_clause(&mut self, fields: &'static str) {
         self.clause = fields;
         self.flaw = None;
@@ -49,7 +50,7 @@ impl Cases {
         self.push(None, change);
     }
 
-    /// Octets of the head, at an offset of the table.
+    /// Lists values of the head, at an offset of the table.
     pub fn head(&mut self, at: usize, broken: &[&[u8]], inside: &[&[u8]]) {
         for value in broken.iter().map(|value| value.to_vec()) {
             self.broken(move |sample| sample.put(at, &value));
@@ -59,7 +60,7 @@ impl Cases {
         }
     }
 
-    /// Octets of the row, at an offset of the row.
+    /// Lists values of the row, at an offset of the row.
     pub fn row(&mut self, at: usize, broken: &[&[u8]], inside: &[&[u8]]) {
         for value in broken.iter().map(|value| value.to_vec()) {
             self.broken(move |sample| sample.put(sample.row + at, &value));
@@ -69,7 +70,7 @@ impl Cases {
         }
     }
 
-    /// Octets of a row whose number is unknown, in either status.
+    /// Lists values of a row of unknown number, in either status.
     pub fn unknown(&mut self, at: usize, broken: &[&[u8]]) {
         for status in [1, 2] {
             self.inside(move |sample| sample.unknown(status));
@@ -82,7 +83,7 @@ impl Cases {
         }
     }
 
-    /// The second row takes the row's destination with one octet changed by `mask`.
+    /// Lists a second row that has the row's destination with one octet changed by `mask`.
     pub fn second(&mut self, breaks: Option<Flaw>, statuses: [u8; 2], octet: usize, mask: u8) {
         self.push(breaks, move |sample| {
             let mut destination = sample.row_destination();

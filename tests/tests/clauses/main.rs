@@ -1,6 +1,6 @@
-//! Every clause of 'Table octets' in document 01: the smallest damage that breaks just that
-//! clause is refused with 21, and the value just inside is not. Offsets and values are
-//! written out from the document and do not lean on the reference.
+//! Tests every clause of docs/PROTOCOL.md, 'Table'. The smallest damage that breaks only that
+//! clause is refused with 21, and the value just inside it is not. Offsets and values are written
+//! out here and do not depend on the reference.
 
 mod listing;
 mod sample;
@@ -22,8 +22,8 @@ const NEXT_HOP: [u8; 6] = [0x20, 0, 0, 0, 0, 2];
 const ABSENT: [u8; 6] = [0x30, 0, 0, 0, 0, 3];
 const LAST_CLOCK: u64 = (1 << 48) - 1;
 
-/// Asks both implementations for a destination without a row, so that a table gives 29, 28 and
-/// 41; the clock is the last one, which no table is ahead of.
+/// Asks both implementations for a destination without a row. On a table, forget answers 29, next
+/// hop 28 and a walk 41. The clock is the last one, so that no table is ahead of it.
 fn judge(octets: &[u8], breaks: Option<Flaw>, what: &str) {
     let flaw = Table::cut(octets).expect("a table's length").check().err();
     assert_eq!(flaw, breaks, "{what}: the case breaks another clause");
@@ -50,8 +50,9 @@ fn judge(octets: &[u8], breaks: Option<Flaw>, what: &str) {
     }
 }
 
-/// The calls that may emit, with what they answer on every table; they leave octets that are none
-/// as they were. An error about a destination without a row is refused, but only after that.
+/// Makes the calls that may emit. On a table each gives the answer listed here. Octets that are not
+/// a table stay unchanged. The error names a destination without a row, and the call refuses it
+/// with 26 only after the table was checked.
 fn judge_emitting(by: &Implementation, octets: &[u8], breaks: Option<Flaw>, what: &str) {
     type Call = fn(&Implementation, &mut [u8], &mut [u8]) -> Outcome;
     let calls: [(&str, u32, Call); 5] = [

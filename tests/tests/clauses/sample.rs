@@ -2,7 +2,7 @@
 
 use crate::{NEXT_HOP, OWN};
 
-/// The rows that cases are tried in: first, middle and last of small and large tables.
+/// The rows in which cases are tried: first, middle and last of small and large tables.
 pub const PLACES: [(usize, usize); 7] = [
     (1, 0),
     (16, 0),
@@ -13,8 +13,8 @@ pub const PLACES: [(usize, usize); 7] = [
     (128, 127),
 ];
 
-/// A legal table, with the offsets of the row in question and of a second row, which is
-/// another one if the table has two.
+/// A legal table, with the offsets of the row that a case changes and of a second row. The two
+/// differ if the table has more than one row.
 pub struct Sample {
     pub octets: Vec<u8>,
     pub row: usize,
@@ -65,8 +65,7 @@ impl Sample {
         self.put(at + 24, &5000u64.to_le_bytes());
     }
 
-    /// The row becomes one whose number is unknown: number 0, hop count 1, next hop as
-    /// destination.
+    /// Makes the row one of unknown number: number 0, hop count 1, next hop equal to destination.
     pub fn unknown(&mut self, status: u8) {
         self.put(self.row, &[status, 0, 1, 0]);
         self.octets

@@ -1,5 +1,5 @@
-//! The library against the separately written implementation: random elements, compared
-//! number by number and octet by octet.
+//! Compares the library with the separately written implementation: random elements, number by
+//! number and octet by octet.
 
 use std::collections::BTreeMap;
 
@@ -12,16 +12,16 @@ use hwmp_tests::reference::element::MOST_NUMBERS;
 
 const ELEMENTS: usize = 1_000_000;
 
-/// Places on both sides of the numbers, and octets on both sides of the output, which no
-/// call may touch. A frame that is laid its own length too early still shows there.
+/// Places on both sides of the numbers, and octets on both sides of the output, that no call may
+/// touch. Even a frame written its own length too early shows there.
 const NUMBERS_GUARD: usize = 4;
 const OUT_GUARD: usize = 600;
 
-/// How often each answer must have occurred: a comparison that never met an answer says
-/// nothing about it.
+/// How often each answer must have occurred. A comparison that never met an answer says nothing
+/// about it.
 const LEAST: u64 = 1_000;
 
-/// What was asked, of which type, and what came of it.
+/// What was called, for which type, and the result.
 type Tally = BTreeMap<(&'static str, &'static str, u32), u64>;
 
 const ANOTHER_ID: &str = "another ID";
@@ -35,7 +35,7 @@ fn sort_of(element: &[u8]) -> &'static str {
     }
 }
 
-/// Everything that can come of a call, and each legal number of entries.
+/// Lists every result of a call, and each legal number of entries.
 fn outcomes() -> Vec<(&'static str, &'static str, Vec<u32>)> {
     let mut outcomes = vec![
         ("read", ANOTHER_ID, vec![ELEMENT_LENGTH, UNKNOWN_ID]),
@@ -45,7 +45,7 @@ fn outcomes() -> Vec<(&'static str, &'static str, Vec<u32>)> {
         ("faults", "RANN", vec![0]),
         ("faults", "RREQ", (0..16).collect()),
     ];
-    // Only a RREQ may name all ones, so elsewhere 4 comes with 1.
+    // Only a RREQ may name all ones, so in other types fault 4 comes with fault 1.
     let with_individuals = |sum: &u32| sum & 4 == 0 || sum & 1 == 1;
     for name in ["RREP", "RERR"] {
         outcomes.push(("faults", name, (0..16).filter(with_individuals).collect()));
@@ -63,7 +63,7 @@ fn outcomes() -> Vec<(&'static str, &'static str, Vec<u32>)> {
     outcomes
 }
 
-/// Reads on a field of markers, so that a number too many shows.
+/// Reads into places filled with a marker, so that a number too many shows.
 fn compare_read(element: &[u8], random: &mut Random) -> u32 {
     let marker = random.number();
     let read = |by: &Probe| {
@@ -76,8 +76,8 @@ fn compare_read(element: &[u8], random: &mut Random) -> u32 {
     found.0
 }
 
-/// Writes in one part and one by one. A frame is receiver and element: that is known
-/// without the reference.
+/// Writes the list in one part, and entry by entry. Without the reference it also checks that a
+/// frame is receiver and element.
 fn compare_write(element: &[u8], random: &mut Random) -> u32 {
     let to: [u8; 6] = random.octets();
     let room = elements::some_room(element, random);

@@ -8,7 +8,7 @@ pub const BOTH: [&Probe; 2] = [&LIBRARY, &REFERENCE];
 /// The receiver of frames.
 pub const TO: [u8; 6] = [2, 0, 0, 0, 0, 9];
 
-/// An unlikely number, to see which places were left alone.
+/// An unlikely number, which shows which places were left alone.
 pub const UNTOUCHED: u64 = 0xA5A5_5A5A_A5A5_5A5A;
 
 pub fn read(by: &Probe, element: &[u8]) -> (u32, Numbers) {

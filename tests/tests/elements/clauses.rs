@@ -1,5 +1,5 @@
-//! Refusals 6, 7 and 8 of document 01, worked out by hand and asked of the library and the
-//! reference alike.
+//! Refusals 6, 7 and 8 of docs/PROTOCOL.md, worked out by hand and asked of the library and the
+//! reference.
 
 use hwmp_tests::answers::{ACCEPTED, BAD_COUNT, ELEMENT_LENGTH, SHORT_OUTPUT, UNKNOWN_ID};
 use hwmp_tests::fence::{Fence, Side};
@@ -7,7 +7,7 @@ use hwmp_tests::reference::element::MOST_NUMBERS;
 
 use crate::asking::{BOTH, TO, UNTOUCHED, read};
 
-/// Reads, writes and judges an element that is refused, and nothing may change.
+/// Reads, writes and judges an element that must be refused. Nothing may change.
 fn refused(element: &[u8], expected: u32) {
     for by in BOTH {
         let name = by.name;
@@ -33,7 +33,7 @@ fn fits(element: &[u8]) {
     }
 }
 
-/// An element with zeros for fields and the given N, if the type has one.
+/// Returns an element with zeros for fields and the given N, if the type has one.
 fn zeros(id: u8, length: u8, count: Option<(usize, u8)>) -> Vec<u8> {
     let mut octets = vec![0; 2 + usize::from(length)];
     (octets[0], octets[1]) = (id, length);
@@ -55,7 +55,7 @@ fn p3_lengths_of_a_rreq() {
     refused(&rreq(246, 21), BAD_COUNT);
     // The draft has 27 + 11N.
     refused(&rreq(38, 1), BAD_COUNT);
-    // No octet can say 257, so 259 octets are refused whatever it says.
+    // No octet can say 257, so 259 octets are refused whatever Length says.
     for length in 0..=255 {
         let mut long = zeros(130, 255, Some((27, 21)));
         long.resize(259, 0);
@@ -100,7 +100,8 @@ fn a_rann_has_length_21() {
     println!("RANN: Length 21 fits, others are refused with 8");
 }
 
-/// Too short for a count octet. Beside the fence, reading one would end the run.
+/// The element is too short for a count octet. It lies next to the fence, so that reading the octet
+/// would end the run.
 #[test]
 fn a_missing_count_octet_is_refused_with_8() {
     let fence = &mut Fence::build();
@@ -126,7 +127,7 @@ fn under_2_octets_are_refused_with_6() {
 #[test]
 fn only_four_ids_are_known() {
     for id in 0..=255 {
-        // Of Length 0, so that one of a type is still refused.
+        // Length is 0, so that an element of a known type is still refused.
         let expected = if [126, 130, 131, 132].contains(&id) {
             BAD_COUNT
         } else {

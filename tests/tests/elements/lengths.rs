@@ -1,5 +1,5 @@
-//! Every Length octet with every count octet, and a right or wrong number of octets after
-//! it. The answers are worked out here from document 01.
+//! Every Length octet with every count octet, and a right or wrong number of octets after Length.
+//! The answers are worked out here from docs/PROTOCOL.md, 'Elements'.
 
 use std::collections::BTreeMap;
 
@@ -12,7 +12,8 @@ use hwmp_tests::reference::element::{MOST_NUMBERS, Numbers};
 const IDS: [u8; 10] = [126, 130, 131, 132, 0, 125, 127, 129, 133, 255];
 const TO: [u8; 6] = [2, 0, 0, 0, 0, 7];
 
-/// The octets after an element's Length that are tried: right, one off, or once round.
+/// Returns the numbers of octets after Length that are tried: right, one off, or right only modulo
+/// 256.
 fn octets_after(length: usize) -> impl Iterator<Item = usize> {
     let fewer = length.checked_sub(1);
     fewer.into_iter().chain([length, length + 1, length + 256])
@@ -41,7 +42,7 @@ fn answer(id: u8, length: usize, after: usize, count: usize) -> u32 {
     if fits { ACCEPTED } else { BAD_COUNT }
 }
 
-/// The element and the output are each lent beside a fence.
+/// The element and the output are each lent next to a fence.
 struct Comparison {
     element: Fence,
     out: Fence,
@@ -49,7 +50,7 @@ struct Comparison {
 }
 
 impl Comparison {
-    /// Each count octet with one Length and so many octets after it.
+    /// Tries each count octet with one Length and `after` octets after it.
     fn each_count(&mut self, id: u8, length: usize, after: usize, random: &mut Random) {
         let mut octets: Vec<u8> = (0..2 + after).map(|_| random.octet()).collect();
         octets[..2].copy_from_slice(&[id, length as u8]);
@@ -69,8 +70,8 @@ impl Comparison {
         }
     }
 
-    /// Reads, writes and judges; returns the numbers and faults, which are none and 0 if the
-    /// element is refused.
+    /// Reads, writes and judges an element. Returns its numbers and faults, which are none and 0 if
+    /// the element is refused.
     fn ask(&mut self, by: &Probe, octets: &[u8], side: Side, expected: u32) -> (Numbers, u32) {
         let what = || format!("{octets:?}, fence {side:?}, by the {}", by.name);
         let element = &*self.element.lend(octets, side);

@@ -1,6 +1,6 @@
-//! The faults of a list of destinations by refusals 9 and 10 of document 01, worked out by
-//! hand and asked of the library and the reference alike. Document 01 asks nothing of the
-//! dependents of a RREP; judged as a RERR's destinations they test the function once more.
+//! The faults of a list of destinations by refusals 9 and 10 of docs/PROTOCOL.md, worked out by
+//! hand and asked of the library and the reference. A point does not judge the dependents of a
+//! RREP. Judged here like the destinations of a RERR, they test the function once more.
 
 use crate::asking::BOTH;
 
@@ -13,7 +13,7 @@ const ABSENT: Address = [2, 0, 0, 0, 9, 9];
 const GROUP: Address = [3, 0, 0, 0, 0, 1];
 const ZERO: Address = [0; 6];
 const ONES: Address = [0xFF; 6];
-/// All ones but for the bit that marks a group, and but for another bit.
+/// All ones except for the bit that marks a group, and all ones except for another bit.
 const ONES_BUT_INDIVIDUAL: Address = [0xFE, 0xFF, 0xFF, 0xFF, 0xFF, 0xFF];
 const ONES_BUT_ONE: Address = [0xFF, 0xFF, 0xFF, 0xFF, 0xFF, 0x7F];
 const LOW: Address = [0, 0, 0, 0, 0, 1];
@@ -22,7 +22,7 @@ const RREQ: u8 = 130;
 const RREP: u8 = 131;
 const RERR: u8 = 132;
 
-/// Fields hold octets that no address here has, flags and numbers those of all ones.
+/// Fields hold octets that no address here has. Flags and numbers hold all ones.
 fn element(id: u8, addresses: &[Address]) -> Vec<u8> {
     let (fixed, flags) = match id {
         RREQ => (25, vec![0xFF]),
@@ -49,7 +49,7 @@ fn faults(id: u8, addresses: &[Address], given: Address, expected: u32) {
 
 #[test]
 fn small_lists_have_these_faults() {
-    // Addresses and the one asked for; the sum for a RREQ, and for a RREP or RERR.
+    // Addresses and the address asked for; the sum of faults for a RREQ, and for a RREP or a RERR.
     let lists: [(Addresses, Address, u32, u32); 26] = [
         (&[A], B, 0, 0),
         (&[A], A, 8, 8),
@@ -93,7 +93,7 @@ fn what_has_no_list_has_no_fault() {
     for by in BOTH {
         assert_eq!(by.faults(&rann, &ONES), 0, "RANN by the {}", by.name);
         assert_eq!(by.faults(&element(RREP, &[]), &[0x5A; 6]), 0, "{}", by.name);
-        // Refused with 6, 7 and 8.
+        // These are refused with 6, 7 and 8.
         let whole = element(RERR, &[A, A]);
         let [mut other, mut miscounted] = [whole.clone(), whole.clone()];
         other[0] = 133;

@@ -1,5 +1,6 @@
-//! Elements: how the library reads them, writes them as frames and judges their lists, held
-//! against document 01 worked out by hand and against the separately written implementation.
+//! Elements: how the library reads them, writes them as frames and judges their lists. The tests
+//! compare it with cases worked out by hand from docs/PROTOCOL.md and with the separately written
+//! implementation.
 
 mod agreement;
 mod asking;

@@ -1,5 +1,5 @@
 //! One small element of each type, octet by octet, with the numbers and the frame that
-//! 'Element octets' of document 01 gives it, asked of the library and the reference alike.
+//! docs/PROTOCOL.md, 'Elements', gives it. They are asked of the library and the reference.
 
 use hwmp_tests::answers::ACCEPTED;
 use hwmp_tests::fence::{Fence, Side};
@@ -142,7 +142,7 @@ fn worked_elements_have_these_numbers_and_frames() {
     println!("one element of each type, and a RREP without dependents");
 }
 
-/// Where each worked element has flags, as an octet and as a number.
+/// Where each worked element has flags: which element, the octet, and the place among its numbers.
 const FLAGS: [(usize, usize, usize); 6] = [
     (0, 2, 2),
     (1, 2, 2),
@@ -168,7 +168,7 @@ fn reserved_bits_are_kept() {
     println!("flags of each type: all 256 values read and written as they are");
 }
 
-/// Every output up to a little more than the frame, and every place in it and just beyond.
+/// Tries every output up to a little more than the frame, and every place in it and just beyond.
 #[test]
 fn a_frame_is_written_where_it_fits() {
     let fence = &mut Fence::build();
@@ -184,7 +184,7 @@ fn a_frame_is_written_where_it_fits() {
         }
     }
     println!("at every place of every output a frame that fits is written, else 2: {written} fit");
-    // With 0 to 4 octets left there are 1 to 5 places, for each of the four.
+    // With 0 to 4 octets to spare there are 1 to 5 places, for each of the four elements.
     assert_eq!(written, 4 * (1 + 2 + 3 + 4 + 5));
 }
 
@@ -208,7 +208,7 @@ fn write_or_not(element: &[u8], room: usize, at: usize, fits: bool, fence: &mut 
     }
 }
 
-/// Places that would be small if sums went round or were cut to fewer bits.
+/// Returns places that would be small if sums wrapped or were cut to fewer bits.
 fn huge_places(room: usize, frame: usize) -> impl Iterator<Item = usize> {
     let round = [0, 1, room, frame, frame + 1].map(|back| usize::MAX - back);
     let cut = [1 << 16, 1 << 31, 1 << 32, 1 << 63, isize::MAX as usize];

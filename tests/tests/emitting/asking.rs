@@ -13,7 +13,7 @@ const E: Address = [0x0A, 0, 0, 0, 0, 5];
 const F: Address = [0x0A, 0, 0, 0, 0, 6];
 pub const ABSENT: Address = [0x0A, 0, 0, 0, 0, 7];
 
-/// A valid row of known number, through F.
+/// Returns a valid row of known number, through F.
 fn row(destination: Address, number: u32) -> Row {
     Row {
         status: 1,
@@ -27,8 +27,8 @@ fn row(destination: Address, number: u32) -> Row {
     }
 }
 
-/// A valid row for A, a free one, an expired one for B, an invalidated one for C, one of
-/// unknown number for D, and one for F through E, which has no row itself.
+/// Returns a valid row for A, a free row, an expired row for B, an invalidated row for C, a row of
+/// unknown number for D, and a row for F through E, which has no row itself.
 pub fn rows() -> [Row; 6] {
     [
         row(A, 0x2122_2324),
@@ -63,8 +63,8 @@ pub fn ask(
     move |by, table, output| (by.ask)(table, output, lifetime, items)
 }
 
-/// The known numbers of valid, expired and invalidated rows; 0 for an unknown number, for
-/// an address that is a next hop only, and for one without a row.
+/// The request has the known numbers of valid, expired and invalidated rows. It has 0 for an
+/// unknown number, for an address that is only a next hop, and for one without a row.
 #[test]
 fn an_ask_octet_by_octet() {
     let frame = [
@@ -131,7 +131,7 @@ fn a_lifetime_is_not_0() {
     println!("ask: lifetime 0 refused with 11, 1 and 4,294,967,295 accepted");
 }
 
-/// Rows in every place of a large table, with destinations that differ in any one octet.
+/// Rows in every place of a large table, with destinations that differ in one octet.
 #[test]
 fn a_number_is_found_in_every_row() {
     let destination = |place: usize| {

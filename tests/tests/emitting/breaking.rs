@@ -1,4 +1,4 @@
-//! Breaks.
+//! Reports of a broken neighbour.
 
 use hwmp_tests::implementation::Implementation;
 use hwmp_tests::library::Outcome;
@@ -12,7 +12,7 @@ pub fn destination(place: usize) -> Address {
     [0x10, 0, 0, 0, 0, place as u8]
 }
 
-/// A valid row through the neighbour, of known number 9.
+/// Returns a valid row through the neighbour, of known number 9.
 pub fn through(neighbour: Address, place: usize) -> Row {
     Row {
         status: 1,
@@ -26,7 +26,7 @@ pub fn through(neighbour: Address, place: usize) -> Row {
     }
 }
 
-/// The neighbour's own row, of unknown number.
+/// Returns the neighbour's own row, of unknown number.
 fn to_neighbour(metric: u32) -> Row {
     let row = Row {
         destination: BROKEN,
@@ -35,7 +35,7 @@ fn to_neighbour(metric: u32) -> Row {
     row.unknown(metric)
 }
 
-/// What a break makes of a row of known number.
+/// Returns what a break makes of a row of known number.
 pub fn broken(row: Row, number: u32) -> Row {
     Row {
         status: 2,
@@ -52,7 +52,7 @@ pub fn report_break(
     move |by, table, output| (by.report_break)(table, output, clock, &neighbour)
 }
 
-/// A break of BROKEN at clock 5000, which every row here outlives unless it says otherwise.
+/// Reports BROKEN at clock 5000. Every row here expires later, unless it says otherwise.
 fn breaks(what: &str, before: &[Row], after: &[Row], lost: &[(Address, u32)]) {
     let (before, after) = (table(5, 7, 1000, before), table(5, 7, 5000, after));
     let frames = match lost {
@@ -62,8 +62,8 @@ fn breaks(what: &str, before: &[Row], after: &[Row], lost: &[(Address, u32)]) {
     accepted(what, &before, &report_break(5000, BROKEN), &after, &frames);
 }
 
-/// Lost rows, with a number that goes round and an unknown one among them, and rows that stay
-/// for one reason each. Their order is not that of their addresses.
+/// Returns rows that are lost, among them one whose number wraps and one of unknown number, and
+/// rows that stay, each for another reason. Their order is not that of their addresses.
 fn eight_rows() -> [Row; 8] {
     let goes_round = Row {
         number: 0xFFFF_FFFF,
@@ -171,7 +171,7 @@ fn a_known_number_is_stepped() {
     println!("break: numbers stepped, also past 4,294,967,295");
 }
 
-/// The metric of an unknown number stays, and the row is announced with number 0.
+/// The metric of a row of unknown number stays, and the row is announced with number 0.
 #[test]
 fn an_unknown_number_stays_unknown() {
     for metric in [1, 30, 0xFFFF_FFFF] {
@@ -187,7 +187,7 @@ fn an_unknown_number_stays_unknown() {
     println!("break: a row of unknown number is invalidated, its metric stays");
 }
 
-/// At clock 5000 an expiry of 5000 is over.
+/// At clock 5000 a row with expiry 5000 is no longer active.
 #[test]
 fn only_active_rows_are_lost() {
     let edges = [
@@ -196,7 +196,7 @@ fn only_active_rows_are_lost() {
         (1, 0, false),
         (1, 4999, false),
         (1, (1 << 48) + (1 << 32), true),
-        // The low 32 bits alone would say otherwise.
+        // The low 32 bits alone would give the opposite.
         (1, 1 << 32, true),
         (1, (1 << 32) + 1, true),
         (2, 6000, false),
@@ -223,8 +223,8 @@ fn only_active_rows_are_lost() {
     println!("break: {} edges of active rows", 2 * edges.len());
 }
 
-/// A row for the neighbour by way of another one stays, and so does a row through an
-/// address that is nearly the neighbour's.
+/// A row for the neighbour through another one stays. A row through an address that is nearly the
+/// neighbour's stays too.
 #[test]
 fn only_rows_through_the_neighbour_are_lost() {
     let for_it = Row {
@@ -243,7 +243,7 @@ fn only_rows_through_the_neighbour_are_lost() {
     println!("break: the next hop decides, all six octets of it");
 }
 
-/// A second break finds nothing active, and an ask after it carries the stepped number.
+/// A second break finds no active row, and an ask after it carries the stepped number.
 #[test]
 fn what_a_break_leaves() {
     let once = [broken(through(BROKEN, 1), 10), through(OTHER, 2)];

@@ -7,7 +7,7 @@ use hwmp_tests::worked::{
 
 use crate::breaking::{BROKEN, OTHER, broken, destination, report_break, through};
 
-/// The clock is stored also if no row is lost; then there is no frame.
+/// The clock is stored even if no row is lost and there is no frame.
 #[test]
 fn the_clock_is_stored() {
     // Latest clock and clock.

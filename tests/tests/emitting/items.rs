@@ -8,12 +8,12 @@ use hwmp_tests::worked::{
 
 use crate::asking::{A, ABSENT, ask, octets, rows};
 
-/// Asks with own number 5 and request ID 7 for items of which no number is known.
+/// Asks, with own number 5 and request ID 7, for items whose numbers are unknown. Both must accept.
 fn asked(what: &str, items: &[(u8, Address)]) {
     asked_with(what, &octets(items), items);
 }
 
-/// The same with the octets of the items as they are lent.
+/// Asks in the same way, with the octets of the items as they are lent.
 fn asked_with(what: &str, lent: &[u8], items: &[(u8, Address)]) {
     let destinations: Vec<_> = items
         .iter()
@@ -29,22 +29,22 @@ fn not_asked(what: &str, items: &[(u8, Address)], answer: u32) {
     refused_with_room(what, &before, &ask(1000, &octets(items)), answer);
 }
 
-/// Addresses that no row has, as many as an ask can name and more.
+/// Returns addresses that no row has, as many as an ask can name or more.
 fn absent(count: usize) -> Vec<(u8, Address)> {
     (0..count as u8)
         .map(|place| (place % 4, [0x0C, 0, 0, 0, place / 5, place % 5]))
         .collect()
 }
 
-/// `items` with another one in a place.
+/// Returns `items` with another item in one place.
 fn with(items: &[(u8, Address)], place: usize, item: (u8, Address)) -> Vec<(u8, Address)> {
     let mut items = items.to_vec();
     items[place] = item;
     items
 }
 
-/// The frame has 6 + 2 + 26 + 11N octets: from 45 for one item to 254 for 20. Items lie beside
-/// a fence, so that reading a cut one to its end would end the run.
+/// The frame has 6 + 2 + 26 + 11N octets: from 45 for one item to 254 for 20. Items lie next to a
+/// fence, so that reading a cut item to its end would end the run.
 #[test]
 fn one_to_twenty_whole_items_are_asked_for() {
     let items = octets(&absent(40));
@@ -121,7 +121,8 @@ fn only_individual_addresses_are_asked_for() {
     println!("ask: group addresses, all ones and all zero refused with 9 in every place");
 }
 
-/// Each pair of places alike, with the same or other flags; and alike but for one octet.
+/// Each pair of places has one address, with the same or other flags. Addresses that differ in one
+/// octet are accepted.
 #[test]
 fn a_destination_twice_is_refused_with_10() {
     let items = absent(20);
@@ -160,7 +161,7 @@ fn the_own_address_is_refused_with_24() {
     println!("ask: the own address refused with 24 in every place");
 }
 
-/// Each check runs over all items before the next one begins.
+/// Each check runs over all items before the next check begins.
 #[test]
 fn several_grounds_give_the_lowest() {
     let lists: [(&[(u8, Address)], u32); 6] = [

@@ -1,5 +1,5 @@
-//! Ask, announce, root request and break, held against document 01 worked out by hand: the
-//! octets that they leave in table and output, and the order of their refusals.
+//! Ask, announce, root request and break, worked out by hand from docs/PROTOCOL.md: the octets that
+//! they leave in table and output, and the order of their refusals.
 
 mod asking;
 mod breaking;

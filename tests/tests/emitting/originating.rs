@@ -13,7 +13,7 @@ const NEXT_HOP: Address = [2, 0, 0, 0, 0, 2];
 /// The one destination of a root request: flags DO and RF, number 0.
 const EVERYONE: (u8, Address, u32) = (3, ALL_ONES, 0);
 
-/// Rows that these calls have nothing to do with.
+/// Returns rows that these calls must leave alone.
 fn rows() -> [Row; 3] {
     let held = Row {
         status: 1,
@@ -84,7 +84,7 @@ fn a_root_request_octet_by_octet() {
     println!("root request: a frame of 45 octets");
 }
 
-/// Of an announcement the request ID stays, whatever it is.
+/// An announcement leaves the request ID, whatever it is.
 #[test]
 fn counters_step_and_the_frame_has_them_after_the_step() {
     for (number, next_number) in STEPS {

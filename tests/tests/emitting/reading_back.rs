@@ -1,5 +1,5 @@
-//! What the calls emit is read back, by the library's reader and by the reference's, as the
-//! fields that were to be written. An address is one number here, its first octet the lowest.
+//! The library's reader and the reference's read back what the calls emit, and must find the fields
+//! that the call had to write. An address is one number here, with its first octet lowest.
 
 use hwmp_tests::answers::ACCEPTED;
 use hwmp_tests::implementation::LIBRARY;
@@ -17,7 +17,7 @@ const TABLES: usize = 60_000;
 /// How many frames of each call must have been read back.
 const LEAST: usize = 5_000;
 
-/// No element has such a number, so it shows where an element's numbers end.
+/// No element has this number, so it shows where an element's numbers end.
 const NO_NUMBER: u64 = u64::MAX;
 
 fn read(by: &Probe, element: &[u8]) -> Vec<u64> {
@@ -32,8 +32,8 @@ fn read(by: &Probe, element: &[u8]) -> Vec<u64> {
     own.copied().collect()
 }
 
-/// Cuts what was emitted into frames, by their Length octets, and holds the numbers of each
-/// against those expected. All go to all ones.
+/// Cuts what was emitted into frames, by their Length octets, and compares the numbers of each with
+/// those expected. All frames go to all ones.
 fn read_back(what: &str, outcome: Outcome, output: &[u8], expected: &[Vec<u64>]) -> usize {
     let mut rest = &output[..outcome.octets as usize];
     for numbers in expected {
@@ -50,7 +50,7 @@ fn read_back(what: &str, outcome: Outcome, output: &[u8], expected: &[Vec<u64>])
     expected.len()
 }
 
-/// A point with a legal table, whose fields before a call are known.
+/// A point with a legal table, and the fields of that table before a call.
 struct Point {
     octets: Vec<u8>,
     head: Head,
@@ -78,7 +78,7 @@ impl Point {
         self.head.request_id.0.wrapping_add(1).into()
     }
 
-    /// The numbers of a request before its destinations.
+    /// Returns the numbers of a request before its destinations.
     fn request(&self, flags: u8, lifetime: u32, count: usize) -> Vec<u64> {
         vec![
             130,
@@ -173,7 +173,7 @@ impl Point {
     }
 }
 
-/// The number of a lost row, stepped if it is known.
+/// Returns the number with which a lost row is announced: stepped if it is known.
 fn announced(row: &Row) -> SequenceNumber {
     SequenceNumber(row.number.0.wrapping_add(row.number_known.into()))
 }

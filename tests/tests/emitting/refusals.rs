@@ -49,7 +49,7 @@ impl Faults {
         vec![0xA5; LEAST_OUTPUT - usize::from(self.has(SHORT_OUTPUT))]
     }
 
-    /// Three items; faults 9, 10 and 24 each spoil another one, fault 8 cuts off an octet.
+    /// Three items. Faults 9, 10 and 24 each spoil a different item, and fault 8 cuts off an octet.
     fn items(&self) -> Vec<u8> {
         let first = if self.has(ABOUT_ITSELF) {
             OWN
@@ -152,7 +152,7 @@ const CALLS: [(&str, &[u32], FaultyCall); 4] = [
     ),
 ];
 
-/// Every set of the numbers, each in their order.
+/// Returns every set of the numbers, each set in their order.
 fn sets(numbers: &[u32]) -> impl Iterator<Item = Faults> {
     (0..1 << numbers.len()).map(|chosen: u32| {
         let bits = numbers.iter().enumerate();
@@ -161,9 +161,9 @@ fn sets(numbers: &[u32]) -> impl Iterator<Item = Faults> {
     })
 }
 
-/// Every set of faults gives the lowest of them. A clock cannot be too large and behind at
-/// once, nor a neighbour be a group and the own address; so where 3 stands with 22, or 4 with
-/// 23, only the lower one is really there.
+/// Every set of faults gives the lowest of them. A clock cannot be both too large and behind, and a
+/// neighbour cannot be both a group and the own address. Where 3 stands with 22, or 4 with 23, only
+/// the lower fault is really there.
 #[test]
 fn each_call_gives_the_lowest_refusal() {
     for (name, numbers, call) in CALLS {
@@ -179,7 +179,7 @@ fn each_call_gives_the_lowest_refusal() {
     }
 }
 
-/// Without a fault the call is accepted, or the sets above would show nothing.
+/// Without a fault the call must be accepted. Otherwise the sets above would show nothing.
 fn accepted_by_both(what: &str, call: Call) {
     for by in BOTH {
         let outcome = call(by, &mut sample(), &mut [0xA5; LEAST_OUTPUT]);
@@ -192,7 +192,7 @@ fn accepted_by_both(what: &str, call: Call) {
     }
 }
 
-/// Each call with operands that it accepts.
+/// Runs each call with operands that it accepts.
 fn each_call(mut run: impl FnMut(&str, Call)) {
     let without = Faults(vec![]);
     for (name, _, call) in CALLS {
@@ -206,7 +206,7 @@ fn only_whole_tables_of_1_to_128_rows_have_a_length() {
     let most = 32 + 32 * 131;
     each_call(|name, call| {
         for length in 0..=most {
-            // Zeros are no table, so a length that fits is refused with 21 instead.
+            // Zeros are not a table, so a length that fits is refused with 21 instead.
             let answer = if lengths.contains(&length) {
                 NOT_A_TABLE
             } else {
@@ -226,7 +226,7 @@ fn only_whole_tables_of_1_to_128_rows_have_a_length() {
     );
 }
 
-/// Beside a fence, so that a frame in a shorter output would end the run.
+/// The output lies next to a fence, so that a frame in a shorter output would end the run.
 #[test]
 fn an_output_has_at_least_1560_octets() {
     let fence = &mut Fence::build();

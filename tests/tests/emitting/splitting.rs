@@ -4,7 +4,8 @@ use hwmp_tests::worked::{Address, FREE, Row, accepted, rerr, table};
 
 use crate::breaking::{BROKEN, OTHER, broken, destination, report_break, through};
 
-/// How many rows are lost; N of each RERR, and all octets: 6 + 2 + 2 + 10N for each.
+/// How many rows are lost; N of each RERR; the total of octets, which is 6 + 2 + 2 + 10N for each
+/// RERR.
 const SPLITS: [(usize, &[usize], usize); 13] = [
     (0, &[], 0),
     (1, &[1], 20),
@@ -21,7 +22,7 @@ const SPLITS: [(usize, &[usize], usize); 13] = [
     (128, &[25, 25, 25, 25, 25, 3], 1340),
 ];
 
-/// Of 128 rows so many are lost, the first ones, the last ones, or some all over the table.
+/// Of 128 rows, `count` are lost: the first, the last, or some all over the table.
 #[test]
 fn twenty_five_rows_go_in_one_error() {
     for (count, ns, octets) in SPLITS {
@@ -62,7 +63,7 @@ fn split(count: usize, ns: &[usize], octets: usize, is_lost: &dyn Fn(usize) -> b
     accepted(&what, &before, &report_break(5000, BROKEN), &after, &frames);
 }
 
-/// The rows lost, so many in each RERR as the table above says.
+/// Returns the RERRs for the rows lost, with N as the table above says.
 fn errors(mut lost: &[(Address, u32)], ns: &[usize]) -> Vec<Vec<u8>> {
     let mut frames = Vec::new();
     for &n in ns {
@@ -80,7 +81,7 @@ fn numbered(place: usize) -> Row {
     }
 }
 
-/// Rows that stay, for four reasons by turns.
+/// Returns a row that stays, for one of four reasons in turn.
 fn not_lost(place: usize) -> Row {
     match place % 4 {
         0 => FREE,

@@ -21,11 +21,12 @@ fn ends_and_sources_are_individual() {
         refuses(&what, &ROWS, &rrep(0, to(bad), A, &[]), BAD_ADDRESS);
         refuses(&what, &ROWS, &rrep(0, PATH, bad, &[]), BAD_ADDRESS);
     }
-    // Also where both are the same, which would be 10.
+    // Also where both are the same, which alone would give 10.
     refuses("both", &ROWS, &rrep(0, to(GROUP), GROUP, &[]), BAD_ADDRESS);
 }
 
-/// All ones may be the destination of a request, and of nothing else; in any place of a list.
+/// All ones may only be the destination of a request. Bad addresses are tried in every place of a
+/// list.
 #[test]
 fn destinations_are_individual() {
     for bad in NOT_INDIVIDUAL {
@@ -50,7 +51,7 @@ fn listed(place: usize) -> Address {
     [0x20, 0, 0, 0, 0, place as u8]
 }
 
-/// Each two places of a list.
+/// Tries each two places of a list.
 #[test]
 fn no_destination_stands_twice() {
     for later in 1..25 {
@@ -58,7 +59,7 @@ fn no_destination_stands_twice() {
             let address = |at| listed(if at == later { earlier } else { at });
             let what = format!("places {earlier} and {later}");
             if later < 20 {
-                // With other flags and numbers it is the same destination.
+                // An address with other flags and another number is still the same destination.
                 let asked: Vec<_> = (0..20)
                     .map(|at| (at as u8, address(at), at as u32))
                     .collect();
@@ -101,12 +102,13 @@ fn lists_that_do_not_go_together() {
         &rrep(0, PATH, END, &[]),
         BAD_LIST,
     );
-    // A bad address comes first, wherever it stands.
+    // A bad address comes first, in whatever place.
     let asked = [(0, A, 0), (0, A, 0), (0, GROUP, 0)];
     refuses("10 and 9", &ROWS, &rreq(2, PATH, &asked), BAD_ADDRESS);
 }
 
-/// The own address as the end of a path; an error may name it, and a request ask for it.
+/// The own address may not be the subject of a path. An error may name it, and a request may ask
+/// for it.
 #[test]
 fn no_path_leads_to_the_point_itself() {
     refuses("RANN", &ROWS, &rann(0, to(OWN)), ABOUT_ITSELF);

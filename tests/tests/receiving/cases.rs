@@ -1,23 +1,23 @@
-//! What the cases that were worked out by hand share.
+//! What the cases worked out by hand share.
 
 use hwmp_tests::elements::{framed, path_fields};
 use hwmp_tests::implementation::Implementation;
 use hwmp_tests::library::Outcome;
 use hwmp_tests::worked::{Address, Row, accepted, refused_with_room, table};
 
-/// The neighbour that transmits, over a link of this metric and at this clock.
+/// The transmitter, the metric of its link, and the clock.
 pub const T: Address = [0x0A, 0, 0, 0, 0, 1];
 pub const LINK: u32 = 14;
 pub const CLOCK: u64 = 5000;
 
-/// Where the received path ends, and other addresses.
+/// The subject of the received path, and other addresses.
 pub const END: Address = [0x0A, 0, 0, 0, 0, 2];
 pub const A: Address = [0x0A, 0, 0, 0, 0, 0x0A];
 pub const B: Address = [0x0A, 0, 0, 0, 0, 0x0B];
 pub const C: Address = [0x0A, 0, 0, 0, 0, 0x0C];
 pub const VIA: Address = [0x0A, 0, 0, 0, 0, 0x77];
 
-/// What a RANN, RREQ or RREP tells of a path.
+/// The path that a RANN, a RREQ or a RREP tells of. `end` is the subject.
 #[derive(Clone, Copy)]
 pub struct Path {
     pub hop_count: u8,
@@ -28,8 +28,8 @@ pub struct Path {
     pub metric: u32,
 }
 
-/// The path that is received unless a case says otherwise. Over the link its metric is 39, its
-/// hop count 4, and it expires at 6000.
+/// The path that is received unless a case says otherwise. With the link its metric is 39 and its
+/// hop count 4, and its row expires at 6000.
 pub const PATH: Path = Path {
     hop_count: 3,
     ttl: 5,
@@ -39,7 +39,7 @@ pub const PATH: Path = Path {
     metric: 25,
 };
 
-/// The same as it goes on.
+/// The path as it is forwarded.
 pub const ONWARD: Path = Path {
     hop_count: 4,
     ttl: 4,
@@ -71,7 +71,8 @@ pub const NEIGHBOUR: Row = Row {
     expiry: 6000,
 };
 
-/// An active row of known number 9, by way of a neighbour that plays no other part.
+/// Returns an active row of known number 9, through a neighbour that has no other part in the
+/// cases.
 pub fn active(destination: Address) -> Row {
     Row {
         status: 1,
@@ -85,7 +86,7 @@ pub fn active(destination: Address) -> Row {
     }
 }
 
-/// A row that was active until just now.
+/// Returns the row with an expiry that has just passed.
 pub fn expired(row: Row) -> Row {
     Row {
         expiry: CLOCK,
@@ -113,7 +114,7 @@ pub fn rann(flags: u8, path: Path) -> Vec<u8> {
 
 pub const REQUEST_ID: u32 = 0x0A0B_0C0D;
 
-/// Its destinations are flags, address and number.
+/// Returns a RREQ. A destination is flags, address and number.
 pub fn rreq(flags: u8, path: Path, destinations: &[(u8, Address, u32)]) -> Vec<u8> {
     let mut fields = [
         &path.head(flags)[..],
@@ -130,12 +131,12 @@ pub fn rreq(flags: u8, path: Path, destinations: &[(u8, Address, u32)]) -> Vec<u
 
 pub const SOURCE_NUMBER: u32 = 0xA1B2_C3D4;
 
-/// A reply that goes towards its source.
+/// Returns a RREP on its way to its source.
 pub fn rrep(flags: u8, path: Path, source: Address, dependents: &[(Address, u32)]) -> Vec<u8> {
     numbered_rrep(flags, path, (source, SOURCE_NUMBER), dependents)
 }
 
-/// A reply as a point makes it, with flags 0 and no dependents.
+/// Returns a RREP as a point makes it, with flags 0 and no dependents.
 pub fn new_rrep(path: Path, source: Address, source_number: u32) -> Vec<u8> {
     numbered_rrep(0, path, (source, source_number), &[])
 }
@@ -182,12 +183,12 @@ pub fn receive(
     move |by, table, output| (by.receive)(table, output, clock, &transmitter, link_metric, element)
 }
 
-/// Own number 5 and request ID 7, which stay; the clock is stored.
+/// Both implementations must accept. Own number 5 and request ID 7 stay, and the clock is stored.
 pub fn accepts(what: &str, before: &[Row], element: &[u8], after: &[Row], frames: &[Vec<u8>]) {
     accepts_numbered(what, 5, before, element, 5, after, frames);
 }
 
-/// The same with an own number that may change.
+/// Both implementations must accept, with an own number that may change.
 pub fn accepts_numbered(
     what: &str,
     number: u32,
@@ -207,7 +208,7 @@ pub fn refuses(what: &str, before: &[Row], element: &[u8], answer: u32) {
     refused_with_room(what, &before, &receive(CLOCK, T, LINK, element), answer);
 }
 
-/// Without a hop left, a RANN shows what is learnt and nothing else.
+/// A RANN whose TTL is 1 is not forwarded, so it shows only what is learnt.
 pub fn learns(what: &str, path: Path, before: &[Row], after: &[Row]) {
     let path = Path { ttl: 1, ..path };
     accepts(what, before, &rann(0, path), after, &[]);

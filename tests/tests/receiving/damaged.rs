@@ -1,4 +1,4 @@
-//! Single calls on legal and damaged tables, with elements that suit them, damaged ones and
+//! Single calls on legal and damaged tables, with elements that suit them, damaged elements and
 //! random octets.
 
 use hwmp_tests::answers::{
@@ -15,7 +15,7 @@ use hwmp_tests::tables;
 const TABLES: usize = 300_000;
 const CALLS_PER_TABLE: usize = 8;
 
-/// Every answer that receive can give, and how often each must have occurred.
+/// Every answer that receive can give, and how often each answer must have occurred.
 const LEAST: u64 = 2_000;
 const ANSWERS: [Listed; 1] = [(
     "receive",

@@ -1,4 +1,4 @@
-//! Errors that are received.
+//! Received RERRs.
 
 use hwmp_tests::answers::{NO_LINK, NO_MATCH};
 use hwmp_tests::worked::{ALL_ONES, Address, FREE, OWN, Row, accepted, refused_with_room, table};
@@ -8,7 +8,7 @@ use crate::cases::{
     refuses, rerr,
 };
 
-/// An active row of known number 9 through the transmitter.
+/// Returns an active row of known number 9 through the transmitter.
 fn through(destination: Address) -> Row {
     Row {
         next_hop: T,
@@ -16,7 +16,7 @@ fn through(destination: Address) -> Row {
     }
 }
 
-/// What an error with a newer number makes of it.
+/// Returns what an error with a newer number makes of the row.
 fn raised(row: Row, number: u32) -> Row {
     Row {
         status: 2,
@@ -30,7 +30,7 @@ fn goes_on(flags: u8, matches: &[(Address, u32)]) -> Vec<u8> {
     frame(ALL_ONES, rerr(flags, matches))
 }
 
-/// Number received where the row has 9, and whether it is newer.
+/// The number received where the row has 9, and whether it is newer.
 const RECEIVED_FOR_9: [(u32, bool); 8] = [
     (9, false),
     (10, true),
@@ -42,8 +42,8 @@ const RECEIVED_FOR_9: [(u32, bool); 8] = [
     (0x8000_000A, false),
 ];
 
-/// The row is invalidated in any case; only a newer number is taken, with the largest metric.
-/// What goes on has the number as received.
+/// The row is invalidated in any case. Only a newer number is taken, with the largest metric. The
+/// forwarded error has the number as received.
 #[test]
 fn a_match_is_invalidated() {
     for (number, newer) in RECEIVED_FOR_9 {
@@ -82,8 +82,8 @@ fn numbers_are_compared_round_zero() {
     }
 }
 
-/// Rows that an error does not concern, each for one reason. Matching by destination alone is
-/// a trainees' error that document 01 names.
+/// Returns rows that an error does not concern, each for another reason. Matching by destination
+/// alone is one of the three errors that docs/PROTOCOL.md, 'Edges', shuts out.
 fn not_concerned() -> [(&'static str, Row); 5] {
     [
         ("another next hop", active(A)),
@@ -116,7 +116,7 @@ fn without_a_match_it_is_refused_with_26() {
     );
 }
 
-/// Only the matches go on and change, in the order of the error and not of the table.
+/// Only the matches change and are forwarded, in the order of the error and not of the table.
 #[test]
 fn only_matches_go_on() {
     for (what, row) in not_concerned() {
@@ -155,7 +155,7 @@ fn an_error_may_name_its_transmitter() {
     );
 }
 
-/// Up to 25, of which every second one matches.
+/// An error names up to 25 destinations, and every second one matches.
 #[test]
 fn up_to_twenty_five_are_named() {
     let destination = |place: u8| [0x20, 0, 0, 0, 0, place];
@@ -186,8 +186,8 @@ fn up_to_twenty_five_are_named() {
     }
 }
 
-/// An error has no metric that the link could be added to, but link metric 0 is refused for it
-/// too. No row is needed or made.
+/// An error has no metric to which the link could be added, but it is refused over a link of metric
+/// 0 too. It needs and makes no row.
 #[test]
 fn the_link_of_an_error() {
     let (row, element) = (through(A), rerr(0, &[(A, 10)]));

@@ -1,4 +1,5 @@
-//! Refusal 27: just if more new rows are needed than rows are free, wherever these lie.
+//! Refusal 27 applies exactly if more new rows are needed than rows are free, wherever the free
+//! rows lie.
 
 use hwmp_tests::answers::NO_ROOM;
 use hwmp_tests::worked::{Address, FREE, Row};
@@ -7,7 +8,8 @@ use crate::cases::{
     END, LEARNT, NEIGHBOUR, PATH, active, expired, invalidated, learns, rann, refuses,
 };
 
-/// Which are held of the rows that the element fills, the end's and the transmitter's.
+/// Which of the two rows that the element fills is already held: the subject's (`End`) or the
+/// transmitter's.
 #[derive(Clone, Copy, Debug)]
 enum Held {
     Neither,
@@ -16,7 +18,8 @@ enum Held {
     Both,
 }
 
-/// A full table but for these places, with the rows that are held in its first or last places.
+/// Returns a table that is full except for the places `free`. The rows that are held take its first
+/// or last places.
 fn rows(count: usize, free: &[usize], held: Held, first: bool) -> Option<Vec<Row>> {
     let end = Row {
         number: 8,
@@ -50,7 +53,7 @@ fn destination(place: usize) -> Address {
     [0x30, 0, 0, 0, 0, place as u8]
 }
 
-/// Where the row of an address is put: in its own place, or in the first free one.
+/// Puts the row of an address into its own place, or into the first free one.
 fn put(rows: &mut [Row], row: Row) -> bool {
     let own = rows
         .iter()
@@ -93,8 +96,8 @@ fn try_with(count: usize, free: &[usize]) -> [usize; 2] {
     outcomes
 }
 
-/// None free, each single place, and pairs: all of them in small tables, and in large ones those
-/// with the ends and the middle.
+/// Tries no free place, each single place, and pairs: all pairs in small tables, and in large
+/// tables those with an end or the middle.
 #[test]
 fn just_if_more_are_needed_than_free() {
     let mut outcomes = [0; 2];

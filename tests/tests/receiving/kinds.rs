@@ -1,4 +1,4 @@
-//! Elements of every kind on legal tables: requests whose destinations have rows of all sorts,
+//! Elements of every type on legal tables: requests whose destinations have rows of all sorts,
 //! replies with any number of dependents, errors with any number of matches.
 
 use hwmp_tests::answers::ACCEPTED;
@@ -13,7 +13,7 @@ use hwmp_tests::tables;
 const TABLES: usize = 300_000;
 const CALLS_PER_TABLE: usize = 6;
 
-/// What accepted elements must have met, and how often; where it is a yes or no, 1 is yes.
+/// What accepted elements must have met, and how often. In a count of yes and no, 1 stands for yes.
 const LEAST: u64 = 20;
 const SEEN: [Listed; 15] = [
     (END, &[0, 1, 2, 3, 4]),
@@ -65,7 +65,7 @@ const UP_TO_25_AND_0: [u32; 26] = [
     0, 1, 2, 3, 4, 5, 6, 7, 8, 9, 10, 11, 12, 13, 14, 15, 16, 17, 18, 19, 20, 21, 22, 23, 24, 25,
 ];
 
-/// Some of the tables are full, and in some one neighbour leads to nearly all destinations.
+/// Some tables are full. In some, nearly all rows lead through one neighbour.
 fn some_table(random: &mut Random) -> Vec<u8> {
     let most = random.pick(&[4, 32, 64, MAX_ROWS]);
     let rows = 1 + random.below(most);
@@ -103,7 +103,8 @@ impl Accepted<'_> {
         }
     }
 
-    /// None 0, active 1, active of unknown number 2, expired 3, invalidated 4.
+    /// Returns 0 for no row, 1 for an active row of known number, 2 for an active row of unknown
+    /// number, 3 for an expired row, 4 for an invalidated row.
     fn sort(&self, row: Option<Row>) -> u32 {
         match row {
             None => 0,
@@ -159,7 +160,7 @@ impl Accepted<'_> {
         }
     }
 
-    /// By the rows that the path left.
+    /// Counts a destination by the rows after the path was learnt.
     fn see_destination(&self, asked: &Destination, seen: &mut Tally) {
         let head = self.before.head();
         if asked.address == head.own {
@@ -198,7 +199,7 @@ fn row(table: &Table, destination: Address) -> Option<Row> {
     table.row_for(destination).map(|(_, row)| row)
 }
 
-/// Equal 0, newer 1, older 2, half the circle apart 3.
+/// Returns 0 for equal, 1 for newer, 2 for older, 3 for half the circle apart.
 fn relation(asked: SequenceNumber, held: SequenceNumber) -> u32 {
     match asked.0.wrapping_sub(held.0) {
         0 => 0,
@@ -207,7 +208,8 @@ fn relation(asked: SequenceNumber, held: SequenceNumber) -> u32 {
     }
 }
 
-/// Forgets a row or loses a neighbour, so that later elements find rows as these calls leave them.
+/// Forgets a row or reports a neighbour as broken, so that later elements meet rows as these calls
+/// leave them.
 fn now_and_then_lose(point: &mut Point, run: &mut Run) {
     let random = &mut run.random;
     match random.below(16) {

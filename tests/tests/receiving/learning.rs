@@ -1,5 +1,5 @@
-//! Steps 1 and 2 of 'Receiving RREQ, RREP, RANN', and refusals 25 and 27, which are about the
-//! same rows.
+//! Steps 1 and 2 of docs/PROTOCOL.md, 'Learning', and refusals 25 and 27, which judge the same
+//! rows.
 
 use hwmp_tests::answers::{NO_ROOM, STALE};
 use hwmp_tests::worked::{FREE, LAST_CLOCK, Row, accepted, refused_with_room, table};
@@ -9,8 +9,8 @@ use crate::cases::{
     active, expired, invalidated, learns, rann, receive, refuses, rrep, rreq,
 };
 
-/// Octet by octet: hop count 3 becomes 4, metric 25 over link 14 becomes 39, and clock 5000 with
-/// lifetime 1000 gives expiry 6000. The transmitter's row has an unknown number.
+/// Octet by octet. Hop count 3 becomes 4, and metric 25 over a link of 14 becomes 39. Clock 5000
+/// and lifetime 1000 give expiry 6000. The transmitter's row has an unknown number.
 #[test]
 fn a_path_octet_by_octet() {
     let head = |clock: u8, clock_high: u8| {
@@ -75,7 +75,7 @@ fn all_three_types_teach_the_same() {
     }
 }
 
-/// The end's row is replaced but for an expiry that is larger and was still active.
+/// The subject's row is replaced, except for a larger expiry of a row that was still active.
 #[test]
 fn step_1_renews_the_row_of_the_end() {
     let old = Row {
@@ -86,7 +86,7 @@ fn step_1_renews_the_row_of_the_end() {
     };
     let unknown = |expiry: u64| until(expiry, old.unknown(3));
     let largest = (1 << 48) + (1 << 32);
-    // Row before, and expiry after.
+    // The row before, and its expiry after.
     let cases = [
         ("expiry below", until(5999, old), 6000),
         ("expiry equal", until(6000, old), 6000),
@@ -102,13 +102,13 @@ fn step_1_renews_the_row_of_the_end() {
         ("unknown, invalidated", invalidated(unknown(7000)), 6000),
     ];
     for (what, row, expiry) in cases {
-        // The end keeps its place, and the transmitter takes the first free one.
+        // The subject's row keeps its place, and the transmitter's takes the first free one.
         let after = [NEIGHBOUR, FREE, until(expiry, LEARNT)];
         learns(what, PATH, &[FREE, FREE, row], &after);
     }
 }
 
-/// The transmitter's row before and after the path is learnt.
+/// The transmitter's row must change from `before` to `after` when the path is learnt.
 fn becomes(what: &str, before: Row, after: Row) {
     learns(what, PATH, &[FREE, before], &[LEARNT, after]);
 }
@@ -125,7 +125,7 @@ fn until(expiry: u64, row: Row) -> Row {
     Row { expiry, ..row }
 }
 
-/// A row of the transmitter by way of another neighbour, at the metric of the link.
+/// Returns a row of the transmitter through another neighbour, at the metric of the link.
 fn roundabout() -> Row {
     let row = Row {
         hop_count: 3,
@@ -134,7 +134,7 @@ fn roundabout() -> Row {
     at(LINK, row)
 }
 
-/// The same row after a change: its number stays.
+/// Returns that row after a change, which keeps its number.
 fn straight() -> Row {
     Row {
         hop_count: 1,
@@ -149,7 +149,7 @@ fn step_2_makes_a_row_of_unknown_number() {
     becomes("none", FREE, NEIGHBOUR);
 }
 
-/// Only a link below its metric counts, and then the larger expiry stays.
+/// Only a link below the row's metric changes it. The larger expiry then stays.
 #[test]
 fn step_2_changes_an_active_row_for_a_better_link() {
     let (known, unknown) = (roundabout(), until(5500, NEIGHBOUR));
@@ -166,7 +166,7 @@ fn step_2_changes_an_active_row_for_a_better_link() {
     stays("unknown below", at(1, unknown));
 }
 
-/// At an equal metric too, and without a number at any.
+/// An inactive row is also renewed at an equal metric, and at any metric if its number is unknown.
 #[test]
 fn step_2_renews_an_inactive_row_unless_the_link_is_worse() {
     let (known, unknown) = (roundabout(), NEIGHBOUR);
@@ -216,7 +216,7 @@ fn the_clock_is_stored_and_expiry_counts_from_it() {
     }
 }
 
-/// Row number and metric, received number, and whether the path of metric 39 is accepted.
+/// The row's number and metric, the received number, and whether the path of metric 39 is accepted.
 const FRESHNESS: [(u32, u32, u32, bool); 19] = [
     (9, 40, 9, true),
     (9, 39, 9, false),
@@ -239,8 +239,8 @@ const FRESHNESS: [(u32, u32, u32, bool); 19] = [
     (0xFFFF_FFFF, 39, 0xFFFF_FFFF, false),
 ];
 
-/// One of each type, none of which goes on: a RANN and a RREQ have no hop left, and the source
-/// of the RREP has no row.
+/// Returns one element of each type. None is forwarded: the RANN and the RREQ have TTL 1, and the
+/// source of the RREP has no row.
 fn one_of_each(path: Path) -> [Vec<u8>; 3] {
     let last = Path { ttl: 1, ..path };
     [
@@ -250,8 +250,8 @@ fn one_of_each(path: Path) -> [Vec<u8>; 3] {
     ]
 }
 
-/// The row is active, expired or invalidated: an equal number at a worse metric is refused into
-/// an inactive row as well, for a RREP as for the others.
+/// The row is active, expired or invalidated. An equal number at a worse metric is also refused
+/// into an inactive row, for a RREP as for the others.
 #[test]
 fn numbers_are_compared_round_zero_and_then_metrics() {
     for (held, metric, received, fresh) in FRESHNESS {
@@ -281,7 +281,7 @@ fn numbers_are_compared_round_zero_and_then_metrics() {
     }
 }
 
-/// A number that is not known is nothing to compare with, nor is the metric beside it.
+/// Where the row's number is unknown, neither number nor metric is compared.
 #[test]
 fn any_number_is_accepted_where_none_is_known() {
     for (_, metric, number, _) in FRESHNESS {
@@ -294,7 +294,7 @@ fn any_number_is_accepted_where_none_is_known() {
     }
 }
 
-/// P5 of document 01: row number 9, metric 40; element 9, metric 25.
+/// P5 of docs/PROTOCOL.md, 'Edges': row number 9, metric 40; element 9, metric 25.
 #[test]
 fn p5_link_15_is_refused_and_link_14_gives_39() {
     let (before, element) = (table(5, 7, 1000, &[active(END), FREE]), rann(0, PATH));
@@ -302,7 +302,7 @@ fn p5_link_15_is_refused_and_link_14_gives_39() {
     learns("link 14", PATH, &[active(END), FREE], &[LEARNT, NEIGHBOUR]);
 }
 
-/// P8 of document 01, with the end's row before the transmitter's.
+/// P8 of docs/PROTOCOL.md, 'Edges', with the subject's row before the transmitter's.
 #[test]
 fn p8_free_rows_are_taken_in_order() {
     let (a, b, c) = (active(A), active(B), active(C));
@@ -316,7 +316,7 @@ fn p8_free_rows_are_taken_in_order() {
     );
 }
 
-/// The source of a reply, its number and the dependents are used for no row.
+/// The source of a reply, its number and the dependents change no row.
 #[test]
 fn only_the_end_and_the_transmitter_are_learnt() {
     let element = rrep(0, PATH, VIA, &[(A, SOURCE_NUMBER), (B, 77)]);

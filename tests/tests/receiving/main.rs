@@ -1,5 +1,5 @@
 //! Receiving: random meshes whose points send to each other, single calls on random and damaged
-//! octets, and cases worked out by hand from document 01.
+//! octets, and cases worked out by hand from docs/PROTOCOL.md.
 
 mod addresses;
 mod cases;

@@ -1,4 +1,5 @@
-//! Random meshes. What was sent may be delivered at any later time, again, to anybody, or never.
+//! Random meshes. A frame may be delivered at any later time, more than once, to any point, or
+//! never.
 
 use hwmp_tests::comparing::{Point, Run, Tally};
 use hwmp_tests::mesh::{Mesh, Sent};
@@ -15,7 +16,7 @@ pub struct RandomMesh {
 }
 
 impl RandomMesh {
-    /// Fresh tables, all of few rows or all of many.
+    /// Makes fresh tables, all of few rows or all of many.
     pub fn fresh(run: &mut Run) -> RandomMesh {
         let random = &mut run.random;
         let count = 2 + random.below(MOST_POINTS - 1);
@@ -30,7 +31,7 @@ impl RandomMesh {
         }
     }
 
-    /// One call of one point.
+    /// Makes one call of one point.
     pub fn step(&mut self, run: &mut Run, seen: &mut Tally) {
         self.mesh.clock += some_advance(&mut run.random);
         let point = run.random.below(self.mesh.addresses().len());
@@ -50,8 +51,8 @@ impl RandomMesh {
         let lifetime = some_lifetime(random);
         let mut items = Vec::new();
         for _ in 0..random.pick(&[1, 1, 2, 5]) {
-            // Mostly one of the points, now and then a stranger. The own address or one that
-            // stands twice is refused.
+            // Mostly one of the points, sometimes a stranger. The own address, or an address twice,
+            // is refused.
             let stranger = tables::individual(random).0;
             let member = random.pick(self.mesh.addresses());
             items.push(random.below(4) as u8);
@@ -108,7 +109,8 @@ impl RandomMesh {
     }
 }
 
-/// Near which number the points of a mesh start; each near another one if there is none.
+/// Returns a number near which all points of a mesh start, or None if each starts near a number of
+/// its own.
 fn some_start(random: &mut Random) -> Option<u32> {
     random.pick(&[Some(4), Some(u32::MAX - 4), Some(1 << 31), None])
 }
@@ -126,7 +128,7 @@ fn some_advance(random: &mut Random) -> u64 {
     }
 }
 
-/// Now and then behind, as two clocks may differ a little.
+/// Returns a clock that is sometimes behind, because two clocks may differ a little.
 fn some_clock(clock: u64, random: &mut Random) -> u64 {
     let behind = random.below(8) as u64;
     if random.one_in(16) {
@@ -140,7 +142,7 @@ fn some_lifetime(random: &mut Random) -> u32 {
     random.pick(&[1, 30, 300, 1000, 1000, u32::MAX])
 }
 
-/// Mostly small, so that several paths compete.
+/// Returns mostly a small link metric, so that several paths compete.
 fn some_link_metric(random: &mut Random) -> u32 {
     let huge = [u32::MAX, u32::MAX - 1, u32::MAX - 20, 1 << 31];
     if random.one_in(24) {

@@ -22,12 +22,13 @@ impl Faults {
         self.0.contains(&number)
     }
 
-    /// The value that shows a fault, or the one without it.
+    /// Returns the value that has the fault if the call has it, otherwise the sound value.
     fn or<V>(&self, number: u32, faulty: V, sound: V) -> V {
         if self.has(number) { faulty } else { sound }
     }
 
-    /// The end has a row, and its number is older than the path's; the transmitter needs one.
+    /// The subject has a row, whose number is older than the path's. The transmitter needs a new
+    /// row.
     fn table(&self) -> Vec<u8> {
         let end = Row {
             number: 8,
@@ -75,7 +76,7 @@ impl Faults {
         }
     }
 
-    /// A RANN has one address, and the others need theirs for other faults.
+    /// A RANN has only one address, so its fault 9 takes the place of the subject.
     fn rann(&self) -> Vec<u8> {
         let path = self.path();
         let end = self.or(BAD_ADDRESS, GROUP, path.end);
@@ -107,7 +108,7 @@ impl Faults {
         rerr(0, &named)
     }
 
-    /// Fault 8 takes an octet off, with a Length that counts the rest; fault 6 adds one.
+    /// Fault 8 takes an octet off, and Length counts the rest. Fault 6 adds an octet.
     fn spoilt(&self, mut element: Vec<u8>) -> Vec<u8> {
         if self.has(BAD_COUNT) {
             element.pop();
@@ -223,7 +224,7 @@ const TYPES: [Type; 4] = [
     ),
 ];
 
-/// Every set of at most three, each in their order.
+/// Returns every set of at most three numbers, each set in their order.
 fn sets_of_three(numbers: &[u32]) -> Vec<Faults> {
     let mut sets = vec![Faults(vec![])];
     for (place, &first) in numbers.iter().enumerate() {
@@ -238,8 +239,9 @@ fn sets_of_three(numbers: &[u32]) -> Vec<Faults> {
     sets
 }
 
-/// Every set of at most three faults gives the lowest of them. Some cannot stand together in one
-/// operand, as a clock that is too large and behind; then only the lower one is really there.
+/// Every set of at most three faults gives the lowest of them. Some faults cannot stand together in
+/// one operand, for example a clock that is too large and a clock that is behind. Only the lower
+/// one is then really there.
 #[test]
 fn each_type_gives_the_lowest_refusal() {
     for (name, numbers, element) in TYPES {
@@ -252,7 +254,8 @@ fn each_type_gives_the_lowest_refusal() {
             let (table, output) = (faults.table(), faults.output());
             match faults.0.first() {
                 Some(&lowest) => refused(&what, &table, &output, &call, lowest),
-                // Or the sets with faults would show nothing.
+                // Without a fault the call must be accepted. Otherwise the sets with faults would
+                // show nothing.
                 None => {
                     for by in BOTH {
                         let outcome = call(by, &mut table.clone(), &mut output.clone());
@@ -270,7 +273,7 @@ fn only_whole_tables_of_1_to_128_rows_have_a_length() {
     let lengths: Vec<usize> = (1..=128).map(|rows| 32 + 32 * rows).collect();
     let element = rann(0, PATH);
     for length in 0..=32 + 32 * 131 {
-        // Zeros are no table, so a length that fits is refused with 21 instead.
+        // Zeros are not a table, so a length that fits is refused with 21 instead.
         let answer = if lengths.contains(&length) {
             NOT_A_TABLE
         } else {
@@ -281,8 +284,8 @@ fn only_whole_tables_of_1_to_128_rows_have_a_length() {
     }
 }
 
-/// Also for an element that emits nothing. Beside a fence, so that a frame in a shorter output
-/// would end the run.
+/// Also for an element that emits nothing. The output lies next to a fence, so that a frame in a
+/// shorter output would end the run.
 #[test]
 fn an_output_has_at_least_1560_octets() {
     let fence = &mut Fence::build();
@@ -306,8 +309,8 @@ fn an_output_has_at_least_1560_octets() {
     }
 }
 
-/// An element of each type, cut anywhere, is refused with 6; with a Length that counts what is
-/// left it is refused with 8, and nothing beyond it is read.
+/// An element of each type, cut anywhere, is refused with 6. With a Length that counts what is left
+/// it is refused with 8, and nothing beyond it is read.
 #[test]
 fn elements_that_are_cut_short() {
     let before = table(5, 7, 1000, &[FREE; 4]);
@@ -330,8 +333,8 @@ fn elements_that_are_cut_short() {
     }
 }
 
-/// How many entries a type may have, in an element whose Length fits them. From 256 on Length goes
-/// round, and then it does not count the octets after it.
+/// How many entries a type may have, in an element whose Length fits them. From 256 on Length
+/// wraps, and then it does not count the octets after it.
 #[test]
 fn counts_of_entries() {
     let before = table(5, 7, 1000, &[FREE; 4]);
@@ -340,7 +343,7 @@ fn counts_of_entries() {
     for count in 0..=60 {
         let named: Vec<_> = entries(count).collect();
         let asked: Vec<_> = asked(count).collect();
-        // Element, how many entries fit, what is answered to so many, and its Length.
+        // The element, how many entries fit, the answer if they fit, and its Length.
         let elements = [
             (
                 rreq(0, PATH, &asked),

@@ -1,4 +1,4 @@
-//! Replies and announcements that go on.
+//! Replies and announcements that are forwarded.
 
 use hwmp_tests::answers::{LOW_TTL, METRIC_TOO_LARGE, STALE, TOO_MANY_HOPS};
 use hwmp_tests::worked::{ALL_ONES, Address, FREE, OWN, Row};
@@ -8,7 +8,8 @@ use crate::cases::{
     frame, invalidated, rann, refuses, rrep,
 };
 
-/// A reply for the source on a table with these rows, and where it goes.
+/// A reply for the source, on a table with these rows, must be forwarded to `to`, or not at all if
+/// that is None.
 fn goes_on(what: &str, rows: &[Row], source: Address, to: Option<Address>) {
     let before = [&[FREE, FREE], rows].concat();
     let after = [&[LEARNT, NEIGHBOUR], rows].concat();
@@ -33,12 +34,12 @@ fn a_reply_goes_to_the_next_hop_of_its_source() {
     goes_on("invalidated", &[invalidated(row)], C, None);
     goes_on("no row", &[active(A)], C, None);
     goes_on("this point", &[active(A)], OWN, None);
-    // Its row was just made.
+    // The transmitter's row was just made.
     goes_on("the transmitter", &[], T, Some(T));
 }
 
-/// Flags and dependents are passed on as they are, also what is no individual address or stands
-/// twice; the source number too.
+/// Flags, dependents and the source number are forwarded as they are. A dependent may be an address
+/// that is not individual, or stand twice.
 #[test]
 fn dependents_are_passed_on_unread() {
     let odd = [
@@ -63,7 +64,7 @@ fn dependents_are_passed_on_unread() {
     }
 }
 
-/// A reply needs a hop left even where it has arrived; an announcement does not.
+/// A reply needs TTL 2 or more even at its source. An announcement does not.
 #[test]
 fn hops_left() {
     let row = active(C);
@@ -90,7 +91,8 @@ fn hops_left() {
     }
 }
 
-/// 11-06-1778 takes a reply with an equal number at any metric; document 01 does not.
+/// 11-06-1778 takes a reply with an equal number at any metric. docs/PROTOCOL.md refuses it unless
+/// the metric is smaller.
 #[test]
 fn a_reply_with_an_equal_number_must_be_better() {
     let held = |metric| Row {
@@ -111,7 +113,7 @@ fn a_reply_with_an_equal_number_must_be_better() {
     refuses("worse, inactive", &[inactive, FREE], &element, STALE);
 }
 
-/// The largest hop count and metric that can be received, and what comes of them.
+/// The largest hop count and metric that can be received, and the row and frame that follow.
 #[test]
 fn the_largest_path() {
     let path = Path {

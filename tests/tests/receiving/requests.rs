@@ -1,4 +1,4 @@
-//! What a request leads to: replies to the transmitter, and a request that goes on with the
+//! What follows a request: replies to the transmitter, and the request forwarded with the
 //! destinations that are kept. Steps 1 and 2 leave the same two rows in every case.
 
 use hwmp_tests::worked::{ALL_ONES, Address, FREE, OWN, Row, STEPS};
@@ -11,15 +11,15 @@ use crate::cases::{
 const UNICAST: u8 = 2;
 const REPLY_WANTED: u8 = 4;
 
-/// A destination with DO set asks nobody but the destination; with RF set it goes on after a
+/// With DO set, only the destination itself replies. With RF set, the destination is kept after a
 /// reply. The other bits are reserved.
 const DO: u8 = 1;
 const RF: u8 = 2;
 
 type Asked = (u8, Address, u32);
 
-/// The reply for a path to `end` at this point, back to the transmitter with what the request
-/// brought: its lifetime, originator and originator's number.
+/// Returns the reply for a path to `end` at this point. It goes back to the transmitter with the
+/// lifetime, originator and originator's number of the request.
 fn reply(end: Address, number: u32, hop_count: u8, metric: u32) -> Vec<u8> {
     let path = Path {
         hop_count,
@@ -36,7 +36,7 @@ fn own_reply(number: u32) -> Vec<u8> {
     reply(OWN, number, 0, 0)
 }
 
-/// From a row of this file, as `active` makes them.
+/// Returns the reply from a row that `active` makes.
 fn row_reply(destination: Address) -> Vec<u8> {
     reply(destination, 9, 2, 40)
 }
@@ -45,7 +45,7 @@ fn onward(flags: u8, kept: &[Asked]) -> Vec<u8> {
     frame(ALL_ONES, rreq(flags, ONWARD, kept))
 }
 
-/// The request on a table with these rows, after which it has them still.
+/// Receives the request on a table with these rows, which must stay.
 fn answers(what: &str, rows: &[Row], flags: u8, asked: &[Asked], frames: &[Vec<u8>]) {
     let before = [&[FREE, FREE], rows].concat();
     let after = [&[LEARNT, NEIGHBOUR], rows].concat();
@@ -54,7 +54,7 @@ fn answers(what: &str, rows: &[Row], flags: u8, asked: &[Asked], frames: &[Vec<u
 
 /// Own number before, number asked for, own number after and in the reply.
 const OWN_NUMBERS: [(u32, u32, u32); 12] = [
-    // P7 of document 01.
+    // P7 of docs/PROTOCOL.md, 'Edges'.
     (12, 40, 41),
     (12, 5, 13),
     (12, 12, 13),
@@ -70,8 +70,8 @@ const OWN_NUMBERS: [(u32, u32, u32); 12] = [
     (1, 0x8000_0000, 0x8000_0001),
 ];
 
-/// Its own number is raised and stepped, the destination is struck out, and its flags play no
-/// part. Nothing goes on.
+/// The own number is raised and stepped, and the destination is struck out, whatever its flags.
+/// Nothing is forwarded.
 #[test]
 fn a_point_replies_for_itself() {
     for (own, asked, next) in OWN_NUMBERS {
@@ -85,8 +85,8 @@ fn a_point_replies_for_itself() {
     }
 }
 
-/// All ones is kept. If a reply is wanted the own number steps by one, whatever number stands
-/// beside all ones.
+/// All ones is kept. If a reply is wanted, the own number steps by one, whatever number stands next
+/// to all ones.
 #[test]
 fn every_point_replies_if_a_reply_is_wanted() {
     let (before, after) = ([FREE, FREE], [LEARNT, NEIGHBOUR]);
@@ -113,7 +113,7 @@ fn every_point_replies_if_a_reply_is_wanted() {
     }
 }
 
-/// For other destinations the bit is ignored, and goes on.
+/// For other destinations the bit is ignored, and forwarded.
 #[test]
 fn reply_wanted_is_for_all_ones_only() {
     let asked = [(0, A, 0)];
@@ -121,7 +121,7 @@ fn reply_wanted_is_for_all_ones_only() {
     answers("no row", &[], REPLY_WANTED, &asked, &frames);
 }
 
-/// Number asked for where the row has 9, and whether the row answers.
+/// The number asked for where the row has 9, and whether the row answers.
 const ASKED_OF_9: [(u32, bool); 8] = [
     (9, true),
     (8, true),
@@ -133,8 +133,8 @@ const ASKED_OF_9: [(u32, bool); 8] = [
     (0x8000_0008, false),
 ];
 
-/// An intermediate reply has the number, hop count and metric of the row. DO keeps the point
-/// from it; RF keeps the destination, and then with DO.
+/// An intermediate reply has the number, hop count and metric of the row. DO keeps the point from
+/// replying. RF keeps the destination, then with DO set.
 #[test]
 fn a_row_answers_if_it_is_not_older() {
     for (number, fresh) in ASKED_OF_9 {
@@ -172,7 +172,7 @@ fn only_an_active_row_of_known_number_answers() {
     }
 }
 
-/// The row's metric and hop count may be the largest; no receiver takes such a reply.
+/// The row may have the largest metric and hop count, although every receiver refuses such a reply.
 #[test]
 fn an_intermediate_reply_has_what_the_row_has() {
     let rows = [
@@ -192,7 +192,7 @@ fn an_intermediate_reply_has_what_the_row_has() {
     }
 }
 
-/// Replies and kept destinations stay in order; the request comes last, with fewer entries.
+/// Replies and kept destinations stay in order. The request comes last, with fewer entries.
 #[test]
 fn destinations_are_taken_in_order() {
     let rows = [active(C), active(A), expired(active(VIA)), active(B)];
@@ -223,8 +223,8 @@ fn destinations_are_taken_in_order() {
     accepts_numbered("six", 5, &before, &element, 6, &after, &frames);
 }
 
-/// Twenty replies and a request with twenty destinations are the most that receive emits:
-/// 20 times 40 octets and 254.
+/// Twenty replies and a request with twenty destinations are the most that receive emits: 20 times
+/// 40 octets and 254.
 #[test]
 fn twenty_destinations_are_answered_and_go_on() {
     let destination = |place: u8| [0x20, 0, 0, 0, 0, place];
@@ -249,8 +249,8 @@ fn twenty_destinations_are_answered_and_go_on() {
     answers("twenty", &rows, 0, &asked, &frames);
 }
 
-/// The rows are those after steps 1 and 2: a destination that is the transmitter is answered
-/// from the row that was just renewed, at one hop and the metric of the link.
+/// The rows are those after steps 1 and 2. A destination that is the transmitter is answered from
+/// the row that was just renewed, with one hop and the metric of the link.
 #[test]
 fn rows_are_those_after_the_path_is_learnt() {
     let before = Row {
@@ -276,10 +276,10 @@ fn rows_are_those_after_the_path_is_learnt() {
             &frames,
         );
     }
-    // Without a number it is no answer.
+    // A row of unknown number does not answer.
     let asked = [(0, T, 0)];
     answers("a new transmitter", &[], 0, &asked, &[onward(0, &asked)]);
-    // A row by way of the transmitter answers too.
+    // A row through the transmitter answers too.
     let row = Row {
         next_hop: T,
         ..active(A)
@@ -287,7 +287,7 @@ fn rows_are_those_after_the_path_is_learnt() {
     answers("back", &[row], 0, &[(0, A, 9)], &[row_reply(A)]);
 }
 
-/// TTL, and what it is when the request goes on.
+/// The TTL received, and the TTL of the forwarded request, if any.
 const TTLS: [(u8, Option<u8>); 6] = [
     (0, None),
     (1, None),
@@ -297,7 +297,7 @@ const TTLS: [(u8, Option<u8>); 6] = [
     (255, Some(254)),
 ];
 
-/// Without a hop left replies go out all the same.
+/// With TTL 0 or 1 the point still replies.
 #[test]
 fn a_request_goes_on_while_hops_are_left() {
     let asked = [(0, A, 9), (0, B, 9)];
@@ -313,8 +313,8 @@ fn a_request_goes_on_while_hops_are_left() {
     }
 }
 
-/// A unicast goes to the next hop of an active row for its destination, known number or not,
-/// and nowhere without one.
+/// A unicast request goes to the next hop of an active row for its destination, of known or unknown
+/// number. Without an active row it is not forwarded.
 #[test]
 fn a_unicast_request_follows_the_row() {
     let asked = [(DO, A, 100)];
@@ -353,7 +353,7 @@ fn a_unicast_request_is_answered_like_others() {
     answers("the transmitter", &[], UNICAST, &asked, &frames);
 }
 
-/// A request of the end's own neighbour: only one row is learnt, and replies go there.
+/// If the originator is the transmitter, only one row is learnt, and replies go to the originator.
 #[test]
 fn the_originator_may_transmit() {
     let path = Path { end: T, ..PATH };

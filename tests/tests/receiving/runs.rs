@@ -9,10 +9,10 @@ use hwmp_tests::mesh::{ACCEPTED_BY_ID, LOOPS, WALKS};
 
 use crate::mesh::RandomMesh;
 
-/// How many elements are delivered in all.
+/// How many elements are delivered in total.
 const DELIVERIES: u64 = 6_000_000;
 
-/// What the calls of a mesh can answer, and how often each must have occurred.
+/// What the calls of a mesh can answer, and how often each answer must have occurred.
 const LEAST_ANSWERED: u64 = 300;
 const ANSWERS: [Listed; 6] = [
     ("fresh", &[ACCEPTED]),
@@ -45,7 +45,7 @@ const ANSWERS: [Listed; 6] = [
     ),
 ];
 
-/// Loops that are met outside the premise show that a walk can fail.
+/// Loops must occur outside the premise. They show that the check can fail.
 const LEAST_SEEN: u64 = 100;
 const SEEN: [Listed; 3] = [
     (ACCEPTED_BY_ID, &[126, 130, 131, 132]),

@@ -1,4 +1,4 @@
-//! Points that are made to call and to hear each other, step by step.
+//! Points that call and hear each other, step by step.
 
 use hwmp_tests::answers::ACCEPTED;
 use hwmp_tests::comparing::frames;
@@ -8,7 +8,7 @@ use hwmp_tests::worked::{Address, LEAST_OUTPUT, address};
 
 const LIFETIME: u32 = 1000;
 
-/// A frame as it stands in the output, and who has sent it.
+/// A frame as it stands in the output, and the point that sent it.
 pub struct Sent {
     from: usize,
     pub octets: Vec<u8>,
@@ -22,7 +22,7 @@ pub struct Script<'a> {
 }
 
 impl Script<'_> {
-    /// Points with fresh tables of 16 rows and these own numbers.
+    /// Makes points with fresh tables of 16 rows and these own numbers.
     pub fn fresh<'a>(by: &'a Implementation, numbers: &[u32]) -> Script<'a> {
         let table = |(point, number): (usize, &u32)| {
             let mut table = vec![0; 32 + 32 * 16];
@@ -61,7 +61,7 @@ impl Script<'_> {
         assert_eq!(answer, ACCEPTED);
     }
 
-    /// With a reply wanted.
+    /// Sends a root request with reply wanted.
     pub fn root_request(&mut self, point: usize) {
         let answer = self.call(point, |by, table, output| {
             (by.root_request)(table, output, 4, LIFETIME)
@@ -84,7 +84,8 @@ impl Script<'_> {
         assert_eq!(answer, ACCEPTED);
     }
 
-    /// The answer to a frame, by its number, that a point hears over a link of that metric.
+    /// Delivers a frame, by its number, to a point over a link of that metric, and returns the
+    /// answer.
     pub fn deliver(&mut self, frame: usize, to: usize, link: u32) -> u32 {
         self.deliver_at(0, frame, to, link)
     }

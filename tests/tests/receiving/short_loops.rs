@@ -1,5 +1,5 @@
-//! Lists of calls that would leave two points leading to each other if one rule were another.
-//! Each ends with the delivery that a point must refuse. The destination is point 3.
+//! Lists of calls that would let two points lead to each other if one rule were different. Each
+//! list has the delivery that a point must refuse. The destination is point 3.
 
 use hwmp_tests::answers::{ACCEPTED, NO_NEXT_HOP, STALE};
 use hwmp_tests::worked::{BOTH, address};
@@ -12,7 +12,7 @@ const C: usize = 2;
 const D: usize = 3;
 const E: usize = 4;
 
-/// Runs a list of calls by both, from own number 7 on.
+/// Runs a list of calls by both implementations, from own number 7 on.
 fn by_both(run: impl Fn(&mut Script)) {
     for by in BOTH {
         run(&mut Script::fresh(by, &[7; 5]));
@@ -44,7 +44,7 @@ fn a_broken_row_is_remembered() {
     });
 }
 
-/// The rule: a row that an error hits is kept, with the error's number.
+/// The rule: a row that an error matches is kept, with the error's number.
 #[test]
 fn a_row_hit_by_an_error_is_remembered() {
     by_both(|points| {
@@ -59,13 +59,13 @@ fn a_row_hit_by_an_error_is_remembered() {
     });
 }
 
-/// The rule: a reply too must be better if its number is equal.
+/// The rule: a reply of equal number must be better, like other elements.
 #[test]
 fn a_reply_is_not_taken_back() {
     by_both(|points| {
         points.root_request(E);
         assert_eq!(points.deliver(0, A, 1), ACCEPTED);
-        // A's reply is frame 1 and its onward request 2; of B 3 and 4; of D 5 and 6.
+        // A's reply is frame 1 and its forwarded request frame 2. B's are 3 and 4, D's 5 and 6.
         assert_eq!(points.deliver(2, B, 1), ACCEPTED);
         assert_eq!(points.deliver(4, D, 1), ACCEPTED);
         assert_eq!(points.deliver(5, A, 1), ACCEPTED);
@@ -84,7 +84,7 @@ fn a_number_that_went_round_is_newer() {
         points.root_request(D);
         assert_eq!(points.deliver(0, A, 2), ACCEPTED);
         points.report_break(A, D);
-        // A's reply is frame 1, its onward request 2, its error 3; of B 4 and 5.
+        // A's reply is frame 1, its forwarded request 2 and its error 3. B's are 4 and 5.
         assert_eq!(points.deliver(2, B, 2), ACCEPTED);
         assert_eq!(points.deliver(5, A, 2), STALE);
         assert_eq!(points.next_hop(A, D).0, NO_NEXT_HOP);

@@ -1,12 +1,12 @@
-//! The case of document 01's 'Walk and bench', call by call: point 0 asks for point 2 and learns
-//! the way by point 1.
+//! The worked case of docs/PROTOCOL.md, 'Bench', call by call: point 0 asks for point 2 and learns
+//! the path through point 1.
 
 use hwmp_tests::answers::{ACCEPTED, STALE};
 use hwmp_tests::worked::{ALL_ONES, Address, BOTH, address};
 
 use crate::script::Script;
 
-/// The request as point 0 sends it and as point 1 passes it on.
+/// Returns the request, as point 0 sends it or as point 1 forwards it.
 fn request(hop_count: u8, ttl: u8, metric: u8) -> Vec<u8> {
     [
         &ALL_ONES[..],
@@ -18,7 +18,7 @@ fn request(hop_count: u8, ttl: u8, metric: u8) -> Vec<u8> {
     .concat()
 }
 
-/// The reply as point 2 sends it and as point 1 passes it on.
+/// Returns the reply, as point 2 sends it or as point 1 forwards it.
 fn reply(to: Address, hop_count: u8, ttl: u8, metric: u8) -> Vec<u8> {
     [
         &to[..],
@@ -50,7 +50,7 @@ fn a_request_and_its_reply_teach_both_ways() {
         ];
         assert_eq!(sent, expected.iter().collect::<Vec<_>>(), "{}", by.name);
 
-        // Two hops from each end to the other.
+        // There are two hops from each end to the other.
         assert_eq!(points.next_hop(0, 2), (ACCEPTED, address(1)), "{}", by.name);
         assert_eq!(points.next_hop(1, 2), (ACCEPTED, address(2)), "{}", by.name);
         assert_eq!(points.next_hop(2, 0), (ACCEPTED, address(1)), "{}", by.name);

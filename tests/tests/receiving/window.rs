@@ -3,8 +3,8 @@ use hwmp_tests::mesh::Window;
 #[test]
 fn a_window_is_half_the_circle_at_most() {
     const HALF: u32 = 1 << 31;
-    // Numbers in the order in which they come, and whether all but the last and then all of
-    // them meet the premise.
+    // Numbers in the order in which they come; whether all but the last meet the premise; whether
+    // all meet it.
     let cases: [(&[u32], bool, bool); 8] = [
         (&[7], true, true),
         (&[0, HALF - 1], true, true),

@@ -1,4 +1,4 @@
-//! The library against the separately written implementation: random walks.
+//! Compares the library with the separately written implementation: random walks.
 
 use hwmp_tests::answers::{
     ACCEPTED, BAD_ADDRESS, BAD_LIST, CLOCK_TOO_LARGE, NO_ROUTE, NOT_A_TABLE, OLD_CLOCK,
@@ -87,7 +87,7 @@ fn some_clock(mesh: &Mesh, random: &mut Random) -> u64 {
     }
 }
 
-/// Mostly a point.
+/// Returns mostly a point.
 fn some_start(mesh: &Mesh, random: &mut Random) -> [u8; 6] {
     let point = random.pick(&mesh.addresses);
     match random.below(24) {
@@ -98,7 +98,7 @@ fn some_start(mesh: &Mesh, random: &mut Random) -> [u8; 6] {
     }
 }
 
-/// Mostly one that there are rows for.
+/// Returns mostly a destination for which there are rows.
 fn some_destination(mesh: &Mesh, random: &mut Random) -> [u8; 6] {
     let point = random.pick(&mesh.addresses);
     match random.below(24) {
@@ -111,7 +111,8 @@ fn some_destination(mesh: &Mesh, random: &mut Random) -> [u8; 6] {
     }
 }
 
-/// Octets that are no table, an address that two points have, or a table that is ahead.
+/// Makes a table into octets that are not a table, gives two points one address, or sets a table's
+/// clock ahead.
 fn spoil(tables: &mut [Vec<u8>], clock: u64, random: &mut Random) {
     let [one, other] = [(); 2].map(|_| random.below(tables.len()));
     match random.below(6) {
@@ -127,8 +128,8 @@ fn spoil(tables: &mut [Vec<u8>], clock: u64, random: &mut Random) {
     }
 }
 
-/// Some of these have the count in their low bits, or come out right only modulo 2^32 times a
-/// table's octets.
+/// Returns a wrong count. Some have the right count in their low bits, or give the right number of
+/// octets only modulo 2^32.
 fn some_other_count(count: u32, random: &mut Random) -> u32 {
     let any = random.number() as u32;
     random.pick(&[
@@ -144,7 +145,8 @@ fn some_other_count(count: u32, random: &mut Random) -> u32 {
     ])
 }
 
-/// Cut short or lengthened. Whole tables more or less suit another count, which may follow.
+/// Cuts the tables short or lengthens them. By whole tables they suit another count, which may
+/// follow.
 fn resize(walk: &mut Walk, mesh: &Mesh, random: &mut Random) {
     let (here, one) = (walk.tables.len(), mesh.tables[0].len());
     let lengths = [

@@ -1,4 +1,4 @@
-//! Walks worked out by hand, a sentence of document 01 after the other.
+//! Walks worked out by hand, one rule of docs/PROTOCOL.md, 'Walk', after the other.
 
 use hwmp_tests::answers::{ACCEPTED, NO_ROUTE, TOO_LONG};
 use hwmp_tests::fence::{Fence, Side};
@@ -8,7 +8,7 @@ use hwmp_tests::worked::{Address, BOTH, FREE, Row, STRANGER, address, table};
 pub const CLOCK: u64 = 1000;
 const EXPIRY: u64 = 6000;
 
-/// A row that is active until EXPIRY.
+/// Returns a row that is active until EXPIRY.
 pub fn row(destination: Address, next_hop: Address) -> Row {
     Row {
         status: 1,
@@ -22,25 +22,25 @@ pub fn row(destination: Address, next_hop: Address) -> Row {
     }
 }
 
-/// A point with these rows, which has heard nothing later than CLOCK.
+/// Returns the table of a point with these rows and latest clock CLOCK.
 pub fn point(place: usize, rows: &[Row]) -> Vec<u8> {
     let mut octets = table(5, 7, CLOCK, rows);
     octets[..6].copy_from_slice(&address(place));
     octets
 }
 
-/// A point without a row, in a table of one.
+/// Returns the table of a point without a held row.
 fn ignorant(place: usize) -> Vec<u8> {
     point(place, &[FREE])
 }
 
-/// A point whose one row leads to the destination through the next hop.
+/// Returns the table of a point whose one row leads to the destination through the next hop.
 fn leading(place: usize, destination: Address, next_hop: Address) -> Vec<u8> {
     point(place, &[row(destination, next_hop)])
 }
 
-/// Points of which each leads to the destination through the one after it; the last has the
-/// row that is given.
+/// Returns points of which each leads to the destination through the next one. The last point has
+/// the row `last`.
 fn line(count: usize, destination: Address, last: Row) -> Vec<Vec<u8>> {
     let next = |place| row(destination, address(place + 1));
     let rows = (0..count - 1).map(next).chain([last]);
@@ -48,7 +48,8 @@ fn line(count: usize, destination: Address, last: Row) -> Vec<Vec<u8>> {
     points.collect()
 }
 
-/// Both, on either side of a fence, must give that answer and those hops and change nothing.
+/// Both implementations, on either side of a fence, must give this answer and these hops, and
+/// change nothing.
 pub fn gives(
     what: &str,
     tables: &[Vec<u8>],
@@ -78,7 +79,7 @@ fn gives_at(
     }
 }
 
-/// 'The walk's answer carries the hops walked, 0 from the destination itself.'
+/// From the destination itself there are 0 hops.
 #[test]
 fn from_the_destination_itself_there_are_no_hops() {
     let [own, other] = [address(0), address(1)];
@@ -87,7 +88,7 @@ fn from_the_destination_itself_there_are_no_hops() {
     gives("beside another", &both, [other, other], (ACCEPTED, 0));
 }
 
-/// 'Answer 0: destination met, among the points or not.'
+/// The walk reached the destination (0), which may be one of the points or not.
 #[test]
 fn a_destination_is_met_at_the_end_of_a_line() {
     for count in 1..=16 {
@@ -118,7 +119,7 @@ fn a_destination_is_met_at_the_end_of_a_line() {
     }
 }
 
-/// The tables stand side by side in any order.
+/// The tables may stand in any order.
 #[test]
 fn the_order_of_the_tables_plays_no_part() {
     let mut tables = line(5, STRANGER, row(STRANGER, STRANGER));
@@ -131,7 +132,7 @@ fn the_order_of_the_tables_plays_no_part() {
     }
 }
 
-/// '41: no active row.'
+/// The walk stops at a point without an active row (41).
 #[test]
 fn without_a_row_there_is_no_way() {
     let destination = address(3);
@@ -162,7 +163,7 @@ fn without_a_row_there_is_no_way() {
     }
 }
 
-/// Only the row for the destination counts, not one for the next hop or for another address.
+/// Only a row for the destination is followed, not one for the next hop or for another address.
 #[test]
 fn only_rows_for_the_destination_are_followed() {
     let tables = [
@@ -189,7 +190,8 @@ fn only_rows_for_the_destination_are_followed() {
     );
 }
 
-/// 'or a next hop that is neither a point nor the destination (not counted)'.
+/// The walk stops where the next hop is neither a point nor the destination (41). This last hop is
+/// not counted.
 #[test]
 fn a_hop_out_of_the_mesh_is_not_counted() {
     let elsewhere = [2, 0, 0, 0, 1, 2];
@@ -207,7 +209,7 @@ fn a_hop_out_of_the_mesh_is_not_counted() {
     }
 }
 
-/// A next hop that differs from a point in any one bit is no point.
+/// A next hop that differs from a point in one bit is no point.
 #[test]
 fn a_next_hop_much_like_a_point_is_none() {
     for octet in 0..6 {
@@ -226,7 +228,7 @@ fn a_next_hop_much_like_a_point_is_none() {
     }
 }
 
-/// '42: as many hops as points without either.'
+/// The walk took as many hops as there are points, and did not reach the destination (42).
 #[test]
 fn in_a_ring_there_are_as_many_hops_as_points() {
     for count in 2..=16 {
@@ -235,7 +237,7 @@ fn in_a_ring_there_are_as_many_hops_as_points() {
         for start in 0..count {
             gives("ring", &ring, [address(start), STRANGER], (TOO_LONG, hops));
         }
-        // The last two lead to each other, and the others to them.
+        // The last two lead to each other, and the others lead to them.
         let into_a_ring = line(count, STRANGER, row(STRANGER, address(count - 2)));
         let way = [address(0), STRANGER];
         gives("line into a ring", &into_a_ring, way, (TOO_LONG, hops));
@@ -253,7 +255,7 @@ fn in_a_ring_there_are_as_many_hops_as_points() {
     );
 }
 
-/// 'follows rows active then': status 1, and the clock below expiry.
+/// A row is followed if it is active at the clock: status 1, and the clock below its expiry.
 #[test]
 fn rows_count_while_they_are_active() {
     let way = [address(0), STRANGER];
@@ -274,7 +276,7 @@ fn rows_count_while_they_are_active() {
         let hops = outcome.1 - 1;
         gives("expiring first", &first, way, (outcome.0, hops));
     }
-    // The clock of the walk counts, not the latest clock of a table.
+    // The clock of the walk decides, not the latest clock of a table.
     for (clock, outcome) in [
         (CLOCK, (ACCEPTED, 2)),
         (EXPIRY - 1, (ACCEPTED, 2)),
@@ -298,7 +300,8 @@ fn rows_count_while_they_are_active() {
     );
 }
 
-/// Whether its number is known or not, and whatever its metric and hop count, a row is followed.
+/// An active row is followed whether its number is known or not, and whatever its metric and hop
+/// count.
 #[test]
 fn every_kind_of_active_row_is_followed() {
     let way = [address(0), address(1)];

@@ -1,5 +1,5 @@
 //! The walk: random calls on random tables side by side, and cases worked out by hand from
-//! document 01.
+//! docs/PROTOCOL.md.
 
 mod agreement;
 mod cases;

@@ -8,16 +8,17 @@ use hwmp_tests::reference::table::{
 use hwmp_tests::reference::walk::MOST_POINTS;
 use hwmp_tests::tables;
 
-/// The destinations that walks are made to; a table of fewer rows has rows for some only.
+/// How many destinations have rows, for walks to them. A table of fewer rows has rows for some of
+/// them only.
 const DESTINATIONS: usize = 4;
 
 pub struct Mesh {
     pub tables: Vec<Vec<u8>>,
     pub addresses: Vec<[u8; 6]>,
     pub destinations: Vec<[u8; 6]>,
-    /// No table has heard a later one, unless it is damaged.
+    /// No table has a later latest clock, unless it is damaged.
     pub clock: u64,
-    /// How many of the rows are invalidated, or expire about now.
+    /// How many of 64 rows are invalidated or expire about now.
     lost_in_64: usize,
 }
 
@@ -46,8 +47,8 @@ impl Mesh {
         self.tables.len()
     }
 
-    /// Gives the points rows for one destination. Their places leave a remainder of their own for
-    /// every destination, so that no row is lost to another.
+    /// Gives the points rows for one destination. The places for each destination have a remainder
+    /// of their own, so that no row overwrites another.
     fn lead_to_some_destination(&mut self, remainder: usize, random: &mut Random) {
         let destination = self.some_new_destination(random);
         let next_hops = self.some_next_hops(destination, random);
@@ -70,7 +71,7 @@ impl Mesh {
         self.destinations.push(destination);
     }
 
-    /// A point, an address much like a point's, or any, none twice.
+    /// Returns a point, an address much like a point's, or any, but no destination twice.
     fn some_new_destination(&self, random: &mut Random) -> [u8; 6] {
         loop {
             let point = random.pick(&self.addresses);
@@ -84,8 +85,8 @@ impl Mesh {
         }
     }
 
-    /// For each point the next hop on its way to the destination: all points in one line or
-    /// ring, or leading anywhere; now and then out of the mesh. None is the point itself.
+    /// Returns for each point its next hop towards the destination. All points stand in one line or
+    /// ring, or lead anywhere; sometimes a hop leaves the mesh. No next hop is the point itself.
     fn some_next_hops(&self, destination: [u8; 6], random: &mut Random) -> Vec<[u8; 6]> {
         let order = some_order(self.count(), random);
         let shape = random.below(4);
@@ -93,10 +94,10 @@ impl Mesh {
         let mut next_hops = vec![destination; self.count()];
         for (place, &point) in order.iter().enumerate() {
             let next = match shape {
-                // The destination if it is a point is met on the way.
+                // If the destination is a point, it is met on the way.
                 0 => order.get(place + 1).copied(),
                 1 => Some(order[(place + 1) % order.len()]),
-                // Back to some earlier one at the end of the line.
+                // At the end of the line, back to some earlier point.
                 2 if place + 1 == order.len() => Some(order[random.below(order.len())]),
                 2 => Some(order[place + 1]),
                 _ => Some(random.below(self.count())),
@@ -111,7 +112,7 @@ impl Mesh {
         next_hops
     }
 
-    /// No point, though it may look much like one.
+    /// Returns an address that is no point's, though it may look much like one.
     fn some_stranger(&self, random: &mut Random) -> [u8; 6] {
         loop {
             let near = tables::one_bit_off(random.pick(&self.addresses), random);
@@ -124,7 +125,7 @@ impl Mesh {
     }
 }
 
-/// Mostly few, since a comparison on many rows takes long.
+/// Returns mostly few rows, because a comparison on many rows takes long.
 fn some_rows(random: &mut Random) -> usize {
     let any = 1 + random.below(MAX_ROWS);
     let few = 1 + random.below(12);
@@ -136,7 +137,7 @@ fn some_clock(random: &mut Random) -> u64 {
     random.pick(&[0, 1, any, any, any >> 20, CLOCK_MAX - 1, CLOCK_MAX])
 }
 
-/// Numbers of the points in any order.
+/// Returns the numbers of the points in any order.
 fn some_order(count: usize, random: &mut Random) -> Vec<usize> {
     let mut order: Vec<usize> = (0..count).collect();
     for place in (1..count).rev() {
@@ -145,8 +146,8 @@ fn some_order(count: usize, random: &mut Random) -> Vec<usize> {
     order
 }
 
-/// A legal table of a point that has heard nothing later than the clock. Its rows are for
-/// addresses that nobody else has.
+/// Returns a legal table of a point whose latest clock is at most `clock`. Its rows are for
+/// addresses that no other point has.
 fn some_table(own: [u8; 6], rows: usize, clock: u64, random: &mut Random) -> Vec<u8> {
     let mut table = tables::legal(rows, random);
     let latest = random.pick(&[clock, clock, clock - clock / 3, 0]);
@@ -155,13 +156,13 @@ fn some_table(own: [u8; 6], rows: usize, clock: u64, random: &mut Random) -> Vec
     table
 }
 
-/// A row that is active at the clock.
+/// Returns a row that is active at the clock.
 fn lasting(destination: [u8; 6], next_hop: [u8; 6], clock: u64, random: &mut Random) -> Row {
     let row = tables::held_row(Address(destination), Address(next_hop), random);
     let leads_there = row.next_hop.0 == next_hop;
     Row {
         status: VALID,
-        // One of unknown number leads straight to its destination.
+        // A row of unknown number leads straight to its destination.
         number_known: if leads_there { row.number_known } else { 1 },
         next_hop: Address(next_hop),
         expiry: random.pick(&[clock + 1, clock + 1000, EXPIRY_MAX]),
@@ -169,7 +170,7 @@ fn lasting(destination: [u8; 6], next_hop: [u8; 6], clock: u64, random: &mut Ran
     }
 }
 
-/// The row invalidated, or with its last moment about now.
+/// Returns the row invalidated, or with an expiry about now.
 fn lost(row: Row, clock: u64, random: &mut Random) -> Row {
     if random.one_in(3) {
         return row.invalidated();

@@ -9,7 +9,7 @@ use hwmp_tests::worked::{Address, BOTH, FREE, GROUP, LAST_CLOCK, STRANGER, ZERO,
 
 use crate::cases::{CLOCK, gives, point, row};
 
-/// Three points; the first leads to the last through the second.
+/// Returns three points. The first leads to the last through the second.
 fn three_points() -> Vec<Vec<u8>> {
     let destination = address(2);
     vec![
@@ -31,8 +31,9 @@ fn the_points_are_in_order() {
     gives("sound", &three_points(), WAY, (ACCEPTED, 2));
 }
 
-/// 'Takes 1 to 16 tables of one length side by side with their count (else 1)'. Zeros are no
-/// tables and their addresses no start, so what has the right length is refused with 10.
+/// A walk takes 1 to 16 tables of one length, as many as the count says; otherwise it answers 1.
+/// Zeros are not tables, and WAY starts at no address among them, so what has the right length is
+/// refused with 10.
 #[test]
 fn only_whole_tables_as_many_as_the_count_have_a_length() {
     let octets = vec![0; 17 * (32 + 32 * 128) + 64];
@@ -56,7 +57,7 @@ fn only_whole_tables_as_many_as_the_count_have_a_length() {
     println!("counts 0 to 17: {fits} lengths fit");
 }
 
-/// A count is judged whole, and as many octets as it says are not computed with too few bits.
+/// The whole count is judged, and the octets that it requires are not computed with too few bits.
 #[test]
 fn a_count_beyond_16_is_refused() {
     for (rows, count) in [(1, 1), (3, 1), (3, 2), (1, 16), (128, 16)] {
@@ -70,8 +71,8 @@ fn a_count_beyond_16_is_refused() {
         let wrong = wrong.into_iter().map(|wrong| wrong as u32);
         let same_in_low_bits = (5..32).map(|bit| count as u32 | 1 << bit);
         for wrong in wrong.chain(same_in_low_bits).chain([u32::MAX]) {
-            // Another count can suit as many octets, with fewer and longer tables or more and
-            // shorter ones, whose addresses then are read at other places.
+            // Another count can also fit the octets, with fewer and longer tables or more and
+            // shorter ones. Their addresses would then be read at other places.
             let length = octets.len() / 32;
             let suits = (1..=16).contains(&wrong)
                 && length.is_multiple_of(wrong as usize)
@@ -91,7 +92,7 @@ fn a_count_beyond_16_is_refused() {
     }
 }
 
-/// 10: a start that isn't among the points, whatever the destination.
+/// 10: the start is not among the points, whatever the destination.
 #[test]
 fn a_start_must_be_a_point() {
     let tables = three_points();
@@ -116,7 +117,7 @@ fn a_start_must_be_a_point() {
     }
 }
 
-/// 10: an address held by two points, on the way or not.
+/// 10: two points have one address, on the way or not.
 #[test]
 fn two_points_may_not_have_one_address() {
     for count in 2..=16 {
@@ -135,7 +136,7 @@ fn two_points_may_not_have_one_address() {
     refuses("all twice", &twice, WAY, BAD_LIST);
 }
 
-/// 10 is judged on the first six octets of each table, before 21.
+/// 10 is judged by the first six octets of each table, before 21.
 #[test]
 fn addresses_are_judged_before_tables() {
     let nothing = vec![0; 96];
@@ -152,7 +153,7 @@ fn addresses_are_judged_before_tables() {
     refuses("from another group", &group, [[0xFF; 6], WAY[1]], BAD_LIST);
 }
 
-/// 9: the destination of a walk is an individual address.
+/// 9: the destination of a walk must be an individual address.
 #[test]
 fn a_destination_must_be_individual() {
     for destination in [GROUP, ZERO, [0xFF; 6], [1, 0, 0, 0, 0, 0]] {
@@ -173,8 +174,8 @@ fn a_destination_must_be_individual() {
     );
 }
 
-/// 21 and 22 are judged of every table, met on the way or not, and of start and destination
-/// too if they are one.
+/// 21 and 22 are judged for every table, met on the way or not, even if start and destination are
+/// one point.
 #[test]
 fn every_table_is_judged() {
     for count in 1..=16 {
@@ -190,7 +191,7 @@ fn every_table_is_judged() {
             let mut behind = tables.clone();
             behind[spoilt][16..24].copy_from_slice(&(CLOCK - 1).to_le_bytes());
             gives("behind", &behind, way, (ACCEPTED, 0));
-            // 21 of a later table comes before 22 of an earlier one.
+            // 21 for a later table comes before 22 for an earlier one.
             for other in 0..count {
                 let mut both = ahead.clone();
                 both[other][31] = 1;
@@ -200,8 +201,8 @@ fn every_table_is_judged() {
     }
 }
 
-/// Every set of the faults gives the lowest of them. Fault 10 is a start that is no point or two
-/// points of one address.
+/// Every set of faults gives the lowest of them. Fault 10 is a start that is no point, or two
+/// points with one address.
 #[test]
 fn the_lowest_fault_is_given() {
     let faults = [
@@ -252,7 +253,7 @@ fn the_lowest_fault_is_given() {
     }
 }
 
-/// 3: the clock is judged whole.
+/// 3: the whole clock is judged.
 #[test]
 fn a_clock_above_the_last_is_refused() {
     let octets = three_points().concat();

@@ -1,7 +1,7 @@
 use super::Fault;
 use crate::reference::{Address, Metric, SequenceNumber};
 
-/// A point or a frame by its number, counted from 0 as they are added or emitted.
+/// The number of a point or frame, counted from 0 in the order in which they are added or emitted.
 pub type Index = usize;
 
 /// A command with its operands.
@@ -43,7 +43,7 @@ pub enum Command {
 }
 
 impl Command {
-    /// The command's octet, which its line begins with.
+    /// Returns the command's octet, with which its line begins.
     pub fn octet(&self) -> u8 {
         match self {
             Command::Point { .. } => 1,
@@ -57,8 +57,8 @@ impl Command {
         }
     }
 
-    /// The next command with all its operands, which are taken from the input. Whether the points
-    /// and frames that it names are there is for the bench to say.
+    /// Takes the next command with all its operands from the input. The bench judges whether the
+    /// points and frames that it names are there.
     pub fn read(input: &mut &[u8]) -> Result<Command, Fault> {
         let mut operands = Operands { rest: input };
         let command = match operands.u8()? {
@@ -102,7 +102,7 @@ impl Command {
     }
 }
 
-/// What is left of the input, taken field by field.
+/// The rest of the input, taken field by field.
 struct Operands<'a> {
     rest: &'a [u8],
 }

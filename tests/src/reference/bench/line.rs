@@ -1,24 +1,24 @@
 use std::fmt::{self, Display};
 
-/// What the bench prints: a line for each command, or the one that ends the run.
+/// What the bench prints: a line for each command, or the line that ends the run.
 #[derive(Clone, Copy, Debug, PartialEq, Eq)]
 pub enum Line {
     Done(Done),
     Ended { offset: usize, fault: Fault },
 }
 
-/// What came of a command.
+/// The result of a command.
 #[derive(Clone, Copy, Debug, PartialEq, Eq)]
 pub struct Done {
     /// The command's octet.
     pub command: u8,
     /// The answer or refusal of its call.
     pub answer: u32,
-    /// The frames emitted; for a walk the hops.
+    /// The frames emitted, or the hops of a walk.
     pub third: usize,
 }
 
-/// Why a run ends. Its line does not show which it was.
+/// Why a run ends. The line printed does not show which fault it was.
 #[derive(Clone, Copy, Debug, PartialEq, Eq)]
 pub enum Fault {
     UnknownCommand,

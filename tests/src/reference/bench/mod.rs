@@ -1,5 +1,5 @@
-//! The bench program of document 01's 'Walk and bench', as a function from all that it reads to
-//! all that it prints.
+//! The bench program of docs/PROTOCOL.md, 'Bench', as a function from everything it reads to
+//! everything it prints.
 
 mod command;
 mod line;
@@ -19,12 +19,12 @@ const ROWS: usize = 16;
 const TABLE_OCTETS: usize = HEAD_OCTETS + ROWS * ROW_OCTETS;
 pub const MOST_FRAMES: usize = 128;
 
-/// The whole output.
+/// Returns the whole output.
 pub fn output(input: &[u8]) -> String {
     run(input).iter().map(Line::to_string).collect()
 }
 
-/// The lines of the whole output.
+/// Returns the lines of the whole output.
 pub fn run(input: &[u8]) -> Vec<Line> {
     let mut bench = Bench::default();
     let mut lines = Vec::new();
@@ -43,14 +43,14 @@ pub fn run(input: &[u8]) -> Vec<Line> {
     lines
 }
 
-/// An element that a point has sent; the receiver address of its frame plays no part.
+/// An element that a point sent. The receiver address of its frame does not matter.
 #[derive(Clone)]
 struct Sent {
     sender: Index,
     element: Vec<u8>,
 }
 
-/// The points, what they have sent, and the links between them.
+/// The points, the frames they sent, and the links between them.
 #[derive(Default)]
 pub struct Bench {
     clock: u64,
@@ -80,12 +80,12 @@ impl Bench {
         self.sent.len()
     }
 
-    /// The point that has sent a frame.
+    /// Returns the point that sent a frame.
     pub fn sender(&self, frame: Index) -> Index {
         self.sent[frame].sender
     }
 
-    /// After a fault the bench is not to be used any more.
+    /// Obeys one command. After a fault the bench must not be used any more.
     pub fn obey(&mut self, command: Command) -> Result<Done, Fault> {
         let answered = match command {
             Command::Point { address, number } => self.add_point(address, number),
@@ -187,7 +187,7 @@ impl Bench {
         Ok(Head::decode(head).own)
     }
 
-    /// A point's call that may emit; what it emits is kept.
+    /// Makes a call of a point that may emit, and keeps what it emits.
     fn call(
         &mut self,
         point: Index,

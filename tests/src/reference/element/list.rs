@@ -41,7 +41,7 @@ impl Destination {
     }
 }
 
-/// An entry of a RREP or RERR.
+/// An entry of a RREP or a RERR.
 #[derive(Clone, Copy, Debug, PartialEq, Eq)]
 pub struct NumberedAddress {
     pub address: Address,
@@ -91,7 +91,7 @@ impl<const OCTETS: usize, const MOST: usize> Entries<OCTETS, MOST> {
     }
 }
 
-/// The list part cut into N entries; None if it has not just their octets.
+/// Cuts the list part into `count` entries. Returns None if it does not have exactly their octets.
 pub(super) fn cut<const OCTETS: usize>(list: &[u8], count: u8) -> Option<&[[u8; OCTETS]]> {
     let (entries, remainder) = list.as_chunks();
     let fits = remainder.is_empty() && entries.len() == usize::from(count);
@@ -105,7 +105,7 @@ pub(super) fn lay_numbers(places: &mut [u64], entries: impl Iterator<Item = Numb
     }
 }
 
-/// Writes a list as the octets it has, or each entry by itself, decoded and encoded again.
+/// Writes a list as the octets it has, or entry by entry, each decoded and encoded again.
 pub(super) fn write<const OCTETS: usize>(
     list: &mut [u8],
     entries: &[[u8; OCTETS]],
@@ -123,7 +123,7 @@ pub(super) fn write<const OCTETS: usize>(
     }
 }
 
-/// A list in which only individual addresses are allowed.
+/// Returns the faults of a list in which only individual addresses are allowed.
 pub(super) fn faults_of_individuals(
     entries: impl ExactSizeIterator<Item = NumberedAddress> + Clone,
     given: Address,
@@ -148,7 +148,7 @@ pub(super) fn faults(
         + u32::from(given_among_them) * GIVEN_AMONG_THEM
 }
 
-/// Whether an address stands in two places.
+/// Reports whether an address stands in two places.
 pub(in crate::reference) fn has_twice(addresses: impl Iterator<Item = Address> + Clone) -> bool {
     let mut rest = addresses;
     while let Some(address) = rest.next() {

@@ -1,5 +1,5 @@
-//! 'Element octets' of document 01: an element is read from octets and borrows their list
-//! part, tells its numbers, and is written as a frame.
+//! The elements of docs/PROTOCOL.md, 'Elements'. An element is read from octets and borrows their
+//! list part, returns its numbers, and is written as a frame.
 
 pub(super) mod list;
 mod rann;
@@ -32,7 +32,7 @@ pub enum Element<'a> {
     Rerr(Rerr<'a>),
 }
 
-/// How the destinations of a RREQ or RERR are written. The octets are the same.
+/// How the destinations of a RREQ or a RERR are written. Both ways give the same octets.
 #[derive(Clone, Copy, Debug, PartialEq, Eq)]
 pub enum Destinations {
     AsOnePart,
@@ -55,7 +55,7 @@ impl<'a> Element<'a> {
         element.ok_or(BAD_COUNT)
     }
 
-    /// What follows the Length octet, in octets.
+    /// Returns the number of octets that follow the Length octet.
     pub fn length(&self) -> usize {
         match self {
             Element::Rann(_) => Rann::LENGTH,
@@ -65,8 +65,8 @@ impl<'a> Element<'a> {
         }
     }
 
-    /// Every number of the element in the order of its octets, an address as one number.
-    /// Places beyond are left as they are.
+    /// Writes every number of the element in the order of its octets, with an address as one
+    /// number. Places beyond are left as they are.
     pub fn numbers(&self, numbers: &mut Numbers) {
         match self {
             Element::Rann(rann) => rann.numbers(numbers),
@@ -76,9 +76,9 @@ impl<'a> Element<'a> {
         }
     }
 
-    /// Writes receiver and element into the output, from place `at` on, and tells how many
-    /// octets these are. Refused as an output too short if they do not fit there; a call
-    /// judges its output once, and before this.
+    /// Writes receiver and element into the output, from place `at` on, and returns how many octets
+    /// they have. Refuses with 2 if they do not fit there. A call judges its output once, before
+    /// this function.
     pub fn write(
         &self,
         to: Address,
@@ -102,7 +102,7 @@ impl<'a> Element<'a> {
         Ok(octets)
     }
 
-    /// What is wrong with the addresses of the list, as a sum of the numbers in `list`.
+    /// Returns the faults of the addresses in the list, as a sum of the numbers in `list`.
     pub fn faults(&self, given: Address) -> u32 {
         match self {
             Element::Rann(_) => 0,
@@ -113,7 +113,7 @@ impl<'a> Element<'a> {
     }
 }
 
-/// Lays the octets before the list and returns those of the list.
+/// Writes the octets before the list and returns those of the list.
 fn lay_fixed<const N: usize>(element: &mut [u8], fixed: [u8; N]) -> &mut [u8] {
     let (place, list) = element
         .split_first_chunk_mut()
@@ -122,7 +122,7 @@ fn lay_fixed<const N: usize>(element: &mut [u8], fixed: [u8; N]) -> &mut [u8] {
     list
 }
 
-/// Lays the numbers before the list and returns the places of the rest.
+/// Writes the numbers before the list and returns the places of the rest.
 fn lay_numbers<const N: usize>(numbers: &mut Numbers, fixed: [u64; N]) -> &mut [u64] {
     let (places, rest) = numbers
         .split_first_chunk_mut()

@@ -18,7 +18,7 @@ pub struct Rrep<'a> {
     pub(in crate::reference) dependents: &'a [[u8; NumberedAddress::OCTETS]],
 }
 
-/// The octets between Length and list, the count octet the last of them.
+/// The octets between Length and list. The count octet is the last of them.
 const FIXED: usize = 32;
 
 impl<'a> Rrep<'a> {
@@ -89,8 +89,8 @@ impl<'a> Rrep<'a> {
         lay_fixed(element, fixed).copy_from_slice(self.list());
     }
 
-    /// The dependents judged as the destinations of a RERR would be, for the comparison
-    /// alone: document 01 leaves them unread.
+    /// Judges the dependents as if they were the destinations of a RERR, only for the comparison. A
+    /// point forwards dependents unread.
     pub(super) fn faults(&self, given: Address) -> u32 {
         list::faults_of_individuals(self.dependents(), given)
     }

@@ -17,7 +17,7 @@ pub struct Rreq<'a> {
     pub(in crate::reference) destinations: &'a [[u8; Destination::OCTETS]],
 }
 
-/// The octets between Length and list, the count octet the last of them.
+/// The octets between Length and list. The count octet is the last of them.
 const FIXED: usize = 26;
 
 impl<'a> Rreq<'a> {
@@ -101,7 +101,7 @@ impl<'a> Rreq<'a> {
         });
     }
 
-    /// All ones is allowed here beside individual addresses.
+    /// A RREQ may name all ones as well as individual addresses.
     pub(super) fn faults(&self, given: Address) -> u32 {
         let allowed = |address: Address| address.is_individual() || address == Address::ALL_ONES;
         let addresses = self.destinations().map(|destination| destination.address);

@@ -7,7 +7,7 @@ use crate::reference::table::{Row, write_head, write_row};
 use crate::reference::{Address, Refusal, checks};
 
 impl Reception<'_> {
-    /// An error has no lifetime, hop count or metric to be judged, and makes no row.
+    /// A RERR has no lifetime, hop count or metric to judge, and makes no row.
     pub(super) fn error(&mut self, rerr: &Rerr) -> Result<(), Refusal> {
         let addresses = rerr.destinations().map(|entry| entry.address);
         let individual = addresses.clone().all(Address::is_individual);
@@ -32,8 +32,8 @@ impl Reception<'_> {
         Ok(())
     }
 
-    /// The row that an error from this transmitter tells about: a path by way of another
-    /// neighbour is not its concern.
+    /// Returns the match of a destination: its row, if that is active, of known number and through
+    /// the transmitter. A RERR does not concern a path through another neighbour.
     fn match_for(&self, destination: Address) -> Option<(usize, Row)> {
         self.table()
             .active_row_for(destination, self.clock)
@@ -41,7 +41,7 @@ impl Reception<'_> {
     }
 }
 
-/// An older or equal number invalidates the row all the same, and leaves its number.
+/// An older or equal number invalidates the row too, and leaves its number.
 fn after_error(row: Row, entry: &NumberedAddress) -> Row {
     if entry.number.is_newer_than(row.number) {
         row.invalidated().raised(entry.number)

@@ -1,4 +1,5 @@
-//! Steps 1 and 2 of document 01: the rows of the path's end and of the transmitter.
+//! Steps 1 and 2 of docs/PROTOCOL.md, 'Learning': the rows of the subject (`path.end`) and of the
+//! transmitter.
 
 use std::iter;
 
@@ -25,8 +26,8 @@ impl Reception<'_> {
         Ok(head)
     }
 
-    /// The row of the path's end, and the transmitter's unless it stays as it is. A new row of
-    /// the first takes the free place before that of the second.
+    /// Returns the subject's row, and the transmitter's row unless it stays as it is. A new row of
+    /// the subject takes its free place before a new row of the transmitter.
     fn rows_learnt(&self, path: &Path) -> Result<(Placed, Option<Placed>), Refusal> {
         let table = self.table();
         let held = table.row_for(path.end);
@@ -54,7 +55,7 @@ impl Reception<'_> {
         }
     }
 
-    /// Step 2; none if the path ends at the transmitter or its row is left alone.
+    /// Step 2. Returns none if the transmitter is the subject or its row is left alone.
     fn row_of_transmitter(
         &self,
         path: &Path,
@@ -71,7 +72,7 @@ impl Reception<'_> {
         Ok(row.map(|row| (place, row)))
     }
 
-    /// Whether the link is to replace what the transmitter's row says. At an equal metric an
+    /// Reports whether the link replaces what the transmitter's row says. At an equal metric an
     /// active row stays as it is, its expiry too.
     fn link_counts_for(&self, row: &Row) -> bool {
         if row.status == FREE {
@@ -83,7 +84,7 @@ impl Reception<'_> {
         }
     }
 
-    /// A row straight to it. A known number stays; a free row has none.
+    /// Returns a row straight to the transmitter. A known number stays; a free row has none.
     fn towards_transmitter(&self, row: &Row, lifetime: u32) -> Row {
         Row {
             status: VALID,
@@ -96,7 +97,7 @@ impl Reception<'_> {
         }
     }
 
-    /// No earlier than the expiry stored in a row that is still active.
+    /// Returns the new expiry, which is no earlier than the expiry of a row that is still active.
     fn expiry(&self, row: &Row, lifetime: u32) -> u64 {
         let expiry = self.clock + u64::from(lifetime);
         if row.is_active(self.clock) {
@@ -107,15 +108,15 @@ impl Reception<'_> {
     }
 }
 
-/// Refusal 25, for rows of any status: 11-06-1778 has no test of the metric for a RREP, but
-/// document 01 has one for all three types.
+/// Refusal 25, for rows of any status. 11-06-1778 has no test of the metric for a RREP;
+/// docs/PROTOCOL.md has it for all three types.
 fn is_stale(path: &Path, row: &Row) -> bool {
     let same = path.number == row.number;
     row.has_known_number()
         && (path.number.is_older_than(row.number) || same && path.metric >= row.metric)
 }
 
-/// The held row of an address, or the next free one.
+/// Returns the held row of an address, or the next free one.
 fn held_or_free(
     held: Option<Placed>,
     free: &mut impl Iterator<Item = usize>,

@@ -1,6 +1,6 @@
-//! Receiving an element: 'Receiving RREQ, RREP, RANN' of document 01, and what it says of a RERR
-//! in 'Errors and breaks'. Each type makes its own checks in document 01's order, lowest number
-//! first, and writes only after the last of them.
+//! Receiving an element: docs/PROTOCOL.md, 'Receiving', and 'Errors and breaks' for a RERR. Each
+//! type makes its own checks in the order of 'Refusals', lowest number first, and writes only after
+//! the last check.
 
 mod announcement;
 mod error;
@@ -55,19 +55,19 @@ pub fn receive(
 }
 
 impl Reception<'_> {
-    /// The table as it is by now.
+    /// Returns the table as it is now.
     fn table(&self) -> Table<'_> {
         Table::cut(self.octets).expect("its length was checked first")
     }
 
-    /// The next hop to a destination whose row is active by now.
+    /// Returns the next hop to a destination whose row is active now.
     fn next_hop(&self, destination: Address) -> Option<Address> {
         let row = self.table().active_row_for(destination, self.clock);
         row.map(|(_, row)| row.next_hop)
     }
 }
 
-/// The TTL of what goes on, if it may go on at all.
+/// Returns the TTL of the forwarded element, or None if it may not be forwarded.
 fn ttl_left(ttl: u8) -> Option<u8> {
     (ttl >= 2).then(|| ttl - 1)
 }

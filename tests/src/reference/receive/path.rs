@@ -1,8 +1,8 @@
 use crate::answers::{METRIC_TOO_LARGE, TOO_MANY_HOPS};
 use crate::reference::{Address, HopCount, Metric, Refusal, SequenceNumber, checks};
 
-/// What a RREQ or RANN tells of the path to its originator, or a RREP of that to its
-/// destination.
+/// The path that an element tells of: to the originator of a RANN or a RREQ, to the destination of
+/// a RREP.
 #[derive(Clone, Copy)]
 pub(super) struct Path {
     pub end: Address,
@@ -13,8 +13,8 @@ pub(super) struct Path {
 }
 
 impl Path {
-    /// The path as it is from this point, one link further away. This is what the row gets and
-    /// what goes on.
+    /// Returns the path as seen from this point, one link longer. The row and the forwarded element
+    /// get this path.
     pub fn over(self, link: Metric) -> Result<Path, Refusal> {
         checks::lifetime(self.lifetime)?;
         let hop_count = self.hop_count.next().ok_or(TOO_MANY_HOPS)?;

@@ -6,7 +6,7 @@ use crate::reference::element::{Element, Rrep};
 use crate::reference::refusal::ensure;
 
 impl Reception<'_> {
-    /// Dependents are passed on unread.
+    /// Dependents are forwarded unread.
     pub(super) fn reply(&mut self, rrep: &Rrep) -> Result<(), Refusal> {
         let individual = rrep.destination.is_individual() && rrep.source.is_individual();
         ensure(individual, BAD_ADDRESS)?;
@@ -14,7 +14,8 @@ impl Reception<'_> {
         let path = path(rrep).over(self.link)?;
         let ttl = ttl_left(rrep.ttl).ok_or(LOW_TTL)?;
         self.learn(&path)?;
-        // No row has the own address, so a reply does not go on from its source.
+        // No row has the own address, so this point does not forward a reply of which it is the
+        // source.
         if let Some(next_hop) = self.next_hop(rrep.source) {
             let onward = Rrep {
                 hop_count: path.hop_count,

@@ -8,7 +8,7 @@ use crate::reference::refusal::ensure;
 use crate::reference::table::{Head, Row, write_head};
 use crate::reference::{Address, HopCount, Metric, Refusal, SequenceNumber};
 
-/// The destinations with which a request goes on.
+/// The destinations with which a request is forwarded.
 type Kept = Entries<{ Destination::OCTETS }, { Rreq::MOST }>;
 
 impl Reception<'_> {
@@ -28,7 +28,8 @@ impl Reception<'_> {
         Ok(())
     }
 
-    /// Replies for a destination if this point can, and returns it as it is kept, if it is.
+    /// Replies for a destination if this point can, and returns the destination as it is kept, or
+    /// None if it is struck out.
     fn answer(
         &mut self,
         rreq: &Rreq,
@@ -87,8 +88,9 @@ impl Reception<'_> {
         self.frames.emit(self.transmitter, Element::Rrep(reply));
     }
 
-    /// The row from which this point replies for another one, unless only the destination
-    /// itself may. Rows are those after steps 1 and 2, so the transmitter's may be fresh.
+    /// Returns the row from which this point replies for another point, unless only the destination
+    /// itself may reply. Rows are those after steps 1 and 2, so the transmitter's row may just have
+    /// been made.
     fn row_that_answers(&self, destination: &Destination) -> Option<Row> {
         if destination.flags & Destination::DO != 0 {
             return None;
@@ -115,7 +117,7 @@ impl Reception<'_> {
         }
     }
 
-    /// Where a request with these destinations goes, if there are any.
+    /// Returns the receiver of a request with these destinations, or None if it is not forwarded.
     fn receiver(&self, rreq: &Rreq, kept: &[[u8; Destination::OCTETS]]) -> Option<Address> {
         let first = Destination::decode(kept.first()?);
         if is_unicast(rreq) {
@@ -149,8 +151,8 @@ fn has_fit_addresses(rreq: &Rreq) -> bool {
     rreq.originator.is_individual() && addresses(rreq).all(fits)
 }
 
-/// Refusal 10, of a request. All ones stands alone, and so does the destination of a unicast,
-/// which all ones cannot be.
+/// Refusal 10 for a request. All ones must stand alone. The destination of a unicast request must
+/// stand alone and must not be all ones.
 fn has_fit_list(rreq: &Rreq) -> bool {
     let alone = rreq.destinations.len() == 1;
     let all_ones = addresses(rreq).any(|address| address == Address::ALL_ONES);
@@ -161,8 +163,8 @@ fn has_fit_list(rreq: &Rreq) -> bool {
         && !has_twice(addresses(rreq))
 }
 
-/// A destination for which a point on the way has replied goes on only if it says so, and from
-/// then on asks the destination alone.
+/// A destination for which a point on the way replied is kept only if it has RF. It is then kept
+/// with DO, so that only the destination itself replies.
 fn after_reply(destination: Destination) -> Option<Destination> {
     let goes_on = destination.flags & Destination::RF != 0;
     goes_on.then_some(Destination {
