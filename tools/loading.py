@@ -8,7 +8,7 @@ from types import ModuleType
 
 
 def load_tool(name: str) -> ModuleType:
-    """The tool as a module; it has no '.py' in its name, so Python must be told what it is."""
+    """Returns the tool as a module. Its name has no '.py', so Python must be told its kind."""
     path = Path(__file__).resolve().parent / name
     loader = importlib.machinery.SourceFileLoader(name, str(path))
     module = importlib.util.module_from_spec(importlib.util.spec_from_loader(name, loader))

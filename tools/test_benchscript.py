@@ -1,12 +1,15 @@
 """Tests of benchscript and of the scripts in examples/bench.
 
 Run from anywhere: python3 tools/test_benchscript.py
-The bench program is target/bin/bench, or the one that HWMP_BENCH names. Without one the tests
-that need it fail. HWMP_SEED repeats the random octets of an earlier run, whose seed was printed.
+The bench program is target/bin/bench, or the one that HWMP_BENCH names. Without one, the tests
+that need it fail. HWMP_SEED repeats the random octets of an earlier run, which printed its seed.
+One test runs 'rt try', which needs rt, but nothing proved and no program built.
 """
 
+import io
 import os
 import random
+import re
 import subprocess
 import sys
 import tempfile
@@ -14,7 +17,7 @@ import unittest
 from pathlib import Path
 from unittest.mock import patch
 
-sys.dont_write_bytecode = True  # set first, so that nothing is written beside the tools
+sys.dont_write_bytecode = True  # set first, so that nothing is written next to the tools
 
 from loading import load_tool
 
@@ -35,21 +38,35 @@ def call(*arguments: object, given: bytes = b"") -> subprocess.CompletedProcess:
     return subprocess.run(command, input=given, capture_output=True, check=False)
 
 
+def read(script: str) -> "benchscript.Script":
+    return benchscript.read_script("my.bench", script)
+
+
+def no_bench(*_: object) -> bytes:
+    raise AssertionError("the bench was run")
+
+
 def octets_of(script: str) -> bytes:
-    return benchscript.script_to_octets("script", script)
+    """The octets of a script without labels."""
+    with patch.object(benchscript, "run_bench", no_bench):
+        return benchscript.octets_of(read(script), BENCH)
 
 
 def lines_of(octets: bytes) -> list[str]:
     return list(benchscript.octets_to_lines(octets))
 
 
+def answers_for(script: str, output: str) -> list[tuple[str, str]]:
+    """The commands of a script with what the tool says if the bench prints this."""
+    played = benchscript.play(read(script), lambda _: output.encode())
+    return list(benchscript.answers_in_words(read(script), played))
+
+
 def words_for(script: str, output: str) -> list[str]:
-    """What the tool says of a bench that printed this for a script."""
-    answers = benchscript.answers_in_words(octets_of(script), output.encode())
-    return [words for _, words in answers]
+    return [words for _, words in answers_for(script, output)]
 
 
-# Each command as document 01 lays it out, with numbers that show the order of their octets.
+# Each command as docs/PROTOCOL.md, 'Bench' lays it out. The numbers show the order of their octets.
 EACH_COMMAND = {
     "point 02:0a:00:00:00:fe 67305985": "01 020a000000fe 01020304",
     "advance 500": "02 f4010000",
@@ -66,7 +83,7 @@ TWO_ADDED = "1 0 0\n1 0 0\n"
 
 STALE = (
     "the element's number is older than the row's, "
-    "or equal and its metric with this link not smaller"
+    "or equal and its metric over this link is not smaller"
 )
 
 
@@ -166,10 +183,10 @@ BAD_LINES = {
     "octets": "wrong number of operands; expected 'octets XX ..'",
     "repeat 3": "wrong number of operands; expected 'repeat TIMES LINE'",
     "point 02:00:00:00:00 0": "'02:00:00:00:00' is no address; "
-    "one is written like 02:00:00:00:00:01",
-    "point 2:0:0:0:0:1 0": "'2:0:0:0:0:1' is no address; one is written like 02:00:00:00:00:01",
+    "write one like 02:00:00:00:00:01",
+    "point 2:0:0:0:0:1 0": "'2:0:0:0:0:1' is no address; write one like 02:00:00:00:00:01",
     "ask 0 0 02:00:00:00:00:0g 1": "'02:00:00:00:00:0g' is no address; "
-    "one is written like 02:00:00:00:00:01",
+    "write one like 02:00:00:00:00:01",
     "point 02:00:00:00:00:01 4294967296": "NUMBER 4294967296 is out of range: 0 to 4294967295",
     "advance 4294967296": "MILLISECONDS 4294967296 is out of range: 0 to 4294967295",
     "link 256 0 1": "POINT 256 is out of range: 0 to 255",
@@ -186,8 +203,8 @@ BAD_LINES = {
     "advance 0x10": "MILLISECONDS '0x10' is not a decimal number",
     "advance 1_000": "MILLISECONDS '1_000' is not a decimal number",
     "advance \u0663": "MILLISECONDS '\u0663' is not a decimal number",
-    "octets 09 100": "'100' is no octet; one is two hexadecimal digits, 00 to ff",
-    "octets 9": "'9' is no octet; one is two hexadecimal digits, 00 to ff",
+    "octets 09 100": "'100' is no octet; write two hexadecimal digits, 00 to ff",
+    "octets 9": "'9' is no octet; write two hexadecimal digits, 00 to ff",
     "repeat 0 walk 0 1": "TIMES 0 is out of range: 1 to 1000000",
     "repeat 1000001 walk 0 1": "TIMES 1000001 is out of range: 1 to 1000000",
     "repeat two walk 0 1": "TIMES 'two' is not a decimal number",
@@ -202,7 +219,7 @@ class BadScripts(unittest.TestCase):
             script = "# a comment\n" * (place - 1) + line + "\nwalk 0 1\n"
             with self.subTest(line[:40]):
                 with self.assertRaises(benchscript.Complaint) as raised:
-                    benchscript.script_to_octets("my.bench", script)
+                    read(script)
                 self.assertEqual(str(raised.exception), f"my.bench:{place}: {message}")
                 self.assertEqual(raised.exception.status, 2)
 
@@ -261,32 +278,33 @@ class ResultsInWords(unittest.TestCase):
         self.assert_words("walk 0 1", "8 42 2", goes_round)
 
     def test_refusals_that_a_command_makes_clear(self) -> None:
-        not_individual = "isn't individual (group or all zero)"
+        not_individual = "is not individual (it is a group or all zero)"
         group = "point 03:00:00:00:00:03 0"
         self.assert_words(group, "1 9 0", f"refused 9: the own address {not_individual}")
         ask = "ask 0 9 02:00:00:00:00:01 5"
         self.assert_words(ask, "4 9 0", f"refused 9: the asked address {not_individual}")
-        self.assert_words(ask, "4 10 0", "refused 10: flags above 3")
-        self.assert_words(ask, "4 11 0", "refused 11: lifetime 0")
+        self.assert_words(ask, "4 10 0", "refused 10: the flags are above 3")
+        self.assert_words(ask, "4 11 0", "refused 11: the lifetime is 0")
         self.assert_words(ask, "4 24 0", "refused 24: the point asks for its own address")
-        same_as_own = "has the point's own address"
+        same_as_own = "is the point's own address"
         self.assert_words("break 0 1", "7 23 0", f"refused 23: the neighbour {same_as_own}")
         self.assert_words("walk 0 1", "8 10 0", "refused 10: two points have the same address")
 
     def test_refusals_of_a_delivery(self) -> None:
         for refusal, words in {
             5: "there is no link (metric 0)",
-            13: "metric plus link metric is above 4,294,967,294",
-            14: "a reply with TTL 0 or 1",
-            23: "the transmitter has the point's own address",
-            24: "the originator (of a reply: the destination) is the point itself",
+            13: "the element's metric plus the link metric is above 4,294,967,294",
+            14: "the reply's TTL is 0 or 1",
+            23: "the transmitter is the point's own address",
+            24: "the element's subject (its originator, or a reply's destination) "
+            "is the point itself",
             25: STALE,
             26: "the error names no active row of known number through its transmitter",
-            27: "more new rows needed than are free",
+            27: "the call needs more new rows than are free",
         }.items():
             self.assert_words("deliver 0 1", f"6 {refusal} 0", f"refused {refusal}: {words}")
 
-    def test_every_refusal_of_document_01_has_words_of_its_own(self) -> None:
+    def test_every_refusal_has_words_of_its_own(self) -> None:
         refusals = [*range(1, 15), *range(21, 30)]
         script = TWO_POINTS + "deliver 0 1\n" * len(refusals)
         output = TWO_ADDED + "".join(f"6 {refusal} 0\n" for refusal in refusals)
@@ -331,12 +349,26 @@ class ResultsInWords(unittest.TestCase):
         self.assertEqual(given[3], f"refused 25: {STALE}   (7 times)")
         self.assertEqual(len(given), 4)
 
-    def test_commands_stand_beside_their_results(self) -> None:
+    def test_commands_are_shown_as_their_lines_have_them(self) -> None:
+        script = "  advance\t0005 # why\nrepeat 4  advance 05\noctets 08 00 00\nadvance  5"
+        answers = answers_for(script, "2 0 0\n" * 5 + "8 0 0\n2 0 0\n")
+        lines = [line for line, _ in answers]
+        self.assertEqual(lines, ["advance 0005", "advance 05", "walk 0 0", "advance 5"])
+
+    def test_commands_that_lie_across_lines_are_shown_in_words(self) -> None:
+        # The octets of the walks end an advance, are a point, and two are left over.
+        answers = answers_for("octets 02 05 00\nrepeat 5 walk 0 1", "2 0 0\n1 0 0\nE 16\n")
+        lines = ["advance 524293", "point 08:00:01:08:00:01 134283272", "octets 00 01"]
+        self.assertEqual([line for line, _ in answers], lines)
+        ends = "ends the run at line 2 (octet 16): there is no command 0"
+        self.assertEqual(answers[2][1], ends)
+
+    def test_octets_of_no_command_are_shown_in_part(self) -> None:
         for rest, ends_with in ((12, "0a 0b"), (13, "0a 0b ..")):
-            octets = octets_of("advance 5\noctets 08 00 00") + bytes([9, *range(1, rest)])
-            answers = list(benchscript.answers_in_words(octets, b"2 0 0\n8 0 0\nE 8\n"))
+            octets = bytes([9, *range(1, rest)]).hex(" ")
+            answers = answers_for(f"octets 08 00 00\noctets {octets}", "8 0 0\nE 3\n")
             last = f"octets 09 01 02 03 04 05 06 07 08 09 {ends_with}"
-            self.assertEqual([line for line, _ in answers], ["advance 5", "walk 0 0", last])
+            self.assertEqual([line for line, _ in answers], ["walk 0 0", last])
 
     def test_empty_script(self) -> None:
         self.assertEqual(words_for("# nothing\n", ""), [])
@@ -345,10 +377,10 @@ class ResultsInWords(unittest.TestCase):
 class EndsInWords(unittest.TestCase):
     def assert_end(self, before: str, output: str, line: str, words: str) -> None:
         """Checks the words for a line at which the bench printed E, with or without more to run."""
-        offset = len(octets_of(before))
+        offset, place = len(octets_of(before)), before.count("\n") + 1
         script = f"{before}{line}\n"
         ended = f"{output}E {offset}\n"
-        expected = f"ends the run at octet {offset}: {words}"
+        expected = f"ends the run at line {place} (octet {offset}): {words}"
         self.assertEqual(words_for(script, ended)[-1], expected)
         if not line.startswith("octets"):
             given = words_for(f"{script}walk 0 0\n", ended)
@@ -391,7 +423,7 @@ class EndsInWords(unittest.TestCase):
         self.assert_end(before, "1 0 0\n" * 16, "point 02:00:00:00:00:02 0", words)
 
     def test_more_than_128_frames(self) -> None:
-        words = "it would emit more than 128 frames in all"
+        words = "there would be more than 128 frames"
         for frames, line in (
             (128, "announce 1 5"),
             (128, "ask 0 0 02:00:00:00:00:02 5"),
@@ -407,9 +439,30 @@ class EndsInWords(unittest.TestCase):
         words = "the clock would pass 2^48 - 1"
         self.assert_end(before, "2 0 0\n" * 65537, "advance 1", words)
 
+    def test_line_of_a_fault_after_comments_and_in_a_repeat(self) -> None:
+        script = "# why\n\nadvance 1  # octets 0 to 4\n\nrepeat 3 advance 1\n# why\nwalk 0 0\n"
+        why = "there is no point 0 (0 points so far)"
+        given = words_for(script, "2 0 0\n" * 4 + "E 20\n")
+        self.assertEqual(given[-1], f"ends the run at line 7 (octet 20): {why}")
+        given = words_for("repeat 2 advance 1\nrepeat 5 walk 0 0\n", "2 0 0\n" * 2 + "E 10\n")
+        ended = f"ends the run at line 2 (octet 10): {why}"
+        self.assertEqual(given[-2:], [ended, "what follows was not run"])
 
-class FakeBench(unittest.TestCase):
-    """Runs of the tool on programs that are no bench, or a bad one."""
+    def test_line_of_a_fault_in_octets(self) -> None:
+        why = "there is no point 3 (0 points so far)"
+        for script, place in (
+            ("octets 02 00 00 00 00 08 03 00\nadvance 1", 1),  # the second command of its line
+            ("octets 02 00 00 00 00\n\noctets 08\noctets 03 00", 3),  # on two lines
+            ("octets 02 00 00\noctets 00 00 08 03\noctets 00", 2),  # within a line, on two lines
+        ):
+            with self.subTest(script):
+                ends = f"ends the run at line {place} (octet 5): {why}"
+                answers = answers_for(script, "2 0 0\nE 5\n")
+                self.assertEqual(answers[1], ("walk 3 0", ends))
+
+
+class WithFakeBench(unittest.TestCase):
+    """Runs of the tool on programs that stand in for the bench."""
 
     def setUp(self) -> None:
         directory = tempfile.TemporaryDirectory()
@@ -427,24 +480,53 @@ class FakeBench(unittest.TestCase):
         done = call("run", "--bench", self.bench, self.script)
         return done.returncode, done.stdout.decode(), done.stderr.decode()
 
+    def emit(self, *counts: int) -> None:
+        """Makes the bench a program that accepts commands, each of which emits so many frames.
+
+        A negative number is a refusal. At a delivery of a frame that is not there the bench ends,
+        so the numbers in the octets matter.
+        """
+        self.bench.write_text(FRAMES_BENCH.format(python=sys.executable, counts=counts))
+        self.bench.chmod(0o755)
+
     def assert_complaint(self, complaint: str) -> None:
         self.assertEqual(self.run_tool(), (1, "", f"{complaint}\n"))
+
+
+class FakeBench(WithFakeBench):
+    """Runs on programs that are no bench, or a bad one."""
 
     def test_good_output(self) -> None:
         self.print_instead("2 0 0\\n8 0 0\\n")
         expected = "advance 1   accepted\nwalk 0 0    arrives after 0 hops\n"
         self.assertEqual(self.run_tool(), (0, expected, ""))
 
-    def test_end_is_no_failure(self) -> None:
+    def test_fault(self) -> None:
         self.print_instead("2 0 0\\nE 5\\n")
-        words = "ends the run at octet 5: there is no point 0 (0 points so far)"
-        self.assertEqual(self.run_tool(), (0, f"advance 1   accepted\nwalk 0 0    {words}\n", ""))
+        words = "ends the run at line 2 (octet 5): there is no point 0 (0 points so far)"
+        self.assertEqual(self.run_tool(), (1, f"advance 1   accepted\nwalk 0 0    {words}\n", ""))
 
     def test_several_scripts_are_run_one_by_one(self) -> None:
         self.print_instead("2 0 0\\n8 0 0\\n")
         done = call("run", "--bench", self.bench, self.script, self.script)
         one = f"== {self.script}\nadvance 1   accepted\nwalk 0 0    arrives after 0 hops\n"
         self.assertEqual((done.returncode, done.stdout.decode()), (0, one * 2))
+
+    def test_a_fault_of_one_script_does_not_stop_the_others(self) -> None:
+        self.bench.write_text(
+            "#!/bin/sh\n"
+            'if [ "$(wc -c)" = 8 ]; then printf "2 0 0\\nE 5\\n"; else printf "2 0 0\\n"; fi\n'
+        )
+        self.bench.chmod(0o755)
+        other = self.script.with_name("other.bench")
+        other.write_text("advance 1\n")
+        for scripts in ((self.script, other), (other, self.script), (other, self.script, other)):
+            done = call("run", "--bench", self.bench, *scripts)
+            heads = [line for line in done.stdout.decode().splitlines() if line.startswith("==")]
+            self.assertEqual(heads, [f"== {script}" for script in scripts])
+            self.assertEqual(done.stdout.decode().count("ends the run at line 2 (octet 5): "), 1)
+            self.assertEqual((done.returncode, done.stderr), (1, b""))
+        self.assertEqual(call("run", "--bench", self.bench, other, other).returncode, 0)
 
     def test_the_bench_gets_the_octets_of_the_script(self) -> None:
         self.bench.write_text("#!/bin/sh\ncat >\"$0.given\"\nprintf '2 0 0\\n8 0 0\\n'\n")
@@ -454,7 +536,8 @@ class FakeBench(unittest.TestCase):
         self.assertEqual(given, bytes.fromhex("0201000000 080000"))
 
     def test_missing(self) -> None:
-        self.assert_complaint(f"there is no bench at {self.bench}; 'rt check bench' builds it")
+        help_on_it = "'rt check bench' proves and builds it, and 'benchscript try' needs none"
+        self.assert_complaint(f"there is no bench at {self.bench}; {help_on_it}")
 
     def test_not_to_be_run(self) -> None:
         self.bench.write_text("no program")
@@ -486,7 +569,7 @@ class FakeBench(unittest.TestCase):
             "2 0 0 ",
             "2 0 -1",
             "3 0 0",  # another command
-            "2 15 0",  # no refusal of document 01
+            "2 15 0",  # no refusal has this number
             "2 41 0",  # of a walk alone
             "E 5",  # another octet
             "E",
@@ -548,6 +631,364 @@ class FakeBench(unittest.TestCase):
         self.assert_complaint("the bench ended at octet 0, 'advance 1', which is no fault")
 
 
+class Labels(WithFakeBench):
+    """Labels, on benches that emit other numbers of frames than one would guess."""
+
+    def run_script(self, script: str) -> tuple[int, list[str], str]:
+        """Runs a script. Answers the status, the lines with single spaces, and the complaint."""
+        self.script.write_text(script)
+        status, output, complaint = self.run_tool()
+        return status, [" ".join(line.split()) for line in output.splitlines()], complaint
+
+    def octets_sent(self) -> list[bytes]:
+        """The octets of each run of the bench."""
+        given = sorted(self.bench.parent.glob("given.*"), key=lambda path: int(path.suffix[1:]))
+        return [path.read_bytes() for path in given]
+
+    def assert_last_sent(self, deliveries: list[int]) -> None:
+        """Checks the frames that the deliveries name in the last run."""
+        steps, _ = benchscript.split_into_steps(self.octets_sent()[-1])
+        frames = [step[1] for step in steps if step[0] == benchscript.DELIVER]
+        self.assertEqual(frames, deliveries)
+
+    def test_right_guess_takes_one_run(self) -> None:
+        self.emit(1, 1, 1)
+        status, lines, _ = self.run_script(
+            "announce 0 1 as first\ndeliver first 0 as second\ndeliver second  0  # why\n"
+        )
+        self.assertEqual(status, 0)
+        self.assertEqual(
+            lines,
+            [
+                "announce 0 1 as first accepted, emits frame 0",
+                "deliver first 0 as second accepted, emits frame 1",
+                "deliver second 0 accepted, emits frame 2",
+            ],
+        )
+        self.assert_last_sent([0, 1])
+        self.assertEqual(len(self.octets_sent()), 1)
+
+    def test_wrong_guesses_take_several_runs(self) -> None:
+        counts = (3, 0, 1, -25, 2, 1, 0)
+        self.emit(*counts)
+        status, lines, _ = self.run_script(
+            "announce 0 1 as a\n"  # 0 to 2
+            "deliver a 0\n"  # none
+            "announce 0 1 as b\n"  # 3
+            "deliver b 0\n"  # refused
+            "break 0 0 as c d\n"  # 4 and 5
+            "announce 0 1 as e\n"  # 6
+            "deliver d 0\n"
+            "deliver e 0\n"
+        )
+        self.assertEqual(status, 0)
+        self.assertEqual(lines[4], "break 0 0 as c d accepted, emits frames 4 to 5")
+        self.assertEqual(lines[5], "announce 0 1 as e accepted, emits frame 6")
+        self.assert_last_sent([0, 3, 5, 6])
+        self.assertGreater(len(self.octets_sent()), 1)
+        self.assertLessEqual(len(self.octets_sent()), len(counts) + 1)
+
+    def test_results_that_depend_on_the_numbers(self) -> None:
+        """On this bench a delivery emits as many frames as the number that it names."""
+        labels = "abcdefg"
+        pairs = zip(["start", *labels], labels)
+        deliveries = "".join(f"deliver {before} 0 as {label}\n" for before, label in pairs)
+        script = f"announce 0 1\nannounce 0 1 as start\n{deliveries}"
+        sent = []
+
+        def bench(octets: bytes) -> bytes:
+            sent.append(octets)
+            steps, _ = benchscript.split_into_steps(octets)
+            counts = [step[1] if step[0] == benchscript.DELIVER else 1 for step in steps]
+            return "".join(f"{s[0]} 0 {n}\n" for s, n in zip(steps, counts)).encode()
+
+        played = benchscript.play(read(script), bench)
+        frames = [result.frames for result in played.results]
+        numbers = [step[1] for step in benchscript.split_into_steps(played.compiled.octets)[0][2:]]
+        self.assertEqual(numbers, [1, 2, 3, 5, 8, 13, 21])
+        self.assertEqual(frames[2:], numbers)
+        self.assertLessEqual(len(sent), len(frames) + 1)
+
+    def test_frames_of_repeats_and_octets_count(self) -> None:
+        self.emit(1, 1, 1, 1, 1, 2, 0)
+        self.run_script(
+            "repeat 4 announce 0 1\noctets 05 00 01 00 00 00\nannounce 0 1 as a b\ndeliver b 0\n"
+        )
+        self.assert_last_sent([6])
+
+    def test_repeated_delivery_of_a_label_is_folded(self) -> None:
+        self.emit(2, 0)
+        _, lines, _ = self.run_script("break 0 0 as a b\nrepeat 5 deliver b 0\n")
+        self.assertEqual(lines[1:], ["deliver b 0 accepted, emits no frame (5 times)"])
+        self.assert_last_sent([1] * 5)
+
+    def test_equal_lines_with_labels_are_not_folded(self) -> None:
+        self.emit(1)
+        _, lines, _ = self.run_script("".join(f"announce 0 1 as a{n}\n" for n in range(5)))
+        self.assertEqual(lines[4], "announce 0 1 as a4 accepted, emits frame 4")
+
+    def assert_missing(self, definition: str, count: int, why: str) -> None:
+        self.emit(1, count, 1)
+        script = f"announce 0 1\n{definition}\n\ndeliver 0 0\ndeliver late 0 as x\ndeliver x 0\n"
+        status, lines, complaint = self.run_script(script)
+        self.assertEqual((status, complaint), (1, ""))
+        ends = f"deliver late 0 as x ends the run at line 5: {why}, so there is no frame 'late'"
+        self.assertEqual(lines[-2:], [ends, "what follows was not run"])
+        self.assertEqual(len(lines), 5)
+        done = call("octets", "--bench", self.bench, self.script)
+        self.assertEqual((done.returncode, done.stdout), (1, b""))
+        expected = f"{self.script}:5: {why}, so there is no frame 'late'\n"
+        self.assertEqual(done.stderr.decode(), expected)
+
+    def test_label_of_a_line_that_was_refused(self) -> None:
+        self.assert_missing("break 0 0 as late", -4, "line 2 was refused")
+
+    def test_label_of_a_line_that_emitted_too_few_frames(self) -> None:
+        self.assert_missing("break 0 0 as late", 0, "line 2 emitted no frame")
+        self.assert_missing("break 0 0 as first late", 1, "line 2 emitted 1 frame")
+        self.assert_missing("break 0 0 as a b c late", 3, "line 2 emitted 3 frames")
+
+    def test_label_that_is_missing_in_an_early_run_only(self) -> None:
+        """A wrong number makes a line emit nothing; with the right one it emits its frame."""
+        script = "announce 0 1 as a\nannounce 0 1 as b\ndeliver b 0 as c\ndeliver c 0\n"
+        outputs = {0: b"5 0 2\n5 0 1\n6 25 0\n6 0 0\n", 1: b"5 0 2\n5 0 1\n6 0 1\n6 0 0\n"}
+
+        def bench(octets: bytes) -> bytes:
+            """Refuses the first delivery unless it is of frame 2."""
+            lines = outputs[int(octets[13] == 2)].splitlines(keepends=True)
+            return b"".join(lines[: len(benchscript.split_into_steps(octets)[0])])
+
+        played = benchscript.play(read(script), bench)
+        self.assertTrue(played.is_whole)
+        self.assertEqual(played.compiled.octets[12:], bytes.fromhex("06020000 06030000"))
+
+    def test_fault_before_a_missing_label(self) -> None:
+        self.emit(0, 1)
+        script = "announce 0 1 as late\ndeliver 9 0\ndeliver late 0\n"
+        status, lines, _ = self.run_script(script)
+        why = "ends the run at line 2 (octet 6): there is no frame 9 (0 frames so far)"
+        self.assertEqual((status, lines[1]), (1, f"deliver 9 0 {why}"))
+        self.assertEqual(lines[2:], ["what follows was not run"])
+
+    def test_bench_that_changes_its_mind(self) -> None:
+        counts = iter([0, 2] * 50)
+
+        def bench(octets: bytes) -> bytes:
+            steps, _ = benchscript.split_into_steps(octets)
+            return f"5 0 {next(counts)}\n5 0 1\n6 0 0\n".encode()[: 6 * len(steps)]
+
+        script = read("announce 0 1\nannounce 0 1 as a\ndeliver a 0\n")
+        with self.assertRaises(benchscript.Complaint) as raised:
+            benchscript.play(script, bench)
+        self.assertEqual(raised.exception.status, 1)
+        expected = "my.bench: the bench does not do the same on the same octets"
+        self.assertEqual(str(raised.exception), expected)
+
+    def test_numbers_beyond_two_octets(self) -> None:
+        """The bench ends long before; the guess must not be in the way."""
+        script = "repeat 70000 announce 0 1\nannounce 0 1 as far\ndeliver far 0\n"
+        played = benchscript.play(read(script), lambda _: b"5 0 1\n" * 128 + b"E 768\n")
+        self.assertEqual(played.compiled.octets[-4:], bytes.fromhex("06ffff00"))
+
+    def test_scripts_without_labels_need_no_bench_for_their_octets(self) -> None:
+        done = call("octets", "--bench", self.bench, self.script)
+        self.assertEqual((done.returncode, done.stdout.hex()), (0, "0201000000080000"))
+
+    def test_label_after_octets_of_no_whole_command(self) -> None:
+        why = "an 'octets' line above has no whole commands, so no label can follow"
+        for octets in ("07 00", "09", "05 00 01 00 00"):
+            for line in ("deliver a 0", "announce 0 1 as b"):
+                with self.subTest(octets=octets, line=line):
+                    with self.assertRaises(benchscript.Complaint) as raised:
+                        read(f"announce 0 1 as a\noctets {octets}\nwalk 0 0\n{line}\n")
+                    self.assertEqual(str(raised.exception), f"my.bench:4: {why}")
+                    self.assertEqual(raised.exception.status, 2)
+        read("announce 0 1 as a\noctets 02 01 00\noctets 00 00\ndeliver a 0")
+
+
+BAD_LABELS = {
+    "deliver late 0": "no line before this one defines the label 'late'",
+    "repeat 2 deliver late 0": "no line before this one defines the label 'late'",
+    "deliver late 0 as late": "no line before this one defines the label 'late'",
+    "announce 0 1 as known": "line 1 defines the label 'known' already",
+    "announce 0 1 as a b a": "line 2 defines the label 'a' already",
+    "announce 0 1 as": "no label follows 'as'",
+    "announce 0 1 as Late": "'Late' is no label; "
+    "a label begins with a letter a to z; then letters, digits, '-' or '_' follow",
+    "announce 0 1 as as": "'as' is no label; "
+    "a label begins with a letter a to z; then letters, digits, '-' or '_' follow",
+    "announce 0 1 as 2nd": "'2nd' is no label; "
+    "a label begins with a letter a to z; then letters, digits, '-' or '_' follow",
+    "announce 0 1 as a, b": "'a,' is no label; "
+    "a label begins with a letter a to z; then letters, digits, '-' or '_' follow",
+    "deliver Late 0": "FRAME 'Late' is neither a decimal number nor a label",
+    "deliver -1 0": "FRAME '-1' is neither a decimal number nor a label",
+    "deliver known": "wrong number of operands; expected 'deliver FRAME POINT'",
+    "deliver known known": "POINT 'known' is not a decimal number",
+    "walk known 0": "START 'known' is not a decimal number",
+    "announce as a": "wrong number of operands; expected 'announce POINT LIFETIME'",
+    "walk 0 1 as a": "'walk' emits no frame, so it takes no label",
+    "point 02:00:00:00:00:01 0 as a": "'point' emits no frame, so it takes no label",
+    "octets 05 00 01 00 00 00 as a": "an 'octets' line takes no label",
+    "repeat 2 announce 0 1 as a": "a repeated line takes no label",
+    "repeat 1 announce 0 1 as a b": "a repeated line takes no label",
+    "as a": "unknown word 'as'; the words are point, advance, link, ask, announce, deliver, "
+    "break, walk, octets, repeat",
+}
+
+
+class BadLabels(unittest.TestCase):
+    def test_message_for_each_bad_line(self) -> None:
+        for line, message in BAD_LABELS.items():
+            with self.subTest(line):
+                with self.assertRaises(benchscript.Complaint) as raised:
+                    read(f"announce 0 1 as known\n{line}\nannounce 0 1 as late\n")
+                self.assertEqual(str(raised.exception), f"my.bench:2: {message}")
+                self.assertEqual(raised.exception.status, 2)
+
+    def test_good_labels(self) -> None:
+        for label in ("a", "late", "z9", "from-0", "a_b-c", "walk", "point"):
+            script = read(f"ask 0 0 02:00:00:00:00:01 1 as {label}\ndeliver {label} 0\n")
+            self.assertEqual(list(script.labels), [label])
+
+
+class LinesOfAFile(unittest.TestCase):
+    def lines(self, octets: bytes) -> tuple[int, str, str]:
+        done = call("lines", "-", given=octets)
+        return done.returncode, done.stdout.decode(), done.stderr.decode()
+
+    def test_script(self) -> None:
+        complaint = (
+            "- is a script already; "
+            "'lines' expects the octets that the bench reads, as 'octets' writes them\n"
+        )
+        for script in (
+            b"walk 0 1\n",
+            b"# why\r\n\r\n\tpoint 02:00:00:00:00:01 0 # \xe2\x80\x93\r\n",
+            b"octets 09 ff",
+            b"repeat 3 advance 1",
+            b"wlk 0 1\nwalk 0 1\n",
+        ):
+            with self.subTest(script[:20]):
+                self.assertEqual(self.lines(script), (2, "", complaint))
+
+    def test_each_example_is_known_as_a_script_and_its_octets_are_not(self) -> None:
+        for script in SCRIPTS:
+            with self.subTest(script.name):
+                self.assertTrue(benchscript.is_script(script.read_bytes()))
+                octets = benchscript.octets_of(benchscript.script_in(str(script)), BENCH)
+                self.assertFalse(benchscript.is_script(octets))
+
+    def test_octets_that_are_no_script(self) -> None:
+        for octets, line in (
+            (b"\x09\xff", "octets 09 ff"),
+            (b"\x09", "octets 09"),
+            (b"\x0a\x0a", "octets 0a 0a"),
+            (b"a b", "octets 61 20 62"),
+            (b"walk\x00", "octets 77 61 6c 6b 00"),
+            (b"\xffwalk 0", "octets ff 77 61 6c 6b 20 30"),
+            (b"walks 0", "octets 77 61 6c 6b 73 20 30"),
+        ):
+            with self.subTest(line):
+                self.assertEqual(self.lines(octets), (0, f"{line}\n", ""))
+        self.assertEqual(self.lines(b""), (0, "", ""))
+
+    def test_no_input_of_the_bench_is_taken_for_a_script(self) -> None:
+        for code, command in benchscript.COMMANDS.items():
+            self.assertFalse(benchscript.is_script(bytes([code]) + b"\nwalk 0 1\n"))
+            step = bytes([code]) + b" " * (command.width - 1)
+            self.assertFalse(benchscript.is_script(step + b"\nwalk 0 1\n"))
+
+
+class Version(unittest.TestCase):
+    def test_version_of_the_header(self) -> None:
+        header = (ROOT / "include" / "hwmp.h").read_text()
+        (defined,) = re.findall(r'^#define HWMP_VERSION "([0-9]+\.[0-9]+\.[0-9]+)"$', header, re.M)
+        done = call("--version")
+        expected = (0, f"benchscript {defined}\n".encode(), b"")
+        self.assertEqual((done.returncode, done.stdout, done.stderr), expected)
+
+    def test_header_without_version(self) -> None:
+        with tempfile.NamedTemporaryFile("w") as header:
+            header.write('// #define HWMP_VERSION "1.0.0"\n')
+            header.flush()
+            with (
+                patch.object(benchscript, "HEADER", Path(header.name)),
+                self.assertRaises(benchscript.Complaint) as raised,
+            ):
+                benchscript.version()
+        expected = f"{header.name} does not define HWMP_VERSION"
+        self.assertEqual((raised.exception.status, str(raised.exception)), (1, expected))
+
+
+class Trying(unittest.TestCase):
+    """Runs without proof. Only the first test runs rt, because that takes seconds."""
+
+    def test_the_worked_case_is_as_on_the_proved_bench(self) -> None:
+        script = EXAMPLES / "worked.bench"
+        ran, tried = call("run", "--bench", BENCH, script), call("try", script)
+        self.assertEqual((tried.returncode, tried.stderr), (0, b""))
+        *lines, last = tried.stdout.decode().splitlines()
+        self.assertEqual(lines, ran.stdout.decode().splitlines())
+        self.assertEqual(last, closing_line(script))
+
+    def try_with(self, output: bytes, *scripts: str) -> tuple[int, list[str]]:
+        """Tries scripts if each run prints this. Answers the status and the lines printed."""
+        with (
+            patch.object(benchscript, "bench_output_in", lambda copy, octets: output),
+            patch("sys.stdout", io.StringIO()) as printed,
+        ):
+            read_scripts = [benchscript.read_script(f"{n}", s) for n, s in enumerate(scripts)]
+            status = benchscript.try_all(read_scripts)
+        return status, printed.getvalue().splitlines()
+
+    def test_fault(self) -> None:
+        status, lines = self.try_with(b"E 0\n", "walk 0 0\n")
+        ends = "ends the run at line 1 (octet 0): there is no point 0 (0 points so far)"
+        self.assertEqual((status, lines), (1, [f"walk 0 0   {ends}", closing_line("0")]))
+
+    def test_several_scripts(self) -> None:
+        status, lines = self.try_with(b"2 0 0\n", "advance 1", "advance 2")
+        shown = ["== 0", "advance 1   accepted", "== 1", "advance 2   accepted"]
+        self.assertEqual((status, lines), (0, [*shown, closing_line("0 1")]))
+
+    def test_bad_script_is_told_before_anything_runs(self) -> None:
+        with tempfile.NamedTemporaryFile("w") as script:
+            script.write("walk 0\n")
+            script.flush()
+            done = call("try", script.name)
+        self.assertEqual((done.returncode, done.stdout), (2, b""))
+        self.assertIn(b":1: wrong number of operands", done.stderr)
+
+
+def closing_line(scripts: object) -> str:
+    proved = f"rt check bench && tools/benchscript run {scripts}"
+    return f"This ran the code and proved nothing. To run the proved bench: {proved}"
+
+
+# A bench that emits frames as it is told, and keeps the octets of each run. It knows every point,
+# and ends at a frame that is not there.
+FRAMES_BENCH = """#!{python}
+import pathlib, sys
+COUNTS = {counts}
+WIDTHS = [0, 11, 5, 7, 13, 6, 4, 3, 3]
+octets = sys.stdin.buffer.read()
+folder = pathlib.Path(sys.argv[0]).parent
+(folder / f"given.{{len(list(folder.glob('given.*')))}}").write_bytes(octets)
+frames = step = at = 0
+while at < len(octets):
+    code = octets[at]
+    if code == 6 and octets[at + 1] + 256 * octets[at + 2] >= frames:
+        print("E", at)
+        break
+    count = COUNTS[min(step, len(COUNTS) - 1)]
+    print(code, max(0, -count), max(0, count))
+    frames += max(0, count)
+    step += 1
+    at += WIDTHS[code]
+"""
+
+
 class Examples(unittest.TestCase):
     def test_each_script_has_its_expected_output_and_no_other_is_there(self) -> None:
         expected = {output.stem for output in EXAMPLES.glob("*.expected")}
@@ -556,7 +997,7 @@ class Examples(unittest.TestCase):
     def test_the_bench_prints_what_each_script_expects(self) -> None:
         for script in SCRIPTS:
             with self.subTest(script.name):
-                done = call("octets", script)
+                done = call("octets", "--bench", BENCH, script)
                 self.assertEqual((done.returncode, done.stderr), (0, b""))
                 printed = benchscript.run_bench(BENCH, done.stdout)
                 expected = script.with_suffix(".expected")
@@ -564,7 +1005,7 @@ class Examples(unittest.TestCase):
 
     def test_the_worked_case_is_that_of_the_program_crate(self) -> None:
         crate = ROOT / "crates" / "bench"
-        octets = call("octets", EXAMPLES / "worked.bench").stdout
+        octets = call("octets", "--bench", BENCH, EXAMPLES / "worked.bench").stdout
         self.assertEqual(octets, (crate / "stdin").read_bytes())
         expected = (EXAMPLES / "worked.expected").read_bytes()
         self.assertEqual(expected, (crate / "stdout").read_bytes())
@@ -574,7 +1015,8 @@ class Examples(unittest.TestCase):
         for script in SCRIPTS:
             with self.subTest(script.name):
                 done = call("run", "--bench", BENCH, script)
-                self.assertEqual((done.returncode, done.stderr), (0, b""))
+                status = int("ends the run" in WHAT_SCRIPTS_SHOW[script.stem])
+                self.assertEqual((done.returncode, done.stderr), (status, b""))
                 lines = [" ".join(line.split()) for line in done.stdout.decode().splitlines()]
                 self.assertIn(WHAT_SCRIPTS_SHOW[script.stem], lines)
 
@@ -586,46 +1028,50 @@ class Examples(unittest.TestCase):
         """A command that emits two frames when 127 are there ends the run, though one would fit."""
         script = TWO_POINTS + (
             "point 02:00:00:00:00:03 0\nlink 0 1 1\nlink 1 2 1\n"
-            "announce 2 9\ndeliver 0 1\n"  # point 1 knows a route to point 2; frames 0 and 1
+            "announce 2 9\ndeliver 0 1\n"  # point 1 knows a path to point 2; frames 0 and 1
             "repeat 124 announce 2 9\n"  # frames 2 to 125
-            "ask 0 2 02:00:00:00:00:03 9\n"  # frame 126; flags 2 (RF): answer and pass on
-            "deliver 126 1\n"
+            "ask 0 2 02:00:00:00:00:03 9 as request\n"  # 126; flags 2 (RF): reply and forward
+            "deliver request 1\n"
         )
-        octets = octets_of(script)
-        answers = list(benchscript.answers_in_words(octets, benchscript.run_bench(BENCH, octets)))
-        offset = len(octets) - 4
-        words = f"ends the run at octet {offset}: it would emit more than 128 frames in all"
-        self.assertEqual(answers[-1], ("deliver 126 1", words))
+        played = benchscript.play(read(script), lambda octets: benchscript.run_bench(BENCH, octets))
+        answers = list(benchscript.answers_in_words(read(script), played))
+        offset = len(played.compiled.octets) - 4
+        words = f"ends the run at line 10 (octet {offset}): there would be more than 128 frames"
+        self.assertEqual(answers[-1], ("deliver request 1", words))
+        self.assertEqual(played.compiled.octets[-4:], bytes([6, 126, 0, 1]))
 
 
 WORKED_FROM_ITS_LAST_LINK = f"""\
-link 1 2 20                      accepted
-ask 0 1 02:00:00:00:00:03 1000   accepted, emits frame 0
-deliver 0 1                      accepted, emits frame 1
-deliver 1 2                      accepted, emits frame 2
-deliver 2 1                      accepted, emits frame 3
-deliver 3 0                      accepted, emits no frame
-walk 0 2                         arrives after 2 hops
-deliver 3 0                      refused 25: {STALE}
+link 1 2 20                                 accepted
+ask 0 1 02:00:00:00:00:03 1000 as request   accepted, emits frame 0
+deliver request 1 as request-from-1         accepted, emits frame 1
+deliver request-from-1 2 as reply           accepted, emits frame 2
+deliver reply 1 as reply-from-1             accepted, emits frame 3
+deliver reply-from-1 0                      accepted, emits no frame
+walk 0 2                                    arrives after 2 hops
+deliver reply-from-1 0                      refused 25: {STALE}
 """.splitlines()
 
 # A line that the tool prints for each script, with single spaces.
 WHAT_SCRIPTS_SHOW = {
-    "bad_frame": "deliver 2 0 ends the run at octet 39: there is no frame 2 (2 frames so far)",
-    "bad_point": "link 1 2 10 ends the run at octet 29: there is no point 2 (2 points so far)",
+    "bad_frame": "deliver 2 0 ends the run at line 9 (octet 39): "
+    "there is no frame 2 (2 frames so far)",
+    "bad_point": "link 1 2 10 ends the run at line 8 (octet 29): "
+    "there is no point 2 (2 points so far)",
     "broken_row": "walk 1 2 stops after 1 hop (41: no active row there)",
-    "clock": "advance 1 ends the run at octet 327727: the clock would pass 2^48 - 1",
-    "cut": "octets 04 00 01 02 00 00 00 00 03 e8 03 00 ends the run at octet 16: "
+    "clock": "advance 1 ends the run at line 15 (octet 327727): the clock would pass 2^48 - 1",
+    "cut": "octets 04 00 01 02 00 00 00 00 03 e8 03 00 ends the run at line 7 (octet 16): "
     "the input ends inside 'ask POINT FLAGS ADDRESS LIFETIME'",
-    "equal_number": f"deliver 7 0 refused 25: {STALE}",
-    "frames": "break 1 0 ends the run at octet 809: it would emit more than 128 frames in all",
+    "equal_number": f"deliver answer 0 refused 25: {STALE}",
+    "frames": "break 1 0 ends the run at line 14 (octet 809): there would be more than 128 frames",
     "goes_round": "walk 0 2 goes round: 4 hops without arriving (42: as many hops as points)",
     "no_route": "walk 0 2 stops after 0 hops (41: no active row there)",
-    "points": "point 02:00:00:00:00:11 0 ends the run at octet 207: "
+    "points": "point 02:00:00:00:00:11 0 ends the run at line 28 (octet 207): "
     "there are 16 points already, the most there can be",
-    "unknown": "octets 09 05 00 e8 03 00 00 ends the run at octet 29: there is no command 9",
+    "unknown": "octets 09 05 00 e8 03 00 00 ends the run at line 7 (octet 29): "
+    "there is no command 9",
     "worked": "walk 0 2 arrives after 2 hops",
-    "wrap": f"deliver 1 2 refused 25: {STALE}",
+    "wrap": f"deliver old-from-1 2 refused 25: {STALE}",
 }
 
 

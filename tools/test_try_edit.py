@@ -1,7 +1,7 @@
 """Tests of try_edit, and of docs/TRAINING.md, which shows what it prints.
 
 Run from anywhere: python3 tools/test_try_edit.py
-They need rt, but nothing proved and no program built.
+The tests need rt, but nothing proved and no program built.
 """
 
 import re
@@ -12,8 +12,9 @@ import unittest
 from pathlib import Path
 from unittest.mock import patch
 
-sys.dont_write_bytecode = True  # set first, so that nothing is written beside the tools
+sys.dont_write_bytecode = True  # set first, so that nothing is written next to the tools
 
+import trying
 from loading import load_tool
 
 try_edit = load_tool("try_edit")
@@ -26,7 +27,7 @@ ERRORS = re.findall(r"^## ([0-9]\..*?)(?=^## |\Z)", GUIDE, re.MULTILINE | re.DOT
 PARTS = [
     "What goes wrong.",
     "On the bench.",
-    "Document 01.",
+    "The protocol.",
     "The definition.",
     "The proof refuses it.",
     "Does it loop?",
@@ -128,30 +129,81 @@ class Edits(unittest.TestCase):
         self.assertEqual(edited, "fn 1() {}\n() {}\nfn two() {}\n")
 
     def test_no_pair(self) -> None:
-        complaint = f"{self.edit} has no 'old:' and 'new:' pair"
+        complaint = f"{self.edit} has no pair of lines 'old: TEXT' and 'new: TEXT'"
         self.assert_complaint("# why\nfile: src/lib.rt\nold: one\n", complaint)
 
-    def test_text_that_does_not_stand_there_once(self) -> None:
-        for old, times in (("three", 0), ("two", 2)):
-            complaint = f"'{old}' stands {times} times in src/lib.rt, not once"
-            self.assert_complaint(f"file: src/lib.rt\nold: {old}\nnew: x\n", complaint)
+    def test_line_of_no_edit(self) -> None:
+        forms = "write '# COMMENT', 'file: FILE', 'old: TEXT' or 'new: TEXT'"
+        for line in ("old:one", "why", "file:src/lib.rt", " new: 1"):
+            complaint = f"{self.edit}:2: '{line}' is no line of an edit; {forms}"
+            self.assert_complaint(f"file: src/lib.rt\n{line}\nold: one\nnew: 1\n", complaint)
+
+    def test_no_file_line(self) -> None:
+        complaint = f"{self.edit}: a line 'file: src/FILE.rt' must stand above the first 'old:'"
+        self.assert_complaint("old: one\nnew: 1\n", complaint)
+
+    def test_new_without_old(self) -> None:
+        complaint = f"{self.edit}: a line 'old: TEXT' must stand above each 'new:'"
+        self.assert_complaint("file: src/lib.rt\nnew: 1\n", complaint)
+
+    def test_text_that_the_file_does_not_have(self) -> None:
+        complaint = (
+            "crates/some/src/lib.rt does not have the 'old:' text: "
+            "copy a part of one line exactly\nfn three"
+        )
+        self.assert_complaint("file: src/lib.rt\nold: fn three\nnew: x\n", complaint)
+
+    def test_text_with_other_spaces(self) -> None:
+        complaint = (
+            "crates/some/src/lib.rt does not have the 'old:' text: "
+            "its spaces or line ends differ from those in the file\nfn  one"
+        )
+        self.assert_complaint("file: src/lib.rt\nold: fn  one\nnew: x\n", complaint)
+
+    def test_text_that_the_file_has_twice(self) -> None:
+        complaint = (
+            "crates/some/src/lib.rt has the 'old:' text 2 times: "
+            "add more of its line, so that it stands there once\ntwo"
+        )
+        self.assert_complaint("file: src/lib.rt\nold: two\nnew: x\n", complaint)
 
     def test_text_that_an_earlier_replacement_brings_in(self) -> None:
-        complaint = "'four' stands 2 times in src/lib.rt, not once"
+        complaint = (
+            "crates/some/src/lib.rt has the 'old:' text 2 times: "
+            "add more of its line, so that it stands there once\nfour"
+        )
         pairs = "old: one\nnew: four four\nold: four\nnew: x\n"
         self.assert_complaint(f"file: src/lib.rt\n{pairs}", complaint)
 
     def test_definition(self) -> None:
-        complaint = f"{self.edit} changes specs/Lib.antt, which is no code: nothing runs otherwise"
+        complaint = f"{self.edit} changes specs/Lib.antt; only an edit of code (src/) changes a run"
         self.assert_complaint("file: specs/Lib.antt\nold: one\nnew: x\n", complaint)
 
     def test_missing_file(self) -> None:
-        complaint = f"{self.edit} changes src/other.rt, which some does not have"
+        complaint = f"{self.edit}: crate some has no file src/other.rt; it has src/lib.rt"
         self.assert_complaint("file: src/other.rt\nold: one\nnew: x\n", complaint)
 
     def test_edit_of_no_crate(self) -> None:
-        complaint = "README.md is no edit of a crate; these are crates/*/must-fail/*.edit\n"
-        self.assertEqual(call("README.md", "scattered_rows"), (2, "", complaint))
+        where = "put it into crates/NAME/must-fail/, where NAME is the crate that it changes"
+        for name in ("README.md", "crates/learn/mine.edit", "/tmp/must-fail/mine.edit"):
+            complaint = f"{name} lies in no crate: {where}\n"
+            self.assertEqual(call(name, "scattered_rows"), (2, "", complaint))
+
+    def test_edit_without_its_suffix(self) -> None:
+        name = "crates/learn/must-fail/mine"
+        complaint = f"{name} must have a name that ends in .edit\n"
+        self.assertEqual(call(name, "scattered_rows"), (2, "", complaint))
+
+    def test_edit_of_a_crate_that_is_not_there(self) -> None:
+        name = "crates/lern/must-fail/mine.edit"
+        complaint = f"{name}: there is no crate 'lern'; crates.txt lists the crates\n"
+        self.assertEqual(call(name, "scattered_rows"), (2, "", complaint))
+
+    def test_edit_that_is_not_there(self) -> None:
+        name = "crates/matches/must-fail/mine.edit"
+        others = "matched_by_destination_alone.edit, received_number_not_passed_on.edit"
+        complaint = f"there is no file {name}; edits in its folder: {others}\n"
+        self.assertEqual(call(name, "scattered_rows"), (2, "", complaint))
 
 
 class Runs(unittest.TestCase):
@@ -173,6 +225,22 @@ class Runs(unittest.TestCase):
         self.assertEqual(lines[-2], "- walk 3 2 arrives after 2 hops")
         self.assertEqual(lines[-1], "+ walk 3 2 stops after 1 hop (41: no active row there)")
 
+    def test_edit_that_does_not_compile(self) -> None:
+        run = try_edit.ProgramRun("scattered_rows")
+        replacement = try_edit.Replacement("src/search.rt", "found + 1", "fund + 1")
+        with self.assertRaises(try_edit.Complaint) as raised:
+            try_edit.answers_with(try_edit.Edit("table", [replacement]), run)
+        first, second = str(raised.exception).split("\n")
+        self.assertEqual(first, "with the edit the code does not compile:")
+        where = r"crates/table/src/search\.rt:[0-9]+:[0-9]+: "
+        self.assertRegex(second, where + r"error\[unknown-name\]: .*`fund`")
+        self.assertEqual(raised.exception.status, 1)
+
+    def test_compiler_that_does_not_end(self) -> None:
+        late = subprocess.TimeoutExpired("rt", 1)
+        with patch.object(trying, "run_rt", side_effect=late):
+            self.assertEqual(trying.compiler_message(ROOT, "bench"), trying.REJECTED)
+
     def test_run_that_does_not_end_well(self) -> None:
         edit = "crates/counters/must-fail/step_does_not_wrap.edit"
         status, output, complaint = call(edit, "examples/training/plain_numbers.bench")
@@ -181,9 +249,13 @@ class Runs(unittest.TestCase):
         self.assertIn("attempt to add with overflow in `u32`, in `counters::one_more`", complaint)
 
     def test_run_that_shows_nothing(self) -> None:
-        complaint = "nothing differs: this run does not show what the edit does"
-        with patch.object(try_edit, "output_with", return_value="rows 0\n"):
-            run = try_edit.Run("scattered_rows", None)
+        complaint = (
+            "nothing differs: this run does the same with the edit; "
+            "choose a run that gets to the changed code and depends on it"
+        )
+        answers = [try_edit.Answer("rows 0")]
+        with patch.object(try_edit, "answers_with", return_value=answers):
+            run = try_edit.ProgramRun("scattered_rows")
             self.assert_complaint(complaint, try_edit.run_shown, None, run)
 
     def test_words_of_rt_that_are_not_understood(self) -> None:
@@ -198,34 +270,97 @@ class Runs(unittest.TestCase):
             with (
                 self.subTest(said),
                 tempfile.TemporaryDirectory() as copy,
-                patch.object(try_edit, "try_program", return_value=(1, f"{said}\n")),
+                patch.object(trying, "try_program", return_value=(1, f"{said}\n")),
             ):
                 (Path(copy) / "crates" / "some").mkdir(parents=True)
                 complaint = f"some was not run to its end:\n{said}"
-                self.assert_complaint(complaint, try_edit.output_in, Path(copy), "some")
+                self.assert_complaint(complaint, trying.output_in, Path(copy), "some")
+
+    def test_program_that_writes_too_much(self) -> None:
+        fails = "FAIL: the interpreter ended, but did not write what is expected\n"
+
+        def one_more(copy: Path, program: str) -> tuple[int, str]:
+            known = len((copy / "crates" / program / "stdout").read_text())
+            found = f'on standard output, at byte {known}, expected "", found "a" and more\n'
+            return 1, fails + found
+
+        with tempfile.TemporaryDirectory() as copy, patch.object(trying, "try_program", one_more):
+            (Path(copy) / "crates" / "some").mkdir(parents=True)
+            complaint = "some writes more than 20 runs of 'rt try' show"
+            self.assert_complaint(complaint, trying.output_in, Path(copy), "some")
 
     def test_no_rt(self) -> None:
         with patch.dict("os.environ", PATH="/nowhere"):
             complaint = "rt cannot be run: No such file or directory"
-            self.assert_complaint(complaint, try_edit.try_program, ROOT, "bench")
+            self.assert_complaint(complaint, trying.try_program, ROOT, "bench")
 
     def test_no_such_run(self) -> None:
         edit = "crates/table/must-fail/free_rows_side_by_side.edit"
-        complaint = "no_such cannot be read: No such file or directory\n"
+        complaint = (
+            "there is no run no_such: it is neither the file of a script "
+            "nor a program crate (bench, scattered_rows)\n"
+        )
         self.assertEqual(call(edit, "no_such"), (2, "", complaint))
 
 
 class Shown(unittest.TestCase):
     def shown(self, script: str, before: str, after: str) -> list[str]:
-        """What is shown of a script if the bench writes this without the edit, and this with it."""
-        run = try_edit.Run("bench", try_edit.benchscript.script_to_octets("", script))
-        answers = (try_edit.answers_of(run, output) for output in (before, after))
+        """Answers what is shown if the bench writes `before` without the edit, `after` with it."""
+        run = try_edit.ScriptRun(try_edit.benchscript.read_script("", script))
+        return self.shown_run(run, before, after)
+
+    def shown_run(self, run: object, *outputs: str) -> list[str]:
+        """Answers what is shown of a run that writes these outputs, one for each side."""
+        answers = []
+        for output in outputs:
+            with (
+                patch.object(try_edit, "output_in", return_value=output),
+                patch.object(try_edit, "bench_output_in", return_value=output.encode()),
+            ):
+                answers.append(run.answers_in(ROOT))
         return list(try_edit.marked(*answers))
 
     def test_lines_of_a_program(self) -> None:
-        run = try_edit.Run("some", None)
-        before, after = try_edit.answers_of(run, "a\nb\nc\n"), try_edit.answers_of(run, "a\nd\n")
-        self.assertEqual(list(try_edit.marked(before, after)), ["  a", "- b", "+ d", "- c"])
+        shown = self.shown_run(try_edit.ProgramRun("some"), "a\nb\nc\n", "a\nd\n")
+        self.assertEqual(shown, ["  a", "- b", "+ d", "- c"])
+
+    def test_label_means_the_frame_of_its_line_on_both_sides(self) -> None:
+        script = "announce 0 1\ndeliver 0 0\nannounce 0 1 as late\ndeliver late 0\n"
+        run = try_edit.ScriptRun(try_edit.benchscript.read_script("", script))
+        for first, frame in ((0, 1), (1, 2), (3, 4)):
+            sent = []
+
+            def bench(_: Path, octets: bytes) -> bytes:
+                sent.append(octets)
+                return f"5 0 1\n6 0 {first}\n5 0 1\n6 0 0\n".encode()
+
+            with patch.object(try_edit, "bench_output_in", bench):
+                answers = run.answers_in(ROOT)
+            self.assertEqual(sent[-1][-4:], bytes([6, frame, 0, 0]))
+            words = f"accepted, emits frame {frame}"
+            self.assertEqual(answers[2], ("announce 0 1 as late", words))
+            self.assertEqual(answers[3].line, "deliver late 0")
+
+    def test_label_that_names_a_frame_on_one_side_only(self) -> None:
+        script = "announce 0 1 as first\ndeliver first 0 as late\ndeliver late 0\nadvance 1\n"
+        outputs = iter([b"5 0 1\n6 0 1\n6 0 0\n2 0 0\n"])
+        run = try_edit.ScriptRun(try_edit.benchscript.read_script("", script))
+        with patch.object(try_edit, "bench_output_in", lambda *_: next(outputs)):
+            before = run.answers_in(ROOT)
+        outputs = iter([b"5 0 1\n6 25 0\n6 25 0\n2 0 0\n", b"5 0 1\n6 25 0\n"])
+        with patch.object(try_edit, "bench_output_in", lambda *_: next(outputs)):
+            after = run.answers_in(ROOT)
+        shown = [" ".join(line.split()) for line in try_edit.marked(before, after)]
+        self.assertEqual(
+            shown[-4:],
+            [
+                "- deliver late 0 accepted, emits no frame",
+                "+ deliver late 0 ends the run at line 3: line 2 was refused, "
+                "so there is no frame 'late'",
+                "- advance 1 accepted",
+                "+ what follows was not run",
+            ],
+        )
 
     def test_commands_stay_in_step_where_many_are_equal(self) -> None:
         before, after = "8 0 0\n" * 5 + "2 0 0\n", "8 0 0\n" * 4 + "8 41 0\n" + "2 0 0\n"
@@ -239,7 +374,7 @@ class Shown(unittest.TestCase):
             [
                 "  advance 1                     accepted",
                 "- walk 0 0                      arrives after 0 hops",
-                "+ walk 0 0                      ends the run at octet 5: "
+                "+ walk 0 0                      ends the run at line 2 (octet 5): "
                 "there is no point 0 (0 points so far)",
                 "- ask 0 0 02:00:00:00:00:01 1   accepted, emits frame 0",
                 "+                               what follows was not run",
@@ -252,8 +387,8 @@ class Shown(unittest.TestCase):
             [
                 "- deliver 0 0   accepted, emits no frame",
                 "+ deliver 0 0   refused 25: the element's number is older than the row's, "
-                "or equal and its metric with this",
-                "+               link not smaller",
+                "or equal and its metric over this",
+                "+               link is not smaller",
             ],
         )
 
