@@ -20,9 +20,9 @@ TRACKED = subprocess.run(
 # A citation, 'PROTOCOL' and the titles of one or more sections, in any of the forms in use.
 CITATION = re.compile(r"PROTOCOL(?:\.md)?`?,? ('[^']+'(?:(?:,| and|, and|;) '[^']+')*)")
 
-# A path below the repository; in crates/CRATE/must-fail/NAME.edit both words stand for any name.
+# A path below the repository. CRATE, NAME and 'mine' stand for any name.
 PATH = re.compile(r"\b(?:crates|docs|examples|include|tests|tools|benchmarks)/[\w./*-]*[\w*]")
-ANY_NAME = re.compile(r"\b(?:CRATE|NAME)\b")
+ANY_NAME = re.compile(r"\b(?:CRATE|NAME|mine)\b")
 
 
 def unwrapped(text: str) -> str:

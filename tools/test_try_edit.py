@@ -5,9 +5,11 @@ The tests need rt, but nothing proved and no program built.
 """
 
 import re
+import shutil
 import subprocess
 import sys
 import tempfile
+import textwrap
 import unittest
 from pathlib import Path
 from unittest.mock import patch
@@ -18,20 +20,30 @@ import trying
 from loading import load_tool
 
 try_edit = load_tool("try_edit")
+Complaint = try_edit.Complaint
 
 ROOT = try_edit.ROOT
 GUIDE = (ROOT / "docs" / "TRAINING.md").read_text()
-ERRORS = re.findall(r"^## ([0-9]\..*?)(?=^## |\Z)", GUIDE, re.MULTILINE | re.DOTALL)
 
-# What is said of each error, in this order.
-PARTS = [
-    "What goes wrong.",
-    "On the bench.",
-    "The protocol.",
-    "The definition.",
-    "The proof refuses it.",
-    "Does it loop?",
-]
+# What is said of each error before it is run, in this order.
+PARTS = ["The rule.", "The error.", "The story.", "Predict.", "Run it."]
+
+
+def section(title: str) -> str:
+    """Returns the text under a heading of the second level."""
+    (found,) = re.findall(rf"^## {title}$(.*?)(?=^## |\Z)", GUIDE, re.MULTILINE | re.DOTALL)
+    return found
+
+
+def parts_of(title: str) -> list[str]:
+    """Returns the numbered parts of a section, one for each error."""
+    text = section(title)
+    return re.findall(r"^### ([0-9]\..*?)(?=^### |\Z)", text, re.MULTILINE | re.DOTALL)
+
+
+ERRORS = re.findall(r"^## ([0-9]\..*?)(?=^## )", GUIDE, re.MULTILINE | re.DOTALL)
+ANSWERS = parts_of("Answers")
+DEFINITIONS = parts_of("Definitions and proofs")
 
 
 def call(*arguments: object) -> tuple[int, str, str]:
@@ -48,18 +60,30 @@ def block(kind: str, text: str) -> str:
 
 
 class Guide(unittest.TestCase):
-    def test_each_error_has_the_same_parts(self) -> None:
-        self.assertEqual([error[0] for error in ERRORS], list("123456"))
+    def test_each_error_has_its_parts_answers_and_definitions(self) -> None:
+        titles = [error.partition("\n")[0] for error in ERRORS]
+        self.assertEqual([title[0] for title in titles], list("123456"))
+        for parts in (ANSWERS, DEFINITIONS):
+            self.assertEqual([part.partition("\n")[0] for part in parts], titles)
         for error in ERRORS:
             with self.subTest(error[0]):
                 self.assertEqual(re.findall(r"^\*\*(.*?)\*\*", error, re.MULTILINE), PARTS)
 
-    def test_each_run_is_as_shown(self) -> None:
-        for error in ERRORS:
+    def test_each_question_is_answered(self) -> None:
+        for error, answer in zip(ERRORS, ANSWERS):
             with self.subTest(error[0]):
-                command, _, shown = block("diff", error).partition("\n")
+                asked = re.findall(r"^([0-9])\. ", error.partition("\n")[2], re.MULTILINE)
+                self.assertGreater(len(asked), 1)
+                answered = answer.partition("**The answers.**")[2].partition("**Does it loop?**")[0]
+                self.assertEqual(re.findall(r"\(([0-9])\)", answered), asked)
+
+    def test_each_run_is_as_shown(self) -> None:
+        for error, answer in zip(ERRORS, ANSWERS):
+            with self.subTest(error[0]):
+                command, _, shown = block("diff", answer).partition("\n")
                 prompt, tool, *arguments = command.split()
                 self.assertEqual((prompt, tool), ("$", "tools/try_edit"))
+                self.assertIn(f"\n    {tool} {' '.join(arguments)}\n", error)
                 status, output, complaint = call(*arguments)
                 self.assertEqual((status, complaint), (0, ""))
                 # The guide says that it leaves these out.
@@ -67,32 +91,77 @@ class Guide(unittest.TestCase):
                 self.assertEqual(shown, set_up.sub("", output))
 
     def test_each_definition_stands_in_a_file_that_is_named(self) -> None:
-        for error in ERRORS:
-            with self.subTest(error[0]):
-                named = re.findall(r"`(crates/\w+/specs/\w+\.antt)`", error)
+        for part in DEFINITIONS:
+            with self.subTest(part[0]):
+                named = re.findall(r"`(crates/\w+/specs/\w+\.antt)`", part)
                 text = "\n".join((ROOT / name).read_text() for name in named)
-                for definition in block("antt", error).strip().split("\n\n"):
+                for definition in block("antt", part).strip().split("\n\n"):
                     self.assertIn(f"\n{definition}\n", text)
-
-    def test_each_path_that_is_named_is_there(self) -> None:
-        names = re.findall(r"\b(?:crates|examples|tools)/[\w./-]*\w", GUIDE)
-        self.assertGreater(len(names), 30)
-        for name in names:
-            with self.subTest(name):
-                self.assertTrue((ROOT / name).exists())
 
     def test_each_computed_loop_is_in_the_list(self) -> None:
         runs = (ROOT / "crates" / "theorems" / "specs" / "Runs.antt").read_text()
         (listed,) = re.findall(r"^counterexamples = (.*)$", runs, re.MULTILINE)
-        answers = [re.findall(r"Does it loop\?\*\* (No|Yes: `\w+`)\.", error) for error in ERRORS]
-        self.assertEqual([len(answer) for answer in answers], [1] * 6)
-        named = [answer.removeprefix("Yes: ").strip("`") for (answer,) in answers if answer != "No"]
+        loops = [re.findall(r"Does it loop\?\*\* (No|Yes: `\w+`)\.", part) for part in ANSWERS]
+        self.assertEqual([len(loop) for loop in loops], [1] * 6)
+        named = [loop.removeprefix("Yes: ").strip("`") for (loop,) in loops if loop != "No"]
         self.assertEqual(len(named), 4)
         self.assertLessEqual(set(named), set(listed.split(" ∷ ")))
 
     def test_each_script_is_run(self) -> None:
         for script in (ROOT / "examples" / "training").iterdir():
             self.assertRegex(GUIDE, rf"\$ tools/try_edit \S+ examples/training/{script.name}\n")
+
+
+class OwnEdit(unittest.TestCase):
+    """The edit and the script that the guide shows for an edit of one's own, and bad edits."""
+
+    def setUp(self) -> None:
+        self.text = section("An edit of your own")
+        blocks = re.findall(r"(?:^    .*\n)+", self.text, re.MULTILINE)
+        self.edit, self.script, _ = map(textwrap.dedent, blocks)
+
+    def complaint_about(self, name: str, lines: str) -> str:
+        """Returns the complaint about a file with these lines below a root with one crate."""
+        with tempfile.TemporaryDirectory() as directory:
+            root = Path(directory).resolve()
+            shutil.copytree(ROOT / "crates" / "answering", root / "crates" / "answering")
+            path = root / name
+            path.parent.mkdir(parents=True, exist_ok=True)
+            path.write_text(lines)
+            with patch.object(try_edit, "ROOT", root), self.assertRaises(Complaint) as raised:
+                try_edit.read_edit(str(path))
+            return str(raised.exception)
+
+    def test_it_does_what_the_answer_says(self) -> None:
+        edit = try_edit.Edit("answering", list(try_edit.read_replacements(self.edit)))
+        script = try_edit.benchscript.read_script("mine.bench", self.script)
+        shown = "\n".join(try_edit.run_shown(edit, try_edit.ScriptRun(script)))
+        self.assertRegex(shown, r"(?m)^- deliver answer 0 +refused 24:")
+        self.assertRegex(shown, r"(?m)^\+ deliver answer 0 +accepted")
+        self.assertRegex(shown, r"(?m)^- walk 0 2 +stops after 0 hops \(41")
+        self.assertRegex(shown, r"(?m)^\+ walk 0 2 +stops after 1 hop \(41")
+
+    def test_each_complaint_is_one_that_the_tool_makes(self) -> None:
+        place, old = "crates/answering/must-fail/mine.edit", "if !r.is_active(clock) {"
+        made = [
+            self.complaint_about("mine.edit", self.edit),
+            self.complaint_about(place.removesuffix(".edit"), self.edit),
+            self.complaint_about("crates/answer/must-fail/mine.edit", self.edit),
+            self.complaint_about(place, self.edit.replace("src/lib.rt", "src/answer.rt")),
+            self.complaint_about(place, self.edit.replace("src/lib.rt", "specs/Lib.antt")),
+            self.complaint_about(place, self.edit.replace(old, "if r.is_inactive(clock) {")),
+            self.complaint_about(place, self.edit.replace(old, old.replace(" ", "  "))),
+            self.complaint_about(place, self.edit.replace(old, "if flags::has_do(q) {")),
+            f"with the edit {try_edit.DoesNotCompile('')}",
+        ]
+        with patch.object(try_edit, "answers_with", return_value=[]):
+            with self.assertRaises(Complaint) as raised:
+                try_edit.run_shown(None, None)
+        made.append(str(raised.exception))
+        told = re.findall(r"^\| `(.*?)` \|", self.text, re.MULTILINE)
+        self.assertEqual(len(told), len(made))
+        for complaint, whole in zip(told, made):
+            self.assertIn(complaint, whole)
 
 
 class Edits(unittest.TestCase):
@@ -185,7 +254,7 @@ class Edits(unittest.TestCase):
 
     def test_edit_of_no_crate(self) -> None:
         where = "put it into crates/NAME/must-fail/, where NAME is the crate that it changes"
-        for name in ("README.md", "crates/learn/mine.edit", "/tmp/must-fail/mine.edit"):
+        for name in ("README.md", "crates/learn/mine.edit", "/elsewhere/must-fail/mine.edit"):
             complaint = f"{name} lies in no crate: {where}\n"
             self.assertEqual(call(name, "scattered_rows"), (2, "", complaint))
 
