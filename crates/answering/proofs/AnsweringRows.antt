@@ -1,4 +1,4 @@
--- Whether a row answers for a destination, case by case, in the form that the proofs of the code need.
+-- Laws of whether a row answers for a destination, case by case, as the proofs of the functions need them.
 use Prim.Native.Nat.{ℕ}
 use mathlib.Core.Path.{_≡_, refl}
 use mathlib.Core.Bool.{Bool, true, false, not}

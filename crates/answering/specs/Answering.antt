@@ -1,5 +1,5 @@
--- Defines the row from which a point makes an intermediate reply. It serves only the contracts of the code. The law
--- `answering-is` gives the value of `forAnother` by `answeringRow`.
+-- Defines the row from which a point makes an intermediate reply. Only contracts of the code use the definitions of this file.
+-- The law `answering-is` gives the value of `forAnother` by `answeringRow`.
 use Prim.Native.Nat.{ℕ}
 use mathlib.Core.Bool.{cond}
 use mathlib.Core.List.{List}

@@ -16,8 +16,8 @@ pub enum Answering {
     Nobody,
 }
 
-// Reports whether the row answers for the destination q: DO = 0, and the row is active, of known number, and not older than the
-// requested number.
+// Reports whether the row answers for the destination q: DO = 0, the row is active and of known number, and the row's number is
+// not older than the requested number.
 fn answers_for(clock: u64, q: Target, r: Row) -> bool
     ensures { λ b. ⌜ b ≡ answersFor clock q r ⌝ }
 {

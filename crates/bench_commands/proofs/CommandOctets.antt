@@ -1,4 +1,4 @@
--- The octets of a command, by the cases that the code tests.
+-- Laws of the octets of a command, by the cases that the code tests.
 use Prim.Native.Nat.{ℕ, _≤_}
 use mathlib.Core.Path.{_≡_, sym}
 use mathlib.Core.Bool.{true}

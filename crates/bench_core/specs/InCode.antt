@@ -1,4 +1,4 @@
--- What the functions of the commands know about the memory, and what a call that may emit frames leaves in it.
+-- Defines what the functions of the commands know about the memory, and what a call that may emit frames leaves in it.
 use Prim.Native.Nat.{ℕ, _+_, _≤_}
 use mathlib.Core.Path.{_≡_}
 use mathlib.Core.Bool.{cond}

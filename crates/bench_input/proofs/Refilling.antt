@@ -1,4 +1,4 @@
--- The buffer: the unread octets are moved to its start, and more octets are read after them.
+-- Laws of the buffer: the unread octets are moved to its start, and more octets are read after them.
 use Prim.Native.Nat.{ℕ, suc, _+_, _-_, _<_, _≤_}
 use mathlib.Core.Path.{_≡_, refl, sym, ap, ap₂, _∙_}
 use mathlib.Core.Bool.{Bool, true, false, not, _&&_, _||_}

@@ -1,4 +1,4 @@
--- The link metrics of every pair of 16 points. 0 is no link.
+-- Defines the link metrics of every pair of 16 points. 0 is no link. PROTOCOL, 'Bench'.
 use Prim.Native.Nat.{ℕ}
 use mathlib.Core.List.{List, []}
 use lib.ListN.{getD, set, replicate}

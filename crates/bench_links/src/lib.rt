@@ -1,4 +1,4 @@
-// The bench's link metrics: one for every pair of points, the same both ways.
+// The bench's link metrics: one for every pair of points, equal both ways.
 ghost use mathlib.Core.Path.{_≡_};
 ghost use Prim.Native.Nat.{_<_};
 ghost use Rattle.bench_links.specs.Links.{linked, metricOf, noLinks};

@@ -1,4 +1,4 @@
--- The commands that emit no frames: point, advance, link and walk.
+-- Laws of the commands that emit no frames: point, advance, link and walk.
 use Prim.Native.Nat.{ℕ, _+_, _-_, _*_, _<_, _≤_}
 use mathlib.Core.Path.{_≡_, sym, ap, _∙_}
 use mathlib.Core.Bool.{Bool, true, false, not, cond}

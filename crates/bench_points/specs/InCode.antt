@@ -1,4 +1,4 @@
--- Reads what the code holds as the bench of the definitions, and states the contracts of the commands that emit no frames.
+-- Defines how what the code holds is read as the bench of the rules, and the contracts of the commands that emit no frames.
 use Prim.Native.Nat.{ℕ}
 use mathlib.Core.Path.{_≡_}
 use mathlib.Core.List.{List}

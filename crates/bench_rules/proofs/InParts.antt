@@ -1,4 +1,4 @@
--- Laws of an input that is obeyed in parts: the course of a part, and how the run goes on behind it.
+-- Laws of an input that is obeyed in parts: the course of a part, and how the run continues after it.
 use Prim.Native.Nat.{ℕ, zero, suc, _+_, _-_, _*_, _<_, _≤_}
 use mathlib.Core.Path.{_≡_, refl, sym, ap, ap₂, subst, _∙_}
 use mathlib.Core.Bool.{Bool, true, false, _||_, cond}
@@ -70,7 +70,7 @@ module _ (b : Bench) (links : List (List ℕ)) (s y : List ℕ) where
         rw (first-octet, ne-eqb n 0 (λ e. omega (arith, some, e)), le-ltb (length (s ++ y)) n longer, le-ltb (length s) n whole)
         (obeyed-alike (numberAt 1 s 0) whole)
 
--- ---- the first command, with any text before it and any octets behind it
+-- ---- the first command, with any text before it and any octets after it
 
 -- States that the command prints a line, and that it has some octets, which are all there.
 record Prints (text : List ℕ) (x : Standing) (s text′ : List ℕ) (x′ : Standing) : Type 0 where
@@ -126,7 +126,7 @@ module _ (pauses : (text s : List ℕ) → Bool) where
   paused-stays zero text x s e = refl
   paused-stays (suc n) text x s e = rw (e, or-true (eqb (length s) 0))
 
-  -- Two bounds agree behind the first command, if they agree for everything shorter.
+  -- Two bounds agree after the first command, if they agree for everything shorter.
   module _ (text : List ℕ) (x : Standing) (s : List ℕ) (n m : ℕ) where
     behind-agrees : ((c : Course) → length (behind s) ≤ n → length (behind s) ≤ m → obeyUntil pauses n c (behind s) ≡ obeyUntil pauses m c (behind s))
         → (0 < lengthOf (numberAt 1 s 0) → (length (behind s) ≤ n) × (length (behind s) ≤ m))
@@ -145,7 +145,7 @@ module _ (pauses : (text s : List ℕ) → Bool) where
       behind-agrees text x s n m (λ c. enough n m c (behind s)) (λ some. (omega (arith, l, fewer, some), omega (arith, k, fewer, some)))
       (obeyFirst text x s) (first-is text x s))
 
-  -- To obey s is to obey its first command, and then the octets behind it.
+  -- To obey s is to obey its first command, and then the octets after it.
   pub obeyed-more : (text : List ℕ) (x : Standing) (s : List ℕ) → 0 < length s → pauses text s ≡ false
       → obeyUntil pauses (length s) (going text x) s ≡ obeyUntil pauses (length (behind s)) (obeyFirst text x s) (behind s)
   unfolding obeyUntil
@@ -161,10 +161,10 @@ module _ (pauses : (text s : List ℕ) → Bool) where
           (λ some. (omega (arith, e, length-drop (lengthOf (numberAt 1 s 0)) s, some), omega arith))
           (obeyFirst text x s) (first-is text x s))
 
--- ---- a part of the input, with any text before it and any octets behind it
+-- ---- a part of the input, with any text before it and any octets after it
 
--- States that the octets s bring the bench from x to x′. Whatever octets come behind s, the whole run is to go on from x′ with
--- the octets of s that are left and with those behind.
+-- States that the octets s bring the bench from x to x′. Whatever octets come after s, the whole run continues from x′ with the
+-- octets of s that are left and then the octets after s.
 pub record Leads (text : List ℕ) (x : Standing) (s text′ : List ℕ) (x′ : Standing) : Type 0 where
   pub later : x .offset ≤ x′ .offset
   pub inside : x′ .offset ≤ x .offset + length s
@@ -186,7 +186,7 @@ module _ (text : List ℕ) (x : Standing) (s : List ℕ) (text₁ : List ℕ) (x
   abbrev long : ℕ
   long = lengthOf (numberAt 1 s 0)
 
-  -- The run obeys the first command, and then everything behind it.
+  -- The run obeys the first command, and then everything after it.
   step : (before y : List ℕ) → obeyAll (going (before ++ text) x) (s ++ y) ≡ obeyAll (going (before ++ text₁) x₁) (behind s ++ y)
   step before y =
       let some : 0 < length (s ++ y) = omega (arith, first .some, first .whole, length-append s y) in
@@ -228,7 +228,7 @@ module _ (pauses : (text s : List ℕ) → Bool) where
           ∙ ended-stays never (length (behind s)) (before ++ text′) (behind s))
       of some (going text₁ x₁) first ih = leads-further text x s text₁ x₁ first (obeyUntil pauses n (going text₁ x₁) (behind s)) (ih text₁ x₁)
 
--- If the bench obeys all octets of x and goes on, then to obey y after x is to obey x ++ y.
+-- If the bench obeys all octets of x and has not ended, then to obey y after x is to obey x ++ y.
 pub obeyed-in-parts : (text : List ℕ) (b : Standing) (x y text′ : List ℕ) (b′ : Standing) → obeyAll (going text b) x ≡ going text′ b′
     → b′ .offset ≡ b .offset + length x → obeyAll (going text b) (x ++ y) ≡ obeyAll (going text′ b′) y
 obeyed-in-parts text b x y text′ b′ is all-used =

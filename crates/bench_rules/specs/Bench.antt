@@ -1,4 +1,4 @@
--- What the bench holds, and the result of a command.
+-- Defines what the bench holds, and the result of a command. PROTOCOL, 'Bench'.
 use Prim.Native.Nat.{ℕ, _*_, _<_, _≤_}
 use mathlib.Core.Bool.{Bool, cond}
 use mathlib.Core.List.{List, _++_, map}
@@ -27,8 +27,8 @@ pub record Bench : Type 0 where
   pub frames : List KeptFrame
   pub clock : ℕ
 
--- The result of a command. After a `fault` the bench ends. After a `line` the bench prints the answer and the third number,
--- and goes on.
+-- The result of a command. After a `fault` the bench ends. After a `line` the bench prints the answer and the third number, and
+-- continues.
 pub data Done : Type 0 where
   fault : Done
   line : (answer third : ℕ) → Bench → Done

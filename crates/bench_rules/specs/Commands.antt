@@ -1,5 +1,5 @@
--- The eight commands by their operands, in the order of PROTOCOL, 'Bench'. An index of no point or frame, a 17th point, a
--- 129th frame and a clock above 2^48 - 1 are faults.
+-- Defines the eight commands by their operands. PROTOCOL, 'Bench'. An index of no point or frame, a 17th point, a 129th frame and
+-- a clock above 2^48 - 1 are faults.
 use Prim.Native.Nat.{ℕ, _+_, _*_}
 use mathlib.Core.Bool.{_&&_, cond}
 use mathlib.Core.List.{List, _∷_}

@@ -1,4 +1,4 @@
--- A command as octets.
+-- Defines a command as octets. PROTOCOL, 'Bench'.
 use Prim.Native.Nat.{ℕ}
 use mathlib.Core.Bool.{Bool, _||_, cond}
 use mathlib.Core.List.{List, [], _∷_}

@@ -1,4 +1,5 @@
--- The run of the bench: its start, the commands of an input one after another, and the text that it prints.
+-- Defines the run of the bench: its start, the commands of an input one after another, and the text that it prints. PROTOCOL,
+-- 'Bench'.
 use Prim.Native.Nat.{ℕ, zero, suc, _+_}
 use mathlib.Core.Bool.{Bool, false, _||_, cond}
 use mathlib.Core.List.{List, [], _++_}
@@ -31,8 +32,8 @@ pub data Course : Type 0 where
   going : (text : List ℕ) → Standing → Course
   ended : (text : List ℕ) → Course
 
--- After command c the bench prints its line and goes on with the octets behind it. After a fault the bench prints E and the
--- offset, and ends.
+-- After command c the bench prints its line and continues with the octets after the command. After a fault the bench prints E and
+-- the offset, and ends.
 abbrev pub afterCommand : (text : List ℕ) → Standing → (c : ℕ) → List (List ℕ) → Done → Course
 afterCommand text x c links fault = ended (text ++ faultText (x .offset))
 afterCommand text x c links (line answer third b) =

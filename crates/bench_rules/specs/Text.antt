@@ -1,4 +1,4 @@
--- What the bench prints, as octets of ASCII.
+-- Defines what the bench prints, as octets of ASCII. PROTOCOL, 'Bench'.
 use Prim.Native.Nat.{ℕ, zero, suc, _+_, _/_, _%_}
 use mathlib.Core.Bool.{cond}
 use mathlib.Core.List.{List, [], _∷_, _++_}

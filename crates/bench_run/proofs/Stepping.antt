@@ -71,7 +71,7 @@ pub fault-printed : (p : Progress) (n offset end : ℕ) → end ≡ p .written +
     → record { used = n; written = end; ended = true; points = p .points; frames = p .frames; clock = p .clock } ≡ faultFrom p n offset
 fault-printed p n offset end ee = rw ee
 
--- The part from place k to the end of s is all that lies behind k.
+-- The part from place k to the end of s is all that lies after the first k octets.
 pub to-the-end : (s : List ℕ) (k : ℕ) → take (length s - k) (drop k s) ≡ drop k s
 to-the-end s k = take-all (length s - k) (drop k s) (omega (arith, length-drop k s))
 

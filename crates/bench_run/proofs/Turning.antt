@@ -48,7 +48,7 @@ module _ (c : Cursor) (ce : c ≡ record { from = 0; filled = 0; last = false; o
 
 -- ---- a turn
 
--- More octets may be read behind those that are left.
+-- More octets may be read after those that are left.
 more-reached : (x : Standing) (l l′ : List ℕ) → Reached x l → Extends l l′ → Reached x l′
 more-reached x l l′ r m =
     record {
@@ -69,7 +69,7 @@ part-reached x l text x′ r leads =
           r .goes-on more ∙ ap (λ (t : List ℕ). obeyAll (going t x) (l ++ more)) (sym (append-nil (r .printed))) ∙ leads .goes-on (r .printed) more;
     }
 
--- After a refill the octets that were left stand first, and more may stand behind them.
+-- After a refill the octets that were left stand first, and more may stand after them.
 pub refilled : (c : Cursor) (s : State) (buffer tables slots : List ℕ) (links : List (List ℕ)) → Ready c s buffer tables slots links
     → (c′ : Cursor) (buffer′ : List ℕ) → Unread c′ buffer′ → c′ .offset ≡ c .offset → Extends (left c buffer) (left c′ buffer′)
     → Ready c′ s buffer′ tables slots links

@@ -1,5 +1,5 @@
--- What the code holds of a run while it obeys a block of the input. Only contracts of the code use the definitions of this
--- file.
+-- Defines what the code holds of a run while it obeys a block of the input. Only contracts of the code use the definitions of
+-- this file.
 use Prim.Native.Nat.{ℕ, _+_, _-_, _<_, _≤_}
 use mathlib.Core.Path.{_≡_}
 use mathlib.Core.Bool.{Bool, true, false, not, _&&_, _||_, cond}

@@ -1,4 +1,4 @@
--- Turns of the bench, each of which reads and obeys a block. Only contracts of the code use the definitions of this file.
+-- Defines the turns of the bench. Each turn reads and obeys a block. Only contracts of the code use the definitions of this file.
 use Prim.Native.Nat.{ℕ, _+_}
 use mathlib.Core.Path.{_≡_}
 use mathlib.Core.Bool.{Bool, true, false, _&&_}
@@ -14,7 +14,7 @@ use Rattle.bench_input.specs.Reading.{left, past, Unread, Extends}
 use Rattle.bench_run.specs.Blocks.{standing, pausesIn}
 
 -- States that some input has led the bench to x, with the octets `left` still to be obeyed. Whatever octets come in later, to
--- obey the whole input from the start is to go on from x with `left` and with the later octets.
+-- obey the whole input from the start is to continue from x with `left` and then the later octets.
 pub record Reached (x : Standing) (left : List ℕ) : Type 0 where
   pub input : List ℕ
   pub printed : List ℕ
@@ -39,8 +39,8 @@ pub record Ready (c : Cursor) (s : State) (buffer tables slots : List ℕ) (link
 pub record GoesOn (t : Turn) (buffer tables slots : List ℕ) (links : List (List ℕ)) : Type 0 where
   pub ready : t .ended ≡ false → Ready (t .cursor) (t .state) buffer tables slots links
 
--- States what a turn leaves that obeyed the octets of c in the buffer from x. The bench has ended exactly if the octets bring
--- it to its end. Otherwise it stands where the octets bring it, with the cursor behind those that were obeyed.
+-- States what a turn leaves that obeyed the octets of c in the buffer from x. The bench has ended exactly if the octets bring it
+-- to its end. Otherwise it stands where the octets bring it, with the cursor after the octets that were obeyed.
 pub record Turned (t : Turn) (room : ℕ) (x : Standing) (c : Cursor) (buffer tables slots : List ℕ) (links : List (List ℕ))
     : Type 0 where
   pub ended : t .ended ≡ isOver (c .last) (x .offset + length (left c buffer)) (blockCourse (c .last) room x (left c buffer))
@@ -50,7 +50,7 @@ pub record Turned (t : Turn) (room : ℕ) (x : Standing) (c : Cursor) (buffer ta
   pub course : t .ended ≡ false
       → blockCourse (c .last) room x (left c buffer) ≡ going text (standing (t .state) (t .cursor .offset) tables slots links)
 
--- States what a turn leaves that may first have read more octets behind `left₀`.
+-- States what a turn leaves that may first have read more octets after `left₀`.
 pub record ReadAndTurned (t : Turn) (room : ℕ) (x : Standing) (left₀ buffer tables slots : List ℕ) (links : List (List ℕ))
     : Type 0 where
   pub unread : Cursor

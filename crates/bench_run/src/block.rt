@@ -56,8 +56,8 @@ fn print_line(p: Progress, rest: &[u8], x: Printed, text: &mut [u8]) -> Progress
     }
 }
 
-// Writes the line of a fault at this offset of the input. All n octets of the block count as used, because nothing behind a
-// fault is obeyed.
+// Writes the line of a fault at this offset of the input. All n octets of the block count as used, because nothing after a fault
+// is obeyed.
 fn print_fault(p: Progress, n: usize, offset: u64, text: &mut [u8]) -> Progress
     requires { ⌜ p .written + 64 ≤ length (now text) ⌝ }
     ensures { λ r. ⌜ r ≡ record {

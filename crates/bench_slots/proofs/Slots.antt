@@ -1,4 +1,4 @@
--- Frames in an output and in the slots.
+-- Laws of frames in an output and in the slots.
 use Prim.Native.Nat.{ℕ, suc, _+_, _-_, _*_, _<_, _≤_}
 use mathlib.Core.Path.{_≡_, sym, ap, subst, _∙_}
 use mathlib.Core.Bool.{true, false, not}

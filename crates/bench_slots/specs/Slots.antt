@@ -1,4 +1,4 @@
--- The frames of the bench, as the code holds them. Each frame has a slot of 264 octets: the number of its sender (1), the
+-- Defines the frames of the bench, as the code holds them. Each frame has a slot of 264 octets: the number of its sender (1), the
 -- receiver address (6) and the element (at most 257).
 use Prim.Native.Nat.{ℕ, zero, suc, _+_, _*_, _≤_}
 use mathlib.Core.Bool.{cond}
@@ -31,7 +31,7 @@ unfoldable pub putFrames : (slots : List ℕ) → (sender k : ℕ) → List (Lis
 putFrames slots sender k [] = slots
 putFrames slots sender k (f ∷ frames) = putFrames (overwrite slots (264 * k) (sender ∷ f)) sender (k + 1) frames
 
--- n whole frames, by their Length octets, stand at the start of s.
+-- States that n whole frames, by their Length octets, stand at the start of s.
 unfoldable pub Holds : (n : ℕ) → (s : List ℕ) → Type 0
 Holds zero s = Unit {0}
 Holds (suc n) s = (8 + getD s 7 0 ≤ length s) × Holds n (drop (8 + getD s 7 0) s)

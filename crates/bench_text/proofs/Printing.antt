@@ -1,4 +1,4 @@
--- Numbers as text, and lines put together from them.
+-- Laws of numbers as text, and of lines put together from them.
 use Prim.Native.Nat.{ℕ, zero, suc, _+_, _-_, _*_, _/_, _%_, _^_, _<_, _≤_}
 use mathlib.Core.Path.{_≡_, refl, sym, ap, ap₂, _∙_}
 use mathlib.Core.Bool.{Bool, true, false}

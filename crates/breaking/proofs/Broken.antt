@@ -183,7 +183,7 @@ module _ (test : Row → Bool) (t : List ℕ) (n : ℕ) (out₀ : List ℕ) (at 
       all-written =
           sym (ap (λ (m : List LostDestination). overwrite out (so-far .place) (begunAfter (so-far .lost) m)) none-left) ∙ stands .written
 
--- ---- all rows, and the errors closed
+-- ---- all rows, and the RERRs closed
 
 module _ (test : Row → Bool) (t : List ℕ) (n : ℕ) (ne : n ≡ rows t) (at : ℕ) (r : Reported) (e : r ≡ reportedFrom at (allLost test t n)) where
   le : r .lost ≡ length (allLost test t n)

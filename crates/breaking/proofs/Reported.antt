@@ -1,4 +1,4 @@
--- The errors of a break, written one destination after another and closed, are the frames of the rules.
+-- Laws of the RERRs of a break: written one destination after another and closed, they are the frames of the rules.
 use Prim.Native.Nat.{ℕ, zero, suc, _+_, _-_, _*_, _/_, _%_, _<_, _≤_}
 use mathlib.Core.Path.{_≡_, refl, sym, ap, ap₂, _∙_}
 use mathlib.Core.Bool.{Bool, true, false, cond}
@@ -199,7 +199,7 @@ unfolding each
 errors-later entries i zero = refl
 errors-later entries i (suc n) = ap₂ _∷_ (error-later entries i) (errors-later entries (suc i) n)
 
--- The errors are the RERR for the first 25 entries, and then the errors for the rest.
+-- The RERRs of a break are the RERR for the first 25 entries, and then the RERRs for the rest.
 errors-next : (entries : List LostDestination) → 1 ≤ length entries → errorsFor entries ≡ errorAt entries 0 ∷ errorsFor (drop 25 entries)
 unfolding errorsFor each
 errors-next entries one =

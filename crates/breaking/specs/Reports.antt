@@ -1,4 +1,4 @@
--- The errors of a break while the code writes them: each RERR is begun with a count of 25, and the last RERR gets its own
+-- Defines the RERRs of a break while the code writes them. Each RERR is begun with a count of 25, and the last RERR gets its own
 -- count in the end. Only contracts of the code use the definitions of this file. They are no part of what a call is.
 use Prim.Native.Nat.{ℕ, suc, _+_, _*_, _/_, _%_}
 use mathlib.Core.Bool.{cond}
@@ -65,7 +65,7 @@ reportedFrom at entries =
       full = filledBy (length entries);
     }
 
--- Returns the output s with the count of its last RERR. The errors for k destinations stand in s from place `at` on.
+-- Returns the output s with the count of its last RERR. The RERRs for k destinations stand in s from place `at` on.
 unfoldable pub closed : List ℕ → ℕ → ℕ → List ℕ
 closed s at k =
     cond (eqb (k % most Rerr) 0) s (overwrite s (at + octetsFor (most Rerr) * (k / most Rerr)) (errorStart (k % most Rerr)))

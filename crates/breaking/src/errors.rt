@@ -1,5 +1,5 @@
-// Writes the errors of a break, one destination after another, 25 to a RERR. The number of destinations is not known before
-// the last is written. Each RERR is therefore begun with a count of 25, and the last RERR gets its own count in the end.
+// Writes the RERRs of a break, one destination after another, 25 to a RERR. The number of destinations is not known before the
+// last is written. Each RERR is therefore begun with a count of 25, and the last RERR gets its own count in the end.
 use calls::Emitted;
 use element::LostDestination;
 use element::RerrFields;

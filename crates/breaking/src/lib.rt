@@ -1,4 +1,4 @@
-// Reports a broken neighbour: writes the errors that name the rows that break, and breaks the rows.
+// Reports a broken neighbour: writes the RERRs that name the rows that break, and breaks the rows.
 pub mod break_neighbour;
 mod errors;
 mod report;

@@ -1,4 +1,4 @@
-// Writes the errors of a break, in a pass over the rows that changes none of them.
+// Writes the RERRs of a break, in a pass over the rows that changes none of them.
 use crate::errors;
 use crate::errors::Reported;
 use crate::rows;
@@ -76,8 +76,8 @@ fn report_rows(
     reported
 }
 
-// Writes the errors for a broken neighbour, starting at place `at`. Returns how many destinations the errors name, and the
-// place after the errors.
+// Writes the RERRs for a broken neighbour, starting at place `at`. Returns how many destinations the RERRs name, and the place
+// after the RERRs.
 pub fn report(
     output: &mut [u8],
     at: usize,

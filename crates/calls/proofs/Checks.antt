@@ -1,5 +1,5 @@
--- Laws of going through a list of checks one by one, in the form that the proof of a `return` needs. Other laws here say what
--- the answer tells about the call.
+-- Laws of going through a list of checks one by one, as the proof of a `return` needs them. Other laws here say what the answer
+-- tells about the call.
 use Prim.Native.Nat.{ℕ, _≤_}
 use mathlib.Core.Path.{_≡_, refl, sym, ap, ap₂, _∙_}
 use mathlib.Core.Bool.{Bool, true, false, not, _||_, cond}

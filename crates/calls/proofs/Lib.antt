@@ -1,3 +1,3 @@
--- The laws of the shared parts of the calls.
+-- Laws of the shared parts of the calls.
 pub mod Checks
 pub mod Neighbours

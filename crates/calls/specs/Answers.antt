@@ -1,4 +1,4 @@
--- Defines the number and the values that each answer of the code stands for (PROTOCOL, 'Frames and answers').
+-- Defines the number and the values that each answer of the code stands for. PROTOCOL, 'Frames and answers'.
 use Prim.Native.Nat.{ℕ}
 use mathlib.Core.Bool.{cond}
 use mathlib.Core.List.{List, [], _∷_}

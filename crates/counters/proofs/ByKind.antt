@@ -1,4 +1,4 @@
--- The counters after numbering, for a RREQ and for a RANN.
+-- Laws of the counters after numbering, for a RREQ and for a RANN.
 use mathlib.Core.Path.{_≡_, sym, ap, _∙_}
 use mathlib.Core.Bool.{Bool, true, false, cond}
 use Rattle.counters.specs.declared.SequenceNumber.{SequenceNumber}

@@ -1,4 +1,4 @@
--- Defines how a point's counters advance when it numbers a new element (PROTOCOL, 'Counters').
+-- Defines how a point's counters advance when it numbers a new element. PROTOCOL, 'Counters'.
 use mathlib.Core.Bool.{Bool, cond}
 use Rattle.counters.specs.Numbers.{nextNumber, nextRequest}
 use Rattle.counters.specs.declared.own.OwnCounters.{OwnCounters}

@@ -1,4 +1,4 @@
--- Defines how sequence numbers and request IDs step, and which of two sequence numbers is newer or older (PROTOCOL, 'Counters').
+-- Defines how sequence numbers and request IDs step, and which of two sequence numbers is newer or older. PROTOCOL, 'Counters'.
 use Prim.Native.Nat.{ℕ, _+_, _-_, _%_, _^_}
 use mathlib.Core.Bool.{Bool, cond}
 use lib.Dec.{ltb}

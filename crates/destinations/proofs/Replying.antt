@@ -73,7 +73,7 @@ pub reply-numbered : (n : SequenceNumber) (request : RequestId) (c : OwnCounters
 unfolding advancedFor
 reply-numbered n request c e = ap (λ (k : OwnCounters). k .number) e
 
--- A reply for oneself is the reply of the rules.
+-- A point's reply for itself is the reply of the rules.
 module _ (t s v : List ℕ) (a : Arrival) (p : PathInfo) (n m : SequenceNumber) (me : m ≡ n) (at : ℕ) (h : Head) (he : h ≡ headAt t)
     (f : RrepFields) (fe : f ≡ replyFields p (h .own) m (record { 0 = 0 }) (record { 0 = 0 })) where
   pub oneself-written : v ≡ overwrite s at (frameOctets (record { receiver = a .transmitter; element = rrep f [] } ∷ []))
@@ -159,7 +159,7 @@ module _ (t : List ℕ) (a : Arrival) (p : PathInfo) (q : Target) (before : Repl
       → v ≡ overwrite s (before .place) (frameOctets (toThis .replies))
   answer-output x e s v ve = ve ∙ ap (λ (y : Answered). overwrite s (before .place) (frameOctets (y .replies))) (sym e)
 
-  -- The result is a reply for oneself with the number m.
+  -- The result is a point's reply for itself with the number m.
   module _ (m : SequenceNumber) (number-is : toThis .number ≡ m) (replies-are : toThis .replies ≡ ownReply a p (own t) m ∷ []) where
     own-said-place : (r : Replied) → r ≡ record { number = m; frames = before .frames + 1; place = before .place + 40 } → r ≡ repliedAfter before toThis
     unfolding reply

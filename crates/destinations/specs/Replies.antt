@@ -1,4 +1,4 @@
--- The replies while the code writes them. Only contracts of the code use the definitions of this file.
+-- Defines the replies while the code writes them. Only contracts of the code use the definitions of this file.
 use Prim.Native.Nat.{ℕ, _+_}
 use lib.ListN.{length}
 use Rattle.rules.specs.Exit.{frameOctets}

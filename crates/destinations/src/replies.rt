@@ -67,7 +67,7 @@ fn reply_fields(
     RrepFields { path, source }
 }
 
-// Returns the fields of a reply for oneself: own address and number, hop count 0, metric 0.
+// Returns the fields of a point's reply for itself: own address and number, hop count 0, metric 0.
 fn own_fields(p: PathInfo, own: Address, number: SequenceNumber) -> RrepFields
     ensures { λ r. ⌜ r ≡ replyFields p own number (record { 0 = 0 }) (record { 0 = 0 }) ⌝ }
 {
@@ -91,7 +91,7 @@ fn write_reply(output: &mut [u8], at: usize, a: Arrival, f: RrepFields) -> usize
     writing::start_rrep(output, at, a.transmitter, f, 0)
 }
 
-// Returns the requested number if it is newer than the own number, and the own number otherwise.
+// Returns the requested number if it is newer than the own number, otherwise the own number.
 fn newer_of(own: SequenceNumber, requested: SequenceNumber) -> SequenceNumber
     ensures { λ r. ⌜ r ≡ newerOf own requested ⌝ }
 {
@@ -101,7 +101,7 @@ fn newer_of(own: SequenceNumber, requested: SequenceNumber) -> SequenceNumber
     own
 }
 
-// Returns the number of a reply for oneself, where `number` is the own number before the reply. The counters of the point
+// Returns the number of a point's reply for itself, where `number` is the own number before the reply. The counters of the point
 // advance as for a RANN, which takes no request ID.
 fn reply_number(head: Head, number: SequenceNumber) -> SequenceNumber
     ensures { λ r. ⌜ r ≡ nextNumber number ⌝ }
@@ -110,7 +110,7 @@ fn reply_number(head: Head, number: SequenceNumber) -> SequenceNumber
     own::numbered(OwnCounters { number, request }, false).number
 }
 
-// Writes a reply for oneself, where `number` is the own number before the reply.
+// Writes a point's reply for itself, where `number` is the own number before the reply.
 fn reply_as_oneself(
     output: &mut [u8],
     table: &[u8],
@@ -171,8 +171,8 @@ fn reply_for_another(
     }
 }
 
-// Replies to one destination: the own address, another address, or all ones. A reply to all ones is written only if a reply is
-// wanted.
+// Replies to one destination: the own address, another address, or all ones. For all ones it replies only if the RREQ has 'reply
+// wanted'.
 fn reply_to(
     output: &mut [u8],
     table: &[u8],

@@ -1,4 +1,4 @@
--- The bits of flags, as the code computes them.
+-- Laws of the bits of flags, as the code computes them.
 use Prim.Native.Nat.{ℕ, _/_, _%_}
 use mathlib.Core.Path.{_≡_, refl, ap}
 use lib.Dec.{eqb}

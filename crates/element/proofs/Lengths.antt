@@ -1,4 +1,4 @@
--- Lengths and counts: their bounds for each type, and that each fits its octet.
+-- Laws of Lengths and counts: their bounds for each type, and that each fits its octet.
 use Prim.Native.Nat.{ℕ, _<_, _≤_}
 use mathlib.Core.Path.{_≡_}
 use mathlib.Core.Bool.{Bool, true, _&&_}

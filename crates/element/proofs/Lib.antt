@@ -1,4 +1,4 @@
--- Laws about elements, for the proofs of this crate and of its callers.
+-- Laws of elements, for the proofs of this crate and of crates that use it.
 pub mod Lengths
 pub mod Passing
 pub mod Scans

@@ -1,5 +1,5 @@
--- The octets of entries one after another. Entries are read back from their octets, and writing the entries read gives the octets
--- again. The laws are proved once for all kinds of entry.
+-- Laws of the octets of entries one after another. Entries are read back from their octets, and writing the entries read gives
+-- the octets again. The laws are proved once for all kinds of entry.
 use Prim.Native.Nat.{ℕ, zero, suc, _+_, _*_, _≤_}
 use mathlib.Core.Path.{_≡_, refl, sym, ap, ap₂, _∙_}
 use mathlib.Core.List.{List, [], _∷_, _++_, append-assoc, flatMap}

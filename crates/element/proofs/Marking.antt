@@ -1,4 +1,4 @@
--- The search by marks for an address that stands twice in a list. It goes from the last entry down.
+-- Laws of the search by marks for an address that stands twice in a list. The search goes from the last entry down.
 use Prim.Native.Nat.{ℕ, zero, suc, _+_, _-_, _<_, _≤_}
 use mathlib.Core.Path.{_≡_, refl, sym, ap, _∙_}
 use mathlib.Core.Bool.{Bool, true, false, _&&_, _||_, not, or-true, true≢false}

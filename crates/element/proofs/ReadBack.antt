@@ -1,5 +1,5 @@
--- Read-back. A written element passes refusals 6, 7 and 8, and is read as the fields and the list that were written. Conversely,
--- octets that pass refusals 6, 7 and 8 are the octets that writing their fields gives.
+-- Laws of reading back. A written element passes refusals 6, 7 and 8, and is read as the fields and the list that were written.
+-- Conversely, octets that pass refusals 6, 7 and 8 are the octets that writing their fields gives.
 use Prim.Native.Nat.{ℕ, _+_, _<_, _≤_}
 use mathlib.Core.Path.{_≡_, refl, sym, ap, ap₂, _∙_}
 use mathlib.Core.Bool.{true, false}

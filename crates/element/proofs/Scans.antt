@@ -1,4 +1,4 @@
--- Lists of entries by index, and the loops that scan their addresses.
+-- Laws of lists of entries by index, and of the loops that scan their addresses.
 use Prim.Native.Nat.{ℕ, zero, suc, _+_, _-_, _*_, _/_, _^_, _<_, _≤_}
 use mathlib.Core.Path.{_≡_, refl, sym, ap, _∙_}
 use mathlib.Core.Bool.{Bool, true, false, _&&_, _||_, not}

@@ -1,4 +1,4 @@
--- How many octets the parts of an element have.
+-- Laws of how many octets the parts of an element have.
 use Prim.Native.Nat.{ℕ, _+_}
 use mathlib.Core.Path.{_≡_, refl, ap, _∙_}
 use lib.ListN.{length, length-append}

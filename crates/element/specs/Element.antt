@@ -1,4 +1,4 @@
--- The four elements as values, with their lists. PROTOCOL, 'Elements'.
+-- Defines the four elements as values, with their lists. PROTOCOL, 'Elements'.
 use Prim.Native.Nat.{ℕ}
 use mathlib.Core.List.{List, [], _∷_, _++_}
 use lib.ListN.{length}

@@ -1,4 +1,5 @@
--- The entries in the list part of an element, and the items of an ask: by index, and all of them in order. PROTOCOL, 'Elements'.
+-- Defines the entries in the list part of an element, and the items of an ask: by index, and all of them in order. PROTOCOL,
+-- 'Elements'.
 use Prim.Native.Nat.{ℕ, zero, suc, _*_, _/_}
 use mathlib.Core.List.{List, [], _∷_}
 use lib.ListN.{length, getD}

@@ -1,5 +1,5 @@
--- The bits of flags. PROTOCOL, 'Elements'. All bits that have no name here are reserved: a point ignores them and passes them on
--- as received.
+-- Defines the bits of flags. PROTOCOL, 'Elements'. All bits that have no name here are reserved. A point ignores reserved bits
+-- and passes them on as received.
 use Prim.Native.Nat.{ℕ, _+_, _*_, _/_, _%_, _^_}
 use mathlib.Core.Bool.{Bool}
 use lib.Dec.{eqb}

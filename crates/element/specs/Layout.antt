@@ -1,5 +1,5 @@
--- PROTOCOL, 'Elements'. For each type: the ID, the Length with N entries, how many entries are allowed, and the widths of the
--- fields. For each kind of list: how many octets an entry has.
+-- Defines, for each type of element, the ID, the Length with N entries, how many entries are allowed, and the widths of the
+-- fields. Defines, for each kind of list, how many octets an entry has. PROTOCOL, 'Elements'.
 use Prim.Native.Nat.{ℕ, _+_, _*_, _%_, _≤_}
 use mathlib.Core.Path.{_≡_}
 use mathlib.Core.Bool.{Bool, _&&_, _||_, cond}
@@ -48,7 +48,7 @@ most Rerr = 25
 abbrev pub countOk : Kind → ℕ → Bool
 countOk k n = leb (fewest k) n && leb n (most k)
 
--- Reports whether a Length fits the type and the count n.
+-- Reports whether a Length is the one for the type and n entries, and n is inside the range of the type.
 unfoldable pub fits : Kind → ℕ → ℕ → Bool
 fits k long n = eqb long (lengthWith k n) && countOk k n
 

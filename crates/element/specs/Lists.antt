@@ -1,5 +1,5 @@
--- The addresses in a list part or in the items of an ask, and what refusals 9 and 10 judge in them. PROTOCOL, 'Refusals'. No call
--- judges the dependents of a RREP: receive passes them on unread.
+-- Defines the addresses in a list part or in the items of an ask, and what refusals 9 and 10 judge in them. PROTOCOL, 'Refusals'.
+-- No call judges the dependents of a RREP: receive passes them on unread.
 use Prim.Native.Nat.{ℕ, _-_, _^_}
 use mathlib.Core.Bool.{Bool, false, _&&_, _||_, not}
 use mathlib.Core.List.{List, [], _∷_}

@@ -1,4 +1,5 @@
--- Elements as octets: refusals 6, 7 and 8, reading and writing. PROTOCOL, 'Elements' and 'Refusals'. What is defined here:
+-- Defines elements as octets: refusals 6, 7 and 8, reading and writing. PROTOCOL, 'Elements' and 'Refusals'. What is defined
+-- here:
 --   wrongLength, otherId, misfit          refusals 6, 7 and 8
 --   kindIn, countAs, listPart             the type, N, and the octets of the list
 --   readElement                           the element that octets hold
@@ -43,7 +44,8 @@ wrongLength s = ltb (length s) 2 || not (eqb (2 + getD s 1 0) (length s))
 unfoldable pub otherId : List ℕ → Bool
 otherId s = not (known (getD s 0 0))
 
--- 8. Length does not fit the type and N.
+-- 8. Length is not what PROTOCOL, 'Elements', gives for the type and N, or N is outside the range of the type, or the element
+-- ends before its N.
 unfoldable pub misfit : List ℕ → Bool
 misfit s = not (fits (kindIn s) (getD s 1 0) (countAs (kindIn s) s))
 

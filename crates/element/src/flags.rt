@@ -1,4 +1,5 @@
-// The bits in the flags of a RREQ and in the flags of its destinations. Reserved bits are ignored and passed on as received.
+// The bits in the flags of a RREQ and in the flags of its destinations. A point ignores reserved bits and passes them on as
+// received.
 use crate::PathInfo;
 use crate::Target;
 ghost use mathlib.Core.Path.{_≡_};

@@ -1,4 +1,4 @@
--- C receives the exit of the call.
+-- Laws of what C receives: it is the exit of the call.
 use Prim.Native.Nat.{ℕ, _≤_}
 use mathlib.Core.Path.{_≡_, refl, sym, ap, _∙_}
 use mathlib.Core.List.{List}

@@ -1,4 +1,4 @@
--- What the calls return to C.
+-- Defines what the calls return to C. PROTOCOL, 'Frames and answers'.
 use Prim.Native.Nat.{ℕ}
 use mathlib.Core.List.{List}
 use Rattle.octets.specs.LittleEndian.{zeros}

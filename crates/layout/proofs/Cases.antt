@@ -1,4 +1,4 @@
--- The tests of a head and of a row by cases, in the form that the proofs of the code need.
+-- Laws of the tests of a head and of a row, case by case, as the proofs of the functions need them.
 use Prim.Native.Nat.{ℕ}
 use mathlib.Core.Path.{_≡_, ap}
 use mathlib.Core.Bool.{Bool, true, false, _&&_}

@@ -1,4 +1,4 @@
--- The laws of heads and rows, for the proofs of this crate and of crates that use it.
+-- Laws of heads and rows, for the proofs of this crate and of crates that use it.
 pub mod Cases
 pub mod HeadAndRows
 pub mod HeldRows

@@ -1,4 +1,4 @@
--- Defines addresses. An address is six octets, read as a little-endian number: the first octet is the lowest.
+-- Defines addresses. PROTOCOL, 'Words'. An address is six octets, read as a little-endian number: the first octet is the lowest.
 use Prim.Native.Nat.{ℕ, _%_}
 use mathlib.Core.Bool.{Bool, _&&_, not}
 use mathlib.Core.List.{List}

@@ -1,4 +1,4 @@
--- Defines where the head and the rows stand in the octets of a table (PROTOCOL, 'Table').
+-- Defines where the head and the rows stand in the octets of a table. PROTOCOL, 'Table'.
 use Prim.Native.Nat.{ℕ, _+_, _-_, _*_, _/_, _%_, _≤_}
 use mathlib.Core.Bool.{Bool, true, _&&_}
 use mathlib.Core.List.{List, [], _∷_}
@@ -20,7 +20,7 @@ rowOctets = 32
 abbrev pub mostRows : ℕ
 mostRows = 128
 
--- Returns the place where row i begins, after the head and the rows before it.
+-- Returns the octet at which row i starts, after the head and the rows before it.
 abbrev pub place : ℕ → ℕ
 place i = headOctets + rowOctets * i
 
@@ -28,7 +28,8 @@ place i = headOctets + rowOctets * i
 unfoldable pub sized : List ℕ → Bool
 sized t = leb (place 1) (length t) && (leb (length t) (place mostRows) && eqb ((length t - headOctets) % rowOctets) 0)
 
--- States the bounds on the length of a table. Many functions that are lent a table require it.
+-- States that octets are long enough for a head, and no longer than a table of 128 rows. Many functions that are lent a table
+-- require it.
 pub record Sized (t : List ℕ) : Type 0 where
   pub with-head : headOctets ≤ length t
   pub not-longer : length t ≤ place mostRows

@@ -1,5 +1,5 @@
--- Defines marks of addresses, by which a function sees that an address is new to it. Marks serve only the contracts of the code.
--- They are no part of what a table is.
+-- Defines marks of addresses, by which a function sees that an address is new to it. Only contracts of the code use the
+-- definitions of this file. They are no part of what a table is.
 use Prim.Native.Nat.{ℕ, _*_, _/_, _%_, _^_}
 use lib.Bits.{bitAnd}
 use Rattle.layout.specs.declared.address.Address.{Address}

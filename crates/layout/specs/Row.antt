@@ -1,4 +1,5 @@
--- Defines the head and the rows of a table as values: which are legal (PROTOCOL, 'Table'), and the steps that change them.
+-- Defines the head and the rows of a table as values: which are legal, and the steps that change them. PROTOCOL, 'Table'. What is
+-- defined here:
 --   freshHead, headWith, headOk           the head of a fresh table; a head with other counters and clock; a legal head
 --   freeRow, isFree, isHeld, rowOk        a free row; a legal row that is free, that is held, that is either
 --   active, isThrough                     a valid row that has not expired; an active row with a given next hop
@@ -27,7 +28,7 @@ maxClock = 2 ^ 48 - 1
 abbrev pub maxExpiry : ℕ
 maxExpiry = 2 ^ 48 + 2 ^ 32
 
--- The metric of a row that a RERR or a break has raised.
+-- The metric that a row takes together with a newer number from a RERR, or with a stepped number in a break.
 abbrev pub unreachable : Metric
 unreachable = record { 0 = 2 ^ 32 - 1 }
 
@@ -65,7 +66,8 @@ freeRow =
 unfoldable pub isFree : Row → Bool
 isFree r = allZero (rowNumbers r)
 
--- If the number is not known, the number is 0, the hop count is 1, and the next hop equals the destination.
+-- Reports whether the number is 0, the hop count is 1, and the next hop equals the destination. Refusal 21 asks it of a row whose
+-- number is not known.
 unfoldable pub isUnnumbered : Row → Bool
 isUnnumbered r = eqb (r .number .0) 0 && eqb (r .hops .0) 1 && same (r .next) (r .destination)
 
@@ -100,7 +102,7 @@ isThrough c hop r = active c r && same (r .next) hop
 
 -- ---- steps that take a row and give it back
 
--- Makes the row valid with the given next hop, metric, hop count and expiry. A number that it has stays.
+-- Makes the row valid with the given next hop, metric, hop count and expiry. The number and 'number known' stay.
 unfoldable pub renewed : Address → Metric → HopCount → ℕ → Row → Row
 renewed next metric hops expiry r =
     record {
@@ -130,7 +132,7 @@ numbered number r =
       expiry = r .expiry;
     }
 
--- Invalidates the row. All fields but the status stay.
+-- Invalidates the row: sets its status to 2. All its other fields stay.
 unfoldable pub invalidated : Row → Row
 invalidated r =
     record {

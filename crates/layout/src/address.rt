@@ -27,8 +27,8 @@ impl Address {
         (self.0 % 2 == 0) & (self.0 != 0)
     }
 
-    // Returns the mark of the address, a number from 0 to `last`. Callers pass a power of two less one as `last`. The last
-    // octets of the address count most, because boxes of one maker share their first octets.
+    // Returns the mark of the address, a number from 0 to `last`. Callers pass a power of two less one as `last`. The last octets
+    // of the address count most, because hardware of one maker shares its first octets.
     pub fn mark(self, last: usize) -> usize
         ensures { λ r. ⌜ r ≡ mark last self ⌝ }
     {

@@ -19,10 +19,10 @@ pub const ROW_OCTETS: usize = 32;
 
 pub const MOST_ROWS: usize = 128;
 
-// Clocks have 48 bits.
+// The largest clock, 2^48 - 1.
 pub const MAX_CLOCK: u64 = 281474976710655;
 
-// The metric of a row that a RERR or a break has raised.
+// The metric that a row takes together with a newer number from a RERR, or with a stepped number in a break.
 const UNREACHABLE: u32 = 4294967295;
 
 // A head and a row have their fields in the order of the octets. In a table, `zero2`, `zero8` and `zero` are 0 (refusal 21). In
@@ -104,7 +104,7 @@ impl Row {
         self.is_active(clock) & (self.next.0 == hop.0)
     }
 
-    // Makes the row valid with the given path. The number stays.
+    // Makes the row valid with the given next hop, metric, hop count and expiry. The number and 'number known' stay.
     pub fn renewed(mut self, next: Address, metric: Metric, hops: HopCount, expiry: u64) -> Self
         ensures { λ r. ⌜ r ≡ renewed next metric hops expiry self ⌝ }
     {
@@ -125,7 +125,7 @@ impl Row {
         self
     }
 
-    // Invalidates the row. It stays held and keeps its number.
+    // Invalidates the row: sets its status to 2. All its other fields stay.
     pub fn invalidated(mut self) -> Self
         ensures { λ r. ⌜ r ≡ invalidated self ⌝ }
     {

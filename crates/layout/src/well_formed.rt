@@ -6,7 +6,7 @@ use crate::row::Row;
 ghost use mathlib.Core.Path.{_≡_};
 ghost use Rattle.layout.specs.Row.{boundsOk, headOk, isHeld, isOther, isUnnumbered, statusOk};
 
-// 2^48 + 2^32.
+// The largest expiry of a row, 2^48 + 2^32.
 const MAX_EXPIRY: u64 = 281479271677952;
 
 impl Address {

@@ -1,4 +1,4 @@
--- Refusal 27, case by case, in the form that the proofs of the code need.
+-- Laws of refusal 27, case by case, as the proofs of the functions need them.
 use Prim.Native.Nat.{ℕ, _+_}
 use mathlib.Core.Path.{_≡_, refl, sym, ap₂, _∙_}
 use mathlib.Core.Bool.{false, cond}

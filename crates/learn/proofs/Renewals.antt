@@ -1,4 +1,4 @@
--- Steps 1 and 2, case by case, in the form that the proofs of the code need.
+-- Laws of steps 1 and 2, case by case, as the proofs of the functions need them.
 use Prim.Native.Nat.{ℕ, _+_}
 use mathlib.Core.Path.{_≡_, refl, sym, ap, _∙_}
 use mathlib.Core.Bool.{Bool, true, false, not, _&&_, _||_}

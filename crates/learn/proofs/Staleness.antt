@@ -1,4 +1,4 @@
--- Refusal 25, case by case, in the form that the proofs of the code need.
+-- Laws of refusal 25, case by case, as the proofs of the functions need them.
 use Prim.Native.Nat.{ℕ, _+_}
 use mathlib.Core.Path.{_≡_}
 use mathlib.Core.Bool.{Bool, true, false, _&&_}

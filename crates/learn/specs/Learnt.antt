@@ -1,5 +1,5 @@
--- Defines the table that `learn_by_rows` leaves. That function both checks the rows and learns. The definition serves only the
--- contracts of the code.
+-- Defines the table that `learn_by_rows` leaves. `learn_by_rows` both checks the rows and learns. Only contracts of the code use
+-- the definitions of this file.
 use Prim.Native.Nat.{ℕ}
 use mathlib.Core.List.{List}
 use Rattle.element.specs.declared.PathInfo.{PathInfo}

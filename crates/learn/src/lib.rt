@@ -1,5 +1,4 @@
-// Checks a received RANN, RREQ or RREP against the rows, and learns from it. The checks ask whether the element is stale, and
-// whether enough rows are free.
+// Checks a received RANN, RREQ or RREP against the table, and learns from it. The checks are refusals 24, 25 and 27.
 mod room;
 mod stale;
 mod steps;

@@ -1,4 +1,4 @@
-// Checks refusal 27: the element needs more new rows than are free.
+// Checks refusal 27: the call needs more new rows than are free, in whatever places the free rows lie.
 use element::PathInfo;
 use rules::Arrival;
 use table::search;
@@ -12,7 +12,7 @@ ghost use Rattle.table.specs.Table.{findRow, freeRows};
 ghost use Rattle.layout.specs.Layout.{Sized};
 ghost use Rattle.rules.specs.Receive.{rowsNeeded};
 
-// Returns how many new rows a destination needs, from the search for its row: one if it has none, otherwise zero.
+// Returns how many new rows a destination needs, from the search for its row: 0 if it has a row, 1 if it has none.
 fn new_rows(found: Found) -> usize
     ensures { λ r. ⌜ r ≡ cond (isNothing found) 1 0 ⌝ }
     ensures { λ r. ⌜ r ≤ 1 ⌝ }
@@ -23,8 +23,9 @@ fn new_rows(found: Found) -> usize
     }
 }
 
-// Returns how many new rows the subject needs, plus those of the transmitter if it is a different address. `found` is the result
-// of the search for the subject's row.
+// Returns how many new rows the call needs: a row for the subject if none is held for the subject, and a row for the transmitter
+// if the transmitter is not the subject and none is held for the transmitter. `found` is the result of the search for the
+// subject's row.
 fn rows_needed(table: &[u8], found: Found, a: Arrival, p: PathInfo) -> usize
     requires { ⌜ Sized (now table) ⌝ }
     requires { ⌜ found ≡ findRow (now table) (p .subject) ⌝ }

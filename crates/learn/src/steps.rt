@@ -1,4 +1,4 @@
-// Does steps 1 and 2 of docs/PROTOCOL.md, 'Learning': the subject's row and the transmitter's row.
+// Does steps 1 and 2 (docs/PROTOCOL.md, 'Learning'): makes or changes the subject's row and the transmitter's row.
 use calls::here;
 use counters::HopCount;
 use counters::Metric;
@@ -50,7 +50,7 @@ fn row_or_new(table: &[u8], found: Found, destination: Address) -> Row
     }
 }
 
-// Returns clock + lifetime, or the stored expiry if the row was active and its stored expiry is larger.
+// Returns clock + lifetime, or the stored expiry if the row was active before this step and its stored expiry is larger.
 fn expiry_of(clock: u64, lifetime: u32, r: Row) -> u64
     requires { ⌜ clock ≤ maxClock ⌝ }
     ensures { λ e. ⌜ e ≡ expiryOf clock lifetime r ⌝ }
@@ -63,7 +63,7 @@ fn expiry_of(clock: u64, lifetime: u32, r: Row) -> u64
     expiry
 }
 
-// Step 1: makes the row valid with the received number and the transmitter as next hop.
+// Step 1: makes the row valid, with the transmitter as its next hop and the received number, which is then known.
 fn subject_row(a: Arrival, p: PathInfo, r: Row) -> Row
     requires { ⌜ a .clock ≤ maxClock ⌝ }
     requires { ⌜ Extends a p ⌝ }
@@ -87,8 +87,8 @@ fn learn_subject(table: &mut [u8], found: Found, a: Arrival, p: PathInfo)
     store::put_row(table, found, subject_row(a, p, r));
 }
 
-// Reports whether step 2 changes the row. An inactive row is changed if its number is unknown or the link metric is at most its
-// metric. An active row is changed if the link metric is below its metric.
+// Reports whether step 2 changes the row. A row that is not active is changed if its number is unknown, or the link metric is at
+// most its metric. An active row is changed if the link metric is below its metric.
 fn row_takes_link(a: Arrival, r: Row) -> bool
     ensures { λ b. ⌜ b ≡ rowTakesLink a r ⌝ }
 {
@@ -105,7 +105,8 @@ fn takes_link(a: Arrival, found: Found, r: Row) -> bool
     search::is_nothing(found) | row_takes_link(a, r)
 }
 
-// Step 2: makes the row valid over the link itself. A number that it has stays.
+// Step 2: makes the row valid, with the transmitter as its next hop, the link metric as its metric and hop count 1. If the row
+// was held, its number and 'number known' stay.
 fn transmitter_row(a: Arrival, lifetime: u32, r: Row) -> Row
     requires { ⌜ a .clock ≤ maxClock ⌝ }
     ensures { λ s. ⌜ s ≡ transmitterRow a lifetime r ⌝ }

@@ -1,4 +1,4 @@
--- Laws of writing the matches one after another, and of the RERR that they make, in the form that the proofs of the code need.
+-- Laws of writing the matches one after another, and of the RERR that they make, as the proofs of the functions need them.
 use Prim.Native.Nat.{ℕ, _+_, _-_, _*_, _/_, _<_, _≤_}
 use mathlib.Core.Path.{_≡_, refl, sym, ap, _∙_}
 use mathlib.Core.Bool.{Bool, true, false, not, cond}

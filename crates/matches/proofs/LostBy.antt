@@ -1,4 +1,4 @@
--- Which destinations match, case by case and one after another, in the form that the proofs of the code need.
+-- Laws of which destinations match, case by case and one after another, as the proofs of the functions need them.
 use Prim.Native.Nat.{ℕ, _+_, _-_, _<_, _≤_}
 use mathlib.Core.Path.{_≡_, sym, ap, _∙_}
 use mathlib.Core.Bool.{Bool, true, false, not, _&&_}

@@ -1,4 +1,4 @@
--- What a RERR does to the rows of its matches, case by case, in the form that the proofs of the code need.
+-- Laws of what a RERR does to the rows of its matches, case by case, as the proofs of the functions need them.
 use Prim.Native.Nat.{ℕ, _+_, _-_, _<_, _≤_}
 use mathlib.Core.Path.{_≡_, sym, ap, _∙_}
 use mathlib.Core.Bool.{Bool, true, false, not, cond}

@@ -1,4 +1,4 @@
--- Defines the number that an answer of `number_beside` stands for. It serves only the contracts of the code.
+-- Defines the number that an answer of `number_beside` stands for. Only contracts of the code use the definitions of this file.
 use mathlib.Core.Option.{Option, none, some}
 use Rattle.counters.specs.declared.SequenceNumber.{SequenceNumber}
 use Rattle.matches.specs.declared.rows.Beside.{Beside}

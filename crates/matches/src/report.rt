@@ -1,4 +1,4 @@
-// Writes the RERR that the point forwards to all ones: the matches, with flags as received.
+// Writes the RERR that the point sends to all ones: the matches, with flags and numbers as received.
 use crate::matching;
 use element::LostDestination;
 use element::RerrFields;

@@ -1,4 +1,5 @@
--- Defines little-endian numbers in a list of octets, and runs of numbers side by side: the fields of a layout.
+-- Defines little-endian numbers in a list of octets, and runs of numbers side by side: the fields of a layout. PROTOCOL,
+-- 'Counters'.
 use Prim.Native.Nat.{ℕ, zero, suc, _+_, _*_, _/_, _%_, _<_}
 use mathlib.Core.List.{List, [], _∷_, _++_}
 use lib.ListN.{getD, replicate}

@@ -1,4 +1,4 @@
--- What is kept of a destination. Only contracts of the code use the definitions of this file. The law `kept-is` says that
+-- Defines what is kept of a destination. Only contracts of the code use the definitions of this file. The law `kept-is` says that
 -- `keptOf` is the kept part of `answered`, whatever the own number is.
 use Prim.Native.Nat.{ℕ}
 use mathlib.Core.Bool.{cond}

@@ -1,5 +1,5 @@
--- The receiver of a forwarded element, and the frames that are then sent. Only contracts of the code use the definitions of
--- this file. The laws `reply-is` and `request-is` say that the frames of the rules are the frames here.
+-- Defines the receiver of a forwarded element, and the frames that are then sent. Only contracts of the code use the definitions
+-- of this file. The laws `reply-is` and `request-is` say that the frames of the rules are the frames here.
 use Prim.Native.Nat.{ℕ, _/_}
 use mathlib.Core.Bool.{Bool, _&&_, cond}
 use mathlib.Core.List.{List, [], _∷_}

@@ -1,4 +1,4 @@
--- The numbers of an element: the numbers of its fixed part, and then the numbers of its entries.
+-- Laws of the numbers of an element: the numbers of its fixed part, and then the numbers of its entries.
 use Prim.Native.Nat.{ℕ, zero, suc, _/_}
 use mathlib.Core.Path.{_≡_, refl, sym, ap, ap₂, _∙_}
 use mathlib.Core.List.{List, _++_, flatMap}

@@ -1,4 +1,4 @@
--- Entries written one by one by the loops of this crate.
+-- Laws of entries written one by one by the loops of this crate.
 use Prim.Native.Nat.{ℕ, _+_, _-_, _*_, _<_, _≤_}
 use mathlib.Core.Path.{_≡_, sym, ap, _∙_}
 use mathlib.Core.List.{List, flatMap}

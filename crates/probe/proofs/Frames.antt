@@ -1,4 +1,4 @@
--- Frames that fit and frames that do not, and the faults of a list.
+-- Laws of frames that fit and frames that do not, and of the faults of a list.
 use Prim.Native.Nat.{ℕ, _+_, _-_, _/_, _<_, _≤_}
 use mathlib.Core.Path.{_≡_, refl, sym, _∙_}
 use mathlib.Core.Bool.{Bool, true, false, not, cond}

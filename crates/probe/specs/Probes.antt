@@ -1,4 +1,4 @@
--- What the entries for tests and benchmarks answer, and what they leave in their lent memory.
+-- Defines what the entries for tests and benchmarks answer, and what they leave in their lent memory.
 use Prim.Native.Nat.{ℕ, _+_}
 use mathlib.Core.Bool.{cond}
 use mathlib.Core.List.{List, [], _++_, flatMap}

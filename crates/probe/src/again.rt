@@ -1,4 +1,4 @@
-// Writing an element again as a frame. Each public function answers 0, or 2 if the frame does not fit into the output.
+// Writes an element again as a frame. Each public function answers 0, or 2 if the frame does not fit into the output.
 use element::PathInfo;
 use element::RerrFields;
 use element::RrepFields;

@@ -15,8 +15,8 @@ ghost use Rattle.layout.specs.Address.{addressOf};
 ghost use Rattle.element.specs.Lists.{addressesIn};
 ghost use Rattle.probe.specs.Probes.{faults, faultsIn, readNumbers, writtenAgain};
 
-// Writes the numbers of the element and of its entries, in the order of the octets, and answers 0. Or it answers 6, 7 or 8 and
-// writes nothing.
+// Writes the numbers of the element and of its entries, in the order of the octets, and answers 0. For a refused element it
+// answers 6, 7 or 8 and writes nothing.
 #[no_mangle]
 pub extern "C" fn probe_read(element: &[u8], numbers: &mut [u64; 71]) -> u32
     ensures { λ r. ⌜ record { answer = r; memory = now (numbers .exit) }
@@ -31,9 +31,9 @@ pub extern "C" fn probe_read(element: &[u8], numbers: &mut [u64; 71]) -> u32
     }
 }
 
-// Writes the element again as a frame from the place `at` on, and answers 0. Or it answers 6, 7 or 8, or 2 if the frame does not
-// fit, and writes nothing. If `singly` is 0, the destinations of a RREQ are written as its list part has them, otherwise one by
-// one. The octets are the same.
+// Writes the element again as a frame from the place `at` on, and answers 0. For a refused element it answers 6, 7 or 8, and if
+// the frame does not fit it answers 2. In both cases it writes nothing. If `singly` is 0, the destinations of a RREQ are written
+// as its list part has them, otherwise one by one. The octets are the same.
 #[no_mangle]
 pub extern "C" fn probe_write(
     element: &[u8],

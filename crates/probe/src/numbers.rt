@@ -1,4 +1,4 @@
-// Writing the numbers of an element one after another. Each public function answers 0.
+// Writes the numbers of an element one after another. Each public function answers 0.
 use element::PathInfo;
 use element::RerrFields;
 use element::RrepFields;

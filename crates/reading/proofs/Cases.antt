@@ -1,5 +1,5 @@
--- The definitions of `specs/` by cases. Each law serves a `return` of the code: `search` applies it to the results of the calls
--- before the `return`.
+-- Laws of the definitions in `specs/`, case by case. Each law serves a `return` of the code: `search` applies it to the results
+-- of the calls before the `return`.
 use Prim.Native.Nat.{ℕ, _+_, _-_, _<_, _≤_}
 use mathlib.Core.Path.{_≡_, refl, sym, ap, _∙_}
 use mathlib.Core.Bool.{Bool, true, false, _&&_, not}

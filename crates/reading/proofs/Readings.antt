@@ -1,4 +1,5 @@
--- What callers know from the result of the reader: the type and the size of the octets, and the entries in their list part.
+-- Laws of what callers know from the result of the reader: the type and the size of the octets, and the entries in their list
+-- part.
 use Prim.Native.Nat.{ℕ, _+_, _*_, _/_}
 use mathlib.Core.Path.{_≡_, refl, sym, ap, ap₂, subst, _∙_}
 use mathlib.Core.Bool.{Bool, true, false, cond, false≢true}

@@ -1,4 +1,4 @@
--- The result of reading an element: a refusal, or its fixed fields. PROTOCOL, 'Elements', and refusals 6 to 8 of 'Refusals'.
+-- Defines the result of reading an element: one of refusals 6 to 8, or its fixed fields. PROTOCOL, 'Elements' and 'Refusals'.
 use mathlib.Core.Bool.{cond}
 use mathlib.Core.List.{List}
 use Prim.Native.Nat.{ℕ}

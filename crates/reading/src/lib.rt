@@ -1,4 +1,5 @@
-// Reading elements: refusals 6, 7 and 8, the fixed fields by value, and the list part as that part of the caller's octets.
+// Reads elements: checks refusals 6, 7 and 8, and returns the fixed fields by value and the list part as a part of the caller's
+// octets.
 use counters::HopCount;
 use counters::Metric;
 use counters::RequestId;
@@ -214,8 +215,8 @@ fn list_start(element: &[u8]) -> usize
     2 + length_with(kind, 0) as usize
 }
 
-// Returns the list part of an element, as that part of the caller's octets. It is empty for a RANN, and for octets that end
-// before the list.
+// Returns the list part of an element, as a part of the caller's octets. It is empty for a RANN, and for octets that end before
+// the list.
 pub fn list_part(element: &[u8]) -> &[u8]
     ensures { λ r. ⌜ now r ≡ listPart (now (element .entry)) ⌝ }
 {

@@ -1,5 +1,5 @@
--- The checks of `judging` as the internal functions go through them. A RANN, a RREQ or a RREP is checked by its faults and its
--- path, and a RERR by its list part.
+-- Defines the checks of `judging` as the functions of the code go through them: for a RANN, a RREQ or a RREP by its faults and
+-- its path, and for a RERR by its list part. Only contracts of the code use the definitions of this file.
 use Prim.Native.Nat.{ℕ}
 use mathlib.Core.Bool.{false, not}
 use mathlib.Core.List.{List, _++_}
@@ -15,7 +15,7 @@ use Rattle.rules.specs.Lists.{any}
 use Rattle.rules.specs.Receive.{hasBadAddress, hasBadList, isLowTtlReply, rowChecks}
 use Rattle.receive.specs.declared.faults.Faults.{Faults}
 
--- Returns whether refusals 9, 10 and 14 apply to an element with a path. Their tests depend on its type.
+-- Reports whether refusals 9, 10 and 14 apply to an element with a path. Their tests depend on its type.
 unfoldable pub faultsOf : Element → Faults
 faultsOf e = record { address = hasBadAddress e; list = hasBadList e; ttl = isLowTtlReply e }
 

@@ -1,5 +1,5 @@
--- What the point sends for a RREQ, while the code writes it. Only contracts of the code use the definitions of this file. The
--- frames are those of `rreqReceived`.
+-- Defines what the point sends for a RREQ, while the code writes it. Only contracts of the code use the definitions of this file.
+-- The frames are those of `rreqReceived`.
 use Prim.Native.Nat.{ℕ, _+_, _-_}
 use mathlib.Core.List.{List, _++_}
 use Rattle.element.specs.declared.RreqFields.{RreqFields}

@@ -20,8 +20,8 @@ ghost use Rattle.calls.specs.Answers.{answerTo, exitOf};
 ghost use Rattle.learn.specs.Learnt.{learntIf};
 ghost use Rattle.layout.specs.Layout.{Sized};
 
-// Refuses the RANN, or does steps 1 and 2. The answer of `path::learn` is taken apart and built again, because a refusal then
-// takes fewer instructions than with that answer handed on.
+// Refuses the RANN, or does steps 1 and 2. It takes the answer of `path::learn` apart and builds it again, because a refusal then
+// takes fewer instructions than if it returned that answer.
 fn check_and_learn(table: &mut [u8], a: Arrival, p: PathInfo) -> Answer
     requires { ⌜ Sized (now table) ⌝ }
     requires { ⌜ a .clock ≤ maxClock ⌝ }

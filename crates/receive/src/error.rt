@@ -54,7 +54,7 @@ fn check(table: &[u8], a: Arrival, f: RerrFields, part: &[u8]) -> Answer
     check_state(table, a, part)
 }
 
-// Forwards the RERR with its matches, invalidates the rows of the matches and stores the clock.
+// Sends one RERR with the matches, invalidates the rows of the matches and stores the clock.
 fn take(table: &mut [u8], output: &mut [u8], a: Arrival, f: RerrFields, part: &[u8]) -> Outcome
     requires { ⌜ Sized (now table) ⌝ }
     requires { ⌜ leastOutput ≤ length (now output) ⌝ }

@@ -36,7 +36,7 @@ pub fn of_rann(p: PathInfo) -> Faults
     }
 }
 
-// Reports whether the originator or a destination isn't individual. As a destination all ones is allowed too.
+// Reports whether the originator or a destination is not individual. A destination may also be all ones.
 fn rreq_has_bad_address(f: RreqFields, part: &[u8]) -> bool
     ensures { λ r. ⌜ r ≡ hasBadAddress (rreq f (targetsIn (now (part .entry)))) ⌝ }
 {
@@ -63,8 +63,8 @@ fn is_unicast_to_several(p: PathInfo, part: &[u8]) -> bool
     is_several_or_all(part)
 }
 
-// Reports whether the list has a fault: a destination twice; all ones with others; the originator among the destinations; a
-// unicast RREQ with several destinations or all ones.
+// Reports whether the list has a fault: a destination stands twice; all ones and anything else; the originator among the
+// destinations; several destinations or all ones in a unicast RREQ.
 fn rreq_has_bad_list(f: RreqFields, part: &[u8]) -> bool
     ensures { λ r. ⌜ r ≡ hasBadList (rreq f (targetsIn (now (part .entry)))) ⌝ }
 {
@@ -90,7 +90,7 @@ pub fn of_rreq(f: RreqFields, part: &[u8]) -> Faults
     }
 }
 
-// Does not read the dependents.
+// Does not judge the dependents.
 pub fn of_rrep(f: RrepFields) -> Faults
     ensures { λ r. ⌜ r ≡ faultsOf (rrep f []) ⌝ }
 {

@@ -1,4 +1,4 @@
-// Receives an element: its refusals in order, and what each type does.
+// Receives an element: checks its refusals in order, and then does what its type asks.
 mod announcement;
 mod error;
 mod faults;

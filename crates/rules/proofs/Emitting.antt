@@ -1,5 +1,5 @@
--- The frames that calls emit. A property Q holds for all frames of a call if it holds for each kind of frame. The laws also bound
--- how many frames there are.
+-- Laws of the frames that calls emit. A property Q holds for all frames of a call if it holds for each kind of frame. The laws
+-- also bound how many frames there are.
 use Prim.Native.Nat.{ℕ, _<_, _≤_}
 use mathlib.Core.Path.{_≡_, refl}
 use mathlib.Core.Bool.{true, not, _&&_, and-eq-true-iff}

@@ -1,4 +1,4 @@
--- The octets of frames one after another.
+-- Laws of the octets of frames one after another.
 use mathlib.Core.Path.{_≡_, refl}
 use mathlib.Core.List.{List, [], _∷_, _++_, append-nil, flatMap}
 use Rattle.element.specs.Octets.{writeFrame}

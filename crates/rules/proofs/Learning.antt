@@ -1,5 +1,5 @@
--- Steps 1 and 2 of receiving a RREQ, RREP or RANN. The laws say what becomes of the row of each destination, and that the octets
--- stay a table.
+-- Laws of steps 1 and 2 of receiving a RANN, RREQ or RREP. They say what becomes of the row of each destination, and that the
+-- octets stay a table.
 use Prim.Native.Nat.{ℕ, _+_, _-_, _^_, _<_, _≤_}
 use mathlib.Core.Path.{_≡_, refl, sym, ap, subst, _∙_}
 use mathlib.Core.Bool.{Bool, true, false, _&&_, _||_}

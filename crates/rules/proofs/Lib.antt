@@ -1,4 +1,4 @@
--- Laws about rulings, and laws about all calls.
+-- Laws of rulings, and laws of all calls.
 pub mod Branches
 pub mod AsGood
 pub mod Rulings

@@ -1,4 +1,4 @@
--- The frames of an accepted call, read from the octets of its output.
+-- Laws of the frames of an accepted call, read from the octets of its output.
 use Prim.Native.Nat.{ℕ, suc, _+_, _^_, _<_, _≤_}
 use mathlib.Core.Path.{_≡_, refl, sym, ap, ap₂, _∙_}
 use mathlib.Core.List.{List, [], _∷_, _++_, append-assoc, map, flatMap}

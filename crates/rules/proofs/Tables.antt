@@ -1,4 +1,4 @@
--- The table before and after a call.
+-- Laws of the table before and after a call.
 use Prim.Native.Nat.{ℕ, _-_, _^_, _<_, _≤_}
 use mathlib.Core.Path.{_≡_, refl, sym, ap, _∙_}
 use mathlib.Core.Bool.{true, false, not, _&&_, and-eq-true-iff}

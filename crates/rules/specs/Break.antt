@@ -1,4 +1,4 @@
--- The call that reports a broken neighbour. PROTOCOL, 'Errors and breaks'.
+-- Defines the call that reports a broken neighbour. PROTOCOL, 'Errors and breaks'.
 use Prim.Native.Nat.{ℕ}
 use mathlib.Core.Bool.{Bool}
 use mathlib.Core.List.{List}
@@ -11,7 +11,7 @@ use Rattle.rules.specs.Exit.{Lent, withTable, Effect, underHead}
 use Rattle.layout.specs.Row.{isThrough}
 use Rattle.rules.specs.Errors.{broken, brokenEntries, errorsFor}
 
--- The effect of a break: the rows that pass `test` break, the point announces them in RERRs, and the clock is stored.
+-- The effect of a break: the rows that pass `test` break, the point names their destinations in RERRs, and the clock is stored.
 unfoldable pub brokenOff : Lent → ℕ → (Row → Bool) → Effect
 brokenOff l c test =
     let t : List ℕ = l .table in

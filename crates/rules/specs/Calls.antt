@@ -1,4 +1,4 @@
--- The five calls that may write a table and an output, in one definition: receive, ask, announce, root request and break.
+-- Defines the five calls that may write a table and an output, in one definition: receive, ask, announce, root request and break.
 -- PROTOCOL, 'Receiving', 'Originating' and 'Errors and breaks'.
 use Prim.Native.Nat.{ℕ, _^_, _<_}
 use mathlib.Core.List.{List}

@@ -1,4 +1,4 @@
--- Checks that several calls share. PROTOCOL, 'Refusals'.
+-- Defines the checks that several calls share. PROTOCOL, 'Refusals'.
 use Prim.Native.Nat.{ℕ}
 use mathlib.Core.Bool.{not}
 use mathlib.Core.List.{List}

@@ -1,4 +1,4 @@
--- Checks, rulings and decisions. A call is refused by the first of its checks that applies, and accepted if none applies.
+-- Defines checks, rulings and decisions. A call is refused by the first of its checks that applies, and accepted if none applies.
 -- PROTOCOL, 'Refusals'.
 use Prim.Native.Nat.{ℕ}
 use mathlib.Core.Bool.{Bool, cond}

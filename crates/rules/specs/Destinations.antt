@@ -1,5 +1,5 @@
--- PROTOCOL, 'Receiving', 'Replies': the point takes the destinations of a RREQ in order. Each destination may bring a reply, and
--- is kept or struck out.
+-- Defines the replies to a RREQ. The point takes the destinations in order. Each destination may bring a reply, and is kept or
+-- struck out. PROTOCOL, 'Replies'.
 use Prim.Native.Nat.{ℕ}
 use mathlib.Core.Bool.{Bool, not, _&&_, cond}
 use mathlib.Core.List.{List, [], _∷_, _++_}
@@ -67,8 +67,8 @@ newerOf self requested = cond (newer requested self) requested self
 unfoldable pub answeredNumber : SequenceNumber → SequenceNumber → SequenceNumber
 answeredNumber self requested = nextNumber (newerOf self requested)
 
--- Reports whether the point sends an intermediate reply from a row: DO = 0, and the row is active, of known number, and not older
--- than the requested number.
+-- Reports whether the point sends an intermediate reply from a row: DO = 0, the row is active and of known number, and the row's
+-- number is not older than the requested number.
 unfoldable pub answersFor : ℕ → Target → Row → Bool
 answersFor c q r = not (hasDO q) && active c r && eqb (r .known) 1 && not (older (r .number) (q .number))
 

@@ -1,4 +1,5 @@
--- PROTOCOL, 'Errors and breaks': which rows the point invalidates, what becomes of them, and the RERRs that name them.
+-- Defines, for a received RERR and for a break, which rows the point invalidates, what becomes of them, and the RERRs that name
+-- them. PROTOCOL, 'Errors and breaks'.
 use Prim.Native.Nat.{ℕ, _+_, _-_, _*_, _/_}
 use mathlib.Core.Bool.{Bool, _&&_, cond}
 use mathlib.Core.List.{List, [], _∷_, flatMap}
@@ -42,8 +43,8 @@ numberBeside d (m ∷ named) = cond (same (m .address) d) (some (m .number)) (nu
 unfoldable pub isMatch : ℕ → Address → List LostDestination → Row → Bool
 isMatch c transmitter named r = isLostBy c transmitter r && isSome (numberBeside (r .destination) named)
 
--- The row of a match is invalidated. If the number in the RERR is newer than the row's number, the row takes the newer number and
--- metric 4,294,967,295.
+-- The point invalidates the row of a match. If the number in the RERR is newer than the row's number, the row takes the newer
+-- number and metric 4,294,967,295.
 unfoldable pub erredWith : Option SequenceNumber → Row → Row
 erredWith none r = r
 erredWith (some n) r = cond (newer n (r .number)) (raised n (invalidated r)) (invalidated r)
@@ -54,7 +55,8 @@ erred named r = erredWith (numberBeside (r .destination) named) r
 
 -- ---- a broken neighbour
 
--- A row that breaks is invalidated. If its number is known, the number steps and the metric becomes 4,294,967,295.
+-- The point invalidates a row that breaks. If the row's number is known, the point steps the number and sets the metric to
+-- 4,294,967,295. A row of unknown number keeps its number 0 and its metric.
 unfoldable pub broken : Row → Row
 broken r = cond (eqb (r .known) 1) (raised (nextNumber (r .number)) (invalidated r)) (invalidated r)
 
@@ -81,6 +83,7 @@ errorAt entries i = record { receiver = allOnes; element = rerr ownError (take (
 abbrev pub errorsTaken : ℕ → ℕ
 errorsTaken n = (n + (most Rerr - 1)) / most Rerr
 
--- Returns all RERRs of a break. Without entries there is no frame.
+-- Returns all RERRs of a break. Each RERR but the last names 25 destinations; the last names the rest, 1 to 25. Without entries
+-- there is no frame.
 unfoldable pub errorsFor : List LostDestination → List Frame
 errorsFor entries = each (errorAt entries) 0 (errorsTaken (length entries))

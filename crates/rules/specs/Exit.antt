@@ -1,5 +1,5 @@
--- Effects and exits: what an accepted call leaves and emits, and what the caller finds when any call has ended.
--- PROTOCOL, 'Frames and answers'.
+-- Defines effects and exits: what an accepted call leaves and emits, and what the caller finds when any call has ended. PROTOCOL,
+-- 'Frames and answers'.
 use Prim.Native.Nat.{ℕ, zero, suc, _+_}
 use mathlib.Core.List.{List, [], _∷_, flatMap}
 use lib.ListN.{length, getD, take, drop}
@@ -64,7 +64,7 @@ pub record Exit : Type 0 where
   pub output : List ℕ
 
 -- An acceptance answers 0, reports frames and octets written, and writes its frames from the start of the output. Output beyond
--- the frames is unchanged. A refusal returns its number and otherwise zeros, and nothing lent changes.
+-- the frames is unchanged. A refusal answers its number, returns zeros in all other fields, and changes nothing lent.
 unfoldable pub atExit : Lent → List ℕ → Decision Effect → Exit
 atExit l output (refused n) = record { answer = n; frames = 0; octets = 0; lent = l; output = output }
 atExit l output (accepted e) =

@@ -1,5 +1,5 @@
--- The exit of each call: the answer as a number, the values returned with the answer, and every lent buffer when the call has
--- ended. PROTOCOL, 'Frames and answers'. The contract of a call says that the call ends with the exit defined here, whatever
+-- Defines the exit of each call: the answer as a number, the values returned with the answer, and every lent buffer when the call
+-- has ended. PROTOCOL, 'Frames and answers'. The contract of a call says that the call ends with the exit defined here, whatever
 -- its operands are. Next hop has no exit here, because it is lent nothing that it may write. Its contract is about its decision.
 use Prim.Native.Nat.{ℕ}
 use mathlib.Core.List.{List}

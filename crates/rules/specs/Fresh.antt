@@ -1,4 +1,4 @@
--- The call that makes a fresh table. PROTOCOL, 'Fresh, next hop, forget'.
+-- Defines the call that makes a fresh table. PROTOCOL, 'Fresh, next hop, forget'.
 use Prim.Native.Nat.{ℕ}
 use mathlib.Core.Bool.{not}
 use mathlib.Core.List.{List}

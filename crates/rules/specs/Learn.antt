@@ -1,5 +1,5 @@
--- PROTOCOL, 'Receiving', 'Learning': steps 1 and 2. From a RREQ, RREP or RANN a point learns a path to the subject and a path to
--- the transmitter. The subject is the originator (for a RREP: the destination).
+-- Defines steps 1 and 2. From a RANN, RREQ or RREP a point learns a path to the subject and a path to the transmitter. The
+-- subject is the originator of a RANN or a RREQ, the destination of a RREP. PROTOCOL, 'Learning'.
 use Prim.Native.Nat.{ℕ, _+_, _-_, _^_, _<_, _≤_}
 use mathlib.Core.Bool.{Bool, true, _&&_, _||_, cond}
 use mathlib.Core.List.{List}
@@ -51,28 +51,29 @@ newRow d =
       expiry = 0;
     }
 
--- Returns the row that a step changes: the row of the destination, or a new row if the destination has none.
+-- Returns the row that a step makes or changes: the row held for the destination, or a new row if none is held.
 abbrev pub rowOrNew : Address → Option Row → Row
 rowOrNew d (some r) = r
 rowOrNew d none = newRow d
 
--- Expiry is clock + lifetime, or the stored expiry if the row was active and the stored expiry is larger.
+-- The expiry is clock + lifetime, or the stored expiry if the row was active before this step and its stored expiry is larger.
 unfoldable pub expiryOf : ℕ → ℕ → Row → ℕ
 expiryOf c lifetime r = cond (active c r && ltb (c + lifetime) (r .expiry)) (r .expiry) (c + lifetime)
 
--- Step 1. The subject's row becomes valid with the received number, next hop the transmitter, metric received + link, hop count
--- received + 1. Its expiry is `expiryOf`.
+-- Step 1. The subject's row becomes valid. Its next hop is the transmitter. Its number is the received number, which is then
+-- known. Its metric is received metric + link metric, its hop count is received hop count + 1, and its expiry is `expiryOf`.
 unfoldable pub subjectRow : Arrival → PathInfo → Row → Row
 subjectRow a p r =
     numbered (p .number) (renewed (a .transmitter) (metricHere a p) (hopsHere p) (expiryOf (a .clock) (p .lifetime) r) r)
 
--- Step 2. A row that is made or changed becomes valid with next hop the transmitter, metric link, hop count 1, expiry as in
--- step 1. A number that it has stays.
+-- Step 2. A row that is made or changed becomes valid, with the transmitter as its next hop, the link metric as its metric, hop
+-- count 1, and an expiry as in step 1. If the row was held, its number and 'number known' stay.
 unfoldable pub transmitterRow : Arrival → ℕ → Row → Row
 transmitterRow a lifetime r = renewed (a .transmitter) (a .link) (record { 0 = 1 }) (expiryOf (a .clock) lifetime r) r
 
--- Step 2 for a row that is held for the transmitter. An active row is changed if the link metric is below its metric. A row that
--- is not active is changed if its number is unknown, or the link metric is at most its metric. Otherwise the row stays as it is.
+-- Reports whether step 2 changes the row held for the transmitter. An active row is changed if the link metric is below its
+-- metric. A row that is not active is changed if its number is unknown, or the link metric is at most its metric. Otherwise the
+-- row stays as it is, expiry included.
 abbrev pub rowTakesLink : Arrival → Row → Bool
 rowTakesLink a r =
     cond (active (a .clock) r) (ltb (a .link .0) (r .metric .0)) (eqb (r .known) 0 || leb (a .link .0) (r .metric .0))
@@ -92,8 +93,8 @@ transmitterLearnt a lifetime t =
     cond (takesLink a (rowFor t (a .transmitter)))
     (store t (transmitterRow a lifetime (rowOrNew (a .transmitter) (rowFor t (a .transmitter))))) t
 
--- Returns the table t after both steps. Step 2 applies only if the transmitter is not the subject. A new row takes the free row
--- of lowest place (`store`), the subject's row before the transmitter's.
+-- Returns the table t after both steps. Step 2 applies only if the transmitter is not the subject. If both steps make a row, the
+-- subject's row takes the free row of lowest place, and the transmitter's row takes the free row of the next lowest place.
 unfoldable pub learnt : Arrival → PathInfo → List ℕ → List ℕ
 learnt a p t =
     cond (same (a .transmitter) (p .subject)) (subjectLearnt a p t) (transmitterLearnt a (p .lifetime) (subjectLearnt a p t))

@@ -1,4 +1,4 @@
--- Tests over the entries of a list, and tests of a value that may be absent.
+-- Defines tests over the entries of a list, and tests of a value that may be absent.
 use mathlib.Core.Bool.{Bool, true, false, _&&_, _||_, cond}
 use mathlib.Core.List.{List, [], _∷_}
 use mathlib.Core.Option.{Option, none, some}

@@ -1,4 +1,4 @@
--- PROTOCOL, 'Receiving', 'Forwarding': which elements the point forwards, and to whom.
+-- Defines which elements the point forwards, and to whom. PROTOCOL, 'Forwarding'.
 use Prim.Native.Nat.{ℕ, _-_}
 use mathlib.Core.Bool.{cond}
 use mathlib.Core.List.{List, [], _∷_}

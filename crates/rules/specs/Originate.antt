@@ -1,5 +1,5 @@
--- PROTOCOL, 'Originating': ask, announce and root request. Each sends one new element to all ones, with the next own number, hop
--- count 0, metric 0 and TTL 31. What is defined here:
+-- Defines ask, announce and root request. Each sends one new element to all ones, with the next own number, hop count 0, metric 0
+-- and TTL 31. PROTOCOL, 'Originating'. What is defined here:
 --   numberedHead, ownPath                         the head with advanced counters, and the path of an element about the point
 --   announced, requested                          the effect of an accepted announcement or request
 --   itemChecks, askedFor, asking, ask             ask: the checks of its items, one destination, the ruling and the decision

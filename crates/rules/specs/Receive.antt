@@ -1,4 +1,4 @@
--- The call that receives an element. PROTOCOL, 'Refusals', 'Receiving' and 'Errors and breaks'. What is defined here:
+-- Defines the call that receives an element. PROTOCOL, 'Refusals', 'Receiving' and 'Errors and breaks'. What is defined here:
 --   arrivalChecks, octetChecks, fieldChecks, rowChecks   refusals 1 to 5, 6 to 8, 9 to 14, 24 to 27 (21 to 23 are `stateChecks`)
 --   hasBadAddress, hasBadList, isLowTtlReply             refusals 9, 10 and 14 for each type
 --   isStale, matchesNothing, rowsNeeded                  what refusals 25, 26 and 27 judge
@@ -132,8 +132,8 @@ matchesNothing t a (rreq f targets) = false
 matchesNothing t a (rrep f dependents) = false
 matchesNothing t a (rerr f destinations) = not (any (matches t (a .clock) (a .transmitter)) destinations)
 
--- 27. Returns how many new rows the call needs. It needs a row for the subject if no row is held for it, and a row for the
--- transmitter if the transmitter is not the subject and no row is held for it.
+-- 27. Returns how many new rows the call needs. It needs a row for the subject if none is held for the subject, and a row for the
+-- transmitter if the transmitter is not the subject and none is held for the transmitter.
 unfoldable pub rowsNeeded : List ℕ → Arrival → PathInfo → ℕ
 rowsNeeded t a p =
     newRows (rowFor t (p .subject)) + cond (same (a .transmitter) (p .subject)) 0 (newRows (rowFor t (a .transmitter)))

@@ -1,5 +1,5 @@
--- PROTOCOL, 'Walk': the walk over tables side by side, along rows that are active at a clock. The walk of demand 3 is `met` in
--- crate `theorems`, which follows valid rows, expired or not. What is defined here:
+-- Defines the walk over tables side by side, along rows that are active at a clock. PROTOCOL, 'Walk'. The walk of demand 3 is
+-- `met` in crate `theorems`, which follows valid rows, expired or not. What is defined here:
 --   sideBySide, tablesIn, points     whether octets are 1 to 16 tables of one length, the tables, and the addresses of the points
 --   Walked                           an answer with the hops walked: arrived (0), stopped (41) or tooLong (42)
 --   leadsTo, follow                  where a next hop leads, and the walk from an address on
@@ -48,8 +48,8 @@ tableAt octets long i = take long (drop (long * i) octets)
 abbrev pub tablesIn : List ℕ → ℕ → List (List ℕ)
 tablesIn octets count = each (tableAt octets (lengthOfEach octets count)) 0 count
 
--- Reports whether the octets pass refusal 1: the count is 1 to 16, and the octets are as many pieces as the count says, all of
--- one length that a table may have.
+-- Reports whether the octets pass refusal 1: the count is 1 to 16, and the octets are as many tables as the count says, all of
+-- one length that a table may have. Whether each is a table is refusal 21.
 unfoldable pub sideBySide : List ℕ → ℕ → Bool
 sideBySide octets count =
     leb 1 count && leb count 16 && eqb (length octets % count) 0 && sized (tableAt octets (lengthOfEach octets count) 0)
@@ -103,14 +103,14 @@ module _ (tables : List (List ℕ)) (c : ℕ) (destination : Address) where
       cond (same at destination) (arrived hops)
       (goOn (leadsTo (activeNext c (rowOfPoint tables at destination))) hops (follow remaining))
 
--- A refusal returns its number and 0 hops.
+-- A refusal answers its number and returns 0 hops.
 abbrev pub walkedAtExit : Decision Walked → Walked
 walkedAtExit (refused n) = record { answer = n; hops = 0 }
 walkedAtExit (accepted w) = w
 
 -- ---- the call
 
--- Refusals 21 and 22, for all tables at the clock c.
+-- Refusals 21 and 22: the octets of any table are not a table; the clock c is below the latest clock of any table.
 abbrev pub tableChecks : List (List ℕ) → ℕ → List Check
 tableChecks tables c =
     refuse 21 when any (λ (t : List ℕ). not (isTable t)) tables

@@ -3,7 +3,7 @@
 use counters::Metric;
 use layout::address::Address;
 
-// How an element arrived: at which clock, from which transmitter, and over a link of which metric.
+// How an element arrived: the clock, the transmitter and the link metric.
 pub struct Arrival {
     pub clock: u64,
     pub transmitter: Address,

@@ -1,5 +1,5 @@
--- The definitions of `specs/` by cases, in the form that the proof of a `return` needs: `search` applies each case to the results
--- of the calls before the `return`.
+-- Laws of the definitions in `specs/`, case by case, as the proof of a `return` needs them: `search` applies each case to the
+-- results of the calls before the `return`.
 use Prim.Native.Nat.{ℕ, _+_, _-_, _%_, _≤_}
 use lib.Dec.{eqb, leb}
 use lib.ListN.{length}

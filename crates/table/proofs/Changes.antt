@@ -80,7 +80,7 @@ module _ (p : Row → Bool) (f : Row → Row) where
       (row-other u n k _ (λ q. omega arith) ∙ below-other n k t (omega arith))
       (below-other n k t (omega arith))
 
-  -- Row i stays or is changed, in the form that code needs that goes from row to row.
+  -- Row i stays or is changed, in the form that code needs when it goes from row to row.
   module _ (t : List ℕ) (i : ℕ) (r : Row) (re : r ≡ rowAt t i) where
     pub row-stays : p r ≡ false → t ≡ changeAt p f i t
     row-stays e = rw (← re, e)

@@ -1,4 +1,4 @@
--- The laws of tables, for the proofs of this crate and of crates that use it.
+-- Laws of tables, for the proofs of this crate and of crates that use it.
 pub mod ByHead
 pub mod Cases
 pub mod Changes

@@ -70,7 +70,7 @@ module _ (t : List ℕ) (d : Address) (k : ℕ) where
 pub record Legal (t : List ℕ) : Type 0 where
   pub head : headOk (headAt t) ≡ true
   pub row : (k : ℕ) → k < rows t → rowOk (own t) (rowAt t k) ≡ true
-  -- No two held rows have one destination.
+  -- The destinations of any two held rows differ.
   pub once : (d : Address) (j k : ℕ) → j < rows t → k < rows t → holds t d j ≡ true → holds t d k ≡ true → j ≡ k
 
 -- If a held row stands alone, the search of the rows before it finds nothing.

@@ -1,4 +1,5 @@
--- Defines what makes octets a table (PROTOCOL, 'Table'), what can be read from a table, and what calls do to it.
+-- Defines what makes octets a table, what can be read from a table, and what calls do to it. PROTOCOL, 'Table'. What is defined
+-- here:
 --   own, number, requestId, clock         the fields of the head
 --   vacant, holds, findRow, rowFor        rows by destination, and the row held for a destination
 --   activeNext                            the next hop of a row that is there and active
@@ -70,7 +71,7 @@ abbrev pub hopIn : NextHop → Option Address
 hopIn (To next) = some next
 hopIn Nobody = none
 
--- Returns how many new rows a destination needs: 0 if it has a row, 1 if it has none.
+-- Returns how many new rows a destination needs: 0 if a row is held for it, 1 if none is.
 abbrev pub newRows : Option Row → ℕ
 newRows (some r) = 0
 newRows none = 1
@@ -79,7 +80,7 @@ newRows none = 1
 unfoldable pub freeRows : List ℕ → ℕ
 freeRows t = count (vacant t) (rows t)
 
--- Returns the free row of lowest place.
+-- Returns the lowest place of a free row.
 unfoldable pub firstFree : List ℕ → Found
 firstFree t = first (vacant t) (rows t)
 
@@ -93,7 +94,7 @@ alone t i = vacant t i || isNothing (first (holds t (rowAt t i .destination)) i)
 abbrev pub passes : List ℕ → Address → ℕ → Bool
 passes t self i = rowOk self (rowAt t i) && alone t i
 
--- Octets are a table if the head and each row are legal, and no two held rows have one destination.
+-- Octets are a table if the head and each row are legal, and the destinations of any two held rows differ.
 unfoldable pub isTable : List ℕ → Bool
 isTable t = headOk (headAt t) && every (passes t (own t)) (rows t)
 
@@ -107,14 +108,15 @@ abbrev pub putAt : List ℕ → Row → Found → List ℕ
 putAt t r (At i) = putRow t i r
 putAt t r Nothing = t
 
--- A row goes to the place of its destination's row. If there is none, it goes to the free row of lowest place.
+-- Returns the place for a row with destination d: the place of the row held for d, or the lowest place of a free row if no row is
+-- held for d.
 unfoldable pub placeFor : List ℕ → Address → Found
 placeFor t d = orElse (findRow t d) (firstFree t)
 
 unfoldable pub store : List ℕ → Row → List ℕ
 store t r = putAt t r (placeFor t (r .destination))
 
--- Frees the row of a destination.
+-- Frees the row held for d.
 unfoldable pub freed : List ℕ → Address → List ℕ
 freed t d = putAt t freeRow (findRow t d)
 

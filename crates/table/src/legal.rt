@@ -61,8 +61,8 @@ fn is_alone(table: &[u8], i: usize) -> bool
     search::is_nothing(search::find_below(table, i, d))
 }
 
-// Reports whether row i passes. By mark 0 the caller says that no row before i has the destination of row i. The search for such
-// a row is then skipped.
+// Reports whether row i passes. By mark 0 the caller says that no row before i has the destination of row i. The function then
+// does not search the rows before i.
 fn passes_by(table: &[u8], own: Address, i: usize, mark: u8) -> bool
     requires { ⌜ place i + rowOctets ≤ length (now table) ⌝ }
     ensures { λ r. ⌜ r ≡ (rowOk own (rowAt (now (table .entry)) i) && (eqb mark 0 || alone (now (table .entry)) i)) ⌝ }

@@ -1,5 +1,4 @@
--- The definitions of the calls by cases, in the form that the proof of a `return` needs. Each nested module adds a test that was
--- passed.
+-- Laws of the calls, case by case, as the proof of a `return` needs them. Each nested module adds a test that was passed.
 use Prim.Native.Nat.{ℕ, _+_, _≤_, _<_}
 use mathlib.Core.Path.{_≡_, refl}
 use mathlib.Core.Bool.{Bool, true, false, not}

@@ -1,2 +1,2 @@
--- The laws of fresh, next hop and forget.
+-- Laws of fresh, next hop and forget.
 pub mod Cases

@@ -1,4 +1,4 @@
--- Defines the decision that each answer of `next_hop` stands for (PROTOCOL, 'Fresh, next hop, forget').
+-- Defines the decision that each answer of `next_hop` stands for. PROTOCOL, 'Fresh, next hop, forget'.
 use Rattle.layout.specs.declared.address.Address.{Address}
 use Rattle.rules.specs.Decision.{Decision, refused, accepted}
 use Rattle.table_calls.specs.declared.next_hop.Hop.{Hop}

@@ -1,5 +1,5 @@
--- Defines what the check of forget says about the call. It serves only the contracts of the code, and is no part of what a call
--- is.
+-- Defines what the check of forget says about the call. Only contracts of the code use the definitions of this file. They are no
+-- part of what a call is.
 use Prim.Native.Nat.{ℕ, _+_, _≤_}
 use mathlib.Core.List.{List}
 use lib.ListN.{length}

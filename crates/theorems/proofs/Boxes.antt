@@ -1,4 +1,4 @@
--- What the points of a mesh lend, found by address, after one entry of the list is replaced.
+-- Laws of what the points of a mesh lend, found by address, after one entry of the list is replaced.
 use mathlib.Core.Path.{_≡_, refl, sym, ap, _∙_}
 use mathlib.Core.Bool.{Bool, true, false, cond}
 use mathlib.Core.List.{List, [], _∷_, map, List·Memᴰ, List·Memᴰ·head, List·Memᴰ·tail}

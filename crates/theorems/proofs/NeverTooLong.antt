@@ -133,7 +133,7 @@ module _ (m : Mesh) (c : ℕ) (d : Address) where
       by true q e = subst (λ (y : Address). Led (some x) y) (Option·some-injective x b e) (record { next = refl; known = rw (is-point x (m .boxes)) at q })
       by false q e = absurd (Option·none-ne-some b e)
 
-  -- A walk that has come to the destination answers 0.
+  -- A walk that has reached the destination answers 0.
   arrives : (remaining : ℕ) (a : Address) (hops : ℕ) → same a d ≡ true → follow tables c d remaining a hops ≡ arrived hops
   unfolding follow
   arrives zero a hops e = rw e refl

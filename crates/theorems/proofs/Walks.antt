@@ -1,4 +1,4 @@
--- Under the invariant, a walk towards d meets no point twice. The rows that it follows get strictly better until it comes to d.
+-- Under the invariant, a walk towards d meets no point twice. The rows that it follows get strictly better until it reaches d.
 use Prim.Native.Nat.{ℕ, zero, suc}
 use mathlib.Core.Path.{_≡_, refl, sym, ap, _∙_}
 use mathlib.Core.Bool.{Bool, true, false, _||_, cond}
@@ -86,7 +86,8 @@ module _ (d : Address) (base : ℕ) (m : Mesh) (inv : Inv d base m) where
       let same-row : near .row ≡ h .row = Option·some-injective (near .row) (h .row) (sym (near .found) ∙ h .found) in
       inr (record { row = far .row; found = far .found; better = at-least-trans (far .better) (rw same-row at (weaken (near .better))) })
 
-  -- If b is d or has a strictly better row than r, then the same holds for every point that a walk from b meets.
+  -- If b is d or has a strictly better row than r, then every point that a walk from b meets is d or has a strictly better row
+  -- than r.
   all-further : (r : Row) (hops : ℕ) (b : Address) → Further r b → All (Further r) (met m d hops b)
   unfolding met All
   all-further r zero b near = cond-cases (All (Further r)) (isSome (boxOf b (m .boxes))) (λ _. (near, tt)) (λ _. tt)

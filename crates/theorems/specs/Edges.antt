@@ -1,4 +1,4 @@
--- Two lists of tests of the definitions (PROTOCOL, 'Edges'): `edges` for P1 to P8, and `shutOut` for the trainees' errors.
+-- Defines two lists of tests of the definitions: `edges` for P1 to P8, and `shutOut` for the trainees' errors. PROTOCOL, 'Edges'.
 -- Tables and elements are octets.
 use Prim.Native.Nat.{ℕ, _+_, _*_}
 use mathlib.Core.Bool.{Bool, false, _&&_, _||_, not}
@@ -77,7 +77,7 @@ withRows t i (r ∷ rs) = withRows (putRow t i r) (i + 1) rs
 abbrev tableWith : ℕ → List Row → List ℕ
 tableWith n rs = withRows (fresh (32 + 32 * length rs) point (record { 0 = n })) 0 rs
 
--- A table with R = 4 of which rows 0 and 2 are held.
+-- A table with R = 4, in which rows 0 and 2 are held.
 abbrev scattered : List ℕ
 scattered = tableWith 0 (heldFor 0 ∷ freeRow ∷ heldFor 1 ∷ freeRow ∷ [])
 
@@ -272,8 +272,8 @@ shutOut =
     ∷ refusedWith 25 (heardAt 1000 (tableWith 0 (row 1 originator 9 40 ∷ freeRow ∷ [])) 36 (announcement 9 5))
     -- Matching an error by destination only: a row with another next hop is no match (26).
     ∷ refusedWith 26 (heard (tableWith 0 (elsewhere 0 ∷ [])) 10 (error (lost (other 0) 9 ∷ [])))
-    -- A row with another next hop is no match either if the RERR also names a match. The row stays, and its entry is not
-    -- forwarded.
+    -- A row with another next hop is no match either if the RERR also names a match. The row stays, and the RERR that the point
+    -- sends does not name it.
     ∷ acceptedWith losesOne
     (heard (tableWith 0 (row 1 originator 9 40 ∷ elsewhere 0 ∷ [])) 10 (error (lost (other 0) 9 ∷ lost originator 9 ∷ [])))
     ∷ []

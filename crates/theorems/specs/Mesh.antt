@@ -1,4 +1,5 @@
--- A mesh of points, the elements that the points have sent, and lists of their calls. What is defined here:
+-- Defines a mesh of points, the elements that the points have sent, and lists of their calls. PROTOCOL, 'Demands'. What is
+-- defined here:
 --   Point, Sent, Mesh, start              a point; an element sent; what all points lend, with the log; the mesh at the start
 --   Action, Event, callOf, walkOver       what a point does; one call of a list; the call that may write; a walk over all tables
 --   pointsFit, eventFits                  what demand 3 asks of points and of operands
@@ -55,7 +56,7 @@ freshBox p = lend (freshTable p)
 unfoldable pub start : List Point → Mesh
 start points = record { boxes = map freshBox points; log = [] }
 
--- Returns what the point with own address a lends, or none if there is no such point.
+-- Returns what the point with own address a lends, or none if there is no point a.
 unfoldable pub boxOf : Address → List Lent → Option Lent
 boxOf a [] = none
 boxOf a (l ∷ boxes) = cond (same (own (l .table)) a) (some l) (boxOf a boxes)
@@ -152,7 +153,8 @@ abbrev pub Rules : Type 0
 Rules = Lent → ℕ → Call → Decision Effect
 
 module _ (rules : Rules) where
-  -- Returns the mesh after a call. The mesh stays as it was if there is no such point or no call.
+  -- Returns the mesh after a call. The mesh stays as it was if the point lends nothing, because it is no point of the mesh, or if
+  -- there is no call.
   abbrev pub calls : Mesh → Event → Option Lent → Option Call → Mesh
   calls m e none call = m
   calls m e (some l) none = m

@@ -1,4 +1,4 @@
--- The premise of demand 3: all numbers held or carried for a destination lie in one window.
+-- Defines the premise of demand 3: all numbers held or carried for a destination lie in one window. PROTOCOL, 'Demands'.
 use Prim.Native.Nat.{ℕ, _^_}
 use mathlib.Core.Bool.{Bool, cond}
 use mathlib.Core.List.{List, [], _∷_, _++_, flatMap}

@@ -1,5 +1,5 @@
--- Runs as data, and tests of them that compute. Two runs have everything that demand 3 asks for and find their way. Eight runs
--- loop: five under wrong rules, two with a call that demand 3 leaves out, and one outside the premise of demand 3. What is
+-- Defines runs as data, and tests of them that compute. Two runs have everything that demand 3 asks for and find their way. Eight
+-- runs loop: five under wrong rules, two with a call that demand 3 leaves out, and one outside the premise of demand 3. What is
 -- defined here:
 --   _gets_over_at_, _asks-for_lasting_, ..        events, in words
 --   Run                                           points, events and a destination
@@ -420,7 +420,7 @@ abbrev pub afterTableCall : Mesh → Address → Lent → Decision (List ℕ) �
 afterTableCall m a l (refused n) = m
 afterTableCall m a l (accepted t) = record { boxes = withBox a (withTable t l) (m .boxes); log = m .log }
 
--- Returns the mesh after the point a has called fresh or forget. The mesh stays as it was if there is no such point.
+-- Returns the mesh after the point a has called fresh or forget. The mesh stays as it was if there is no point a.
 abbrev pub tableCalled : Mesh → Address → (List ℕ → Decision (List ℕ)) → Option Lent → Mesh
 tableCalled m a call none = m
 tableCalled m a call (some l) = afterTableCall m a l (call (l .table))

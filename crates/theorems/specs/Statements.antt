@@ -122,7 +122,7 @@ FramesInOutput =
     → (x : Exit) → atExit l output (decision l (length output) call) ≡ x
     → (map readFrame (framesAt x) ≡ e .frames) × (flatMap (λ (s : List ℕ). s) (framesAt x) ≡ take (x .octets) (x .output))
 
--- The octets s pass refusals 6, 7 and 8.
+-- States that the octets s pass refusals 6, 7 and 8.
 pub record ReadsAsElement (s : List ℕ) : Type 0 where
   pub passes-6 : wrongLength s ≡ false
   pub passes-7 : otherId s ≡ false

@@ -1,4 +1,4 @@
--- PROTOCOL, 'Worked case', as octets: the input of the bench, and the text that it prints.
+-- Defines the worked case as octets: the input of the bench, and the text that it prints. PROTOCOL, 'Worked case'.
 use Prim.Native.Nat.{ℕ, _+_}
 use mathlib.Core.List.{List, [], _∷_, _++_, flatMap}
 use Rattle.octets.specs.LittleEndian.{numberOctets}

@@ -1,4 +1,4 @@
--- The decision for each ending of a walk, and the numbers that the walk returns (PROTOCOL, 'Walk').
+-- Defines the decision for each ending of a walk, and the numbers that the walk returns. PROTOCOL, 'Walk'.
 use Rattle.rules.specs.Decision.{Decision, refused, accepted}
 use Rattle.rules.specs.Walk.{Walked, arrived, stopped, tooLong}
 use Rattle.walk.specs.declared.Ending.{Ending}

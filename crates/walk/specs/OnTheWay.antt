@@ -1,5 +1,5 @@
--- What the code of the walk holds between hops. Only contracts of the code use the definitions of this file. They are no part
--- of what a walk is.
+-- Defines what the code of the walk holds between hops. Only contracts of the code use the definitions of this file. They are no
+-- part of what a walk is.
 use Prim.Native.Nat.{ℕ}
 use mathlib.Core.Bool.{cond, _||_}
 use mathlib.Core.List.{List}
@@ -13,7 +13,7 @@ use Rattle.rules.specs.Walk.{Walked, stopped, points, follow}
 unfoldable pub stoppedAt : List (List ℕ) → Address → (hops before : ℕ) → Walked
 stoppedAt tables a hops before = cond (contains (points tables) a) (stopped hops) (stopped before)
 
--- Returns the ending of a walk that has come to address a, which may be neither the destination nor a point.
+-- Returns the ending of a walk that stands at address a, which may be neither the destination nor a point.
 unfoldable pub resumed : List (List ℕ) → ℕ → Address → (remaining : ℕ) → Address → (hops before : ℕ) → Walked
 resumed tables c d remaining a hops before =
     cond (same a d || contains (points tables) a) (follow tables c d remaining a hops) (stopped before)

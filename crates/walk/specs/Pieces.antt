@@ -1,5 +1,5 @@
--- What the functions of the walk know about the octets once these are tables side by side. Only contracts of the code use the
--- definitions of this file. They are no part of what a walk is.
+-- Defines what the functions of the walk know about octets that passed refusal 1. Only contracts of the code use the definitions
+-- of this file. They are no part of what a walk is.
 use Prim.Native.Nat.{ℕ, _*_, _≤_}
 use mathlib.Core.Path.{_≡_}
 use mathlib.Core.List.{List}

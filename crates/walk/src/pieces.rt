@@ -53,7 +53,7 @@ pub fn is_point(tables: &[u8], long: usize, count: usize, address: Address) -> b
     contains(tables, long, count, 0, address)
 }
 
-// Reports whether two points have the same address.
+// Reports whether two points have equal addresses.
 pub fn has_duplicate(tables: &[u8], long: usize, count: usize) -> bool
     requires { ⌜ Pieces (now tables) long count ⌝ }
     ensures { λ r. ⌜ r ≡ hasDuplicate (points (pieces (now (tables .entry)) long count)) ⌝ }

@@ -39,8 +39,8 @@ fn next_from(
     NextHop::Nobody
 }
 
-// Returns the ending of a walk that comes to address `at`, from which no active row leads on. If no point has that address,
-// the hop to it is not counted.
+// Returns the ending of a walk that stands at address `at`, from which no active row leads on. If no point has that address, the
+// hop to it is not counted.
 fn stopped(tables: &[u8], long: usize, count: usize, at: Address, hops: u8, before: u8) -> Ending
     requires { ⌜ Pieces (now tables) long count ⌝ }
     ensures { λ r. ⌜ walkDecision r ≡ accepted (stoppedAt (pieces (now (tables .entry)) long count) at hops before) ⌝ }
@@ -75,8 +75,8 @@ fn ended(
     Ending::TooLong(HopCount(hops))
 }
 
-// Follows the rows from the start. Whether a next hop is a point is found out where the walk goes on from it, and each next
-// hop is therefore looked up once.
+// Follows the rows from the start. It finds out whether a next hop is a point when it walks on from that next hop, and therefore
+// looks each next hop up once.
 pub fn follow(
     tables: &[u8],
     long: usize,

@@ -1,3 +1,3 @@
--- Laws about the writers, for the proofs of this crate and of its callers.
+-- Laws of the writers, for the proofs of this crate and of crates that use it.
 pub mod Written
 pub mod Listing

@@ -1,5 +1,5 @@
--- Entries written one after another, where an entry may write nothing. `Listing` says how far the output is before entry i, and
--- that writing the rest gives the whole list.
+-- Laws of entries written one after another, where an entry may write nothing. `Listing` says how far the output is before entry
+-- i, and that writing the rest gives the whole list.
 use Prim.Native.Nat.{ℕ, suc, _+_, _-_, _*_, _/_, _<_, _≤_}
 use mathlib.Core.Path.{_≡_, sym, ap, _∙_}
 use mathlib.Core.List.{List, [], _++_, flatMap}

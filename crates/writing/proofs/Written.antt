@@ -1,4 +1,4 @@
--- What the writers write: the start of a frame as one run of fields, and the list after it.
+-- Laws of what the writers write: the start of a frame as one run of fields, and the list after it.
 use Prim.Native.Nat.{ℕ, _+_, _-_, _/_, _<_, _≤_}
 use mathlib.Core.Path.{_≡_, refl, sym, ap, ap₂, _∙_}
 use mathlib.Core.List.{List, [], _∷_, _++_, append-nil, append-assoc, flatMap}

@@ -1,4 +1,4 @@
-// Writing frames into a lent output, each as a receiver address and an element. Every function that writes a whole frame, the
+// Writes frames into a lent output, each as a receiver address and an element. Every function that writes a whole frame, the
 // start of a frame or an entry returns the place after the octets that it wrote. The rest of the output stays unchanged.
 use element::LostDestination;
 use element::PathInfo;

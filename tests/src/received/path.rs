@@ -72,7 +72,8 @@ fn some_metric(link: u32, row: u32, random: &mut Random) -> u32 {
     metric.min(most.saturating_sub(link))
 }
 
-/// Changes one field so that no point accepts it. A RERR has all such fields in its list.
+/// Changes one field, in most cases so that the point refuses the element. A RERR stays as it is,
+/// because it has only flags before its list.
 pub(super) fn spoil(element: &mut [u8], own: [u8; 6], random: &mut Random) {
     let Some((end_at, lifetime_at)) = places(element) else {
         return;

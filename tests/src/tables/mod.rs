@@ -157,7 +157,7 @@ pub fn full(rows: usize, random: &mut Random) -> Vec<u8> {
     filled(rows, &mould, random)
 }
 
-/// Returns a legal table of which one break can lose nearly all rows. Several RERRs are needed only
+/// Returns a legal table in which one break can lose nearly all rows. Several RERRs are needed only
 /// if many rows are lost at once.
 pub fn leaning(rows: usize, random: &mut Random) -> Vec<u8> {
     let mould = Mould {

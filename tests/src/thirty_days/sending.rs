@@ -120,7 +120,7 @@ impl Days {
         *latest = frame.number.max(*latest);
     }
 
-    /// A damaged element may be valid although no point sent it. Demand 3 does not cover such an
+    /// A damaged element may be valid although no point sent it. Demand 3 does not cover a damaged
     /// element, so the point itself must not learn from it: a copy of the point receives it.
     fn receive_damaged(&mut self, mut received: Received, receiver: usize) {
         let table = self.mesh.table(receiver);

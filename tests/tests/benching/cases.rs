@@ -153,7 +153,7 @@ fn a_break_names_the_neighbour_by_its_number() {
             (walk(1, 0), "8 41 0"),
             (walk(2, 0), "8 41 1"),
             (report_break(1, 0), "7 0 0"),
-            // The error is frame 3. It concerns point 2, which forwards it as frame 4.
+            // The error is frame 3. It has a match at point 2, which sends frame 4.
             (deliver(3, 0), "6 26 0"),
             (deliver(3, 2), "6 0 1"),
             (walk(2, 0), "8 41 0"),

@@ -171,7 +171,8 @@ fn a_known_number_is_stepped() {
     println!("break: numbers stepped, also past 4,294,967,295");
 }
 
-/// The metric of a row of unknown number stays, and the row is announced with number 0.
+/// The metric of a row of unknown number stays, and the RERR names the row's destination with
+/// number 0.
 #[test]
 fn an_unknown_number_stays_unknown() {
     for metric in [1, 30, 0xFFFF_FFFF] {

@@ -173,7 +173,7 @@ impl Point {
     }
 }
 
-/// Returns the number with which a lost row is announced: stepped if it is known.
+/// Returns the number with which a RERR names a lost row: stepped if it is known.
 fn announced(row: &Row) -> SequenceNumber {
     SequenceNumber(row.number.0.wrapping_add(row.number_known.into()))
 }

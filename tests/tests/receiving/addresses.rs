@@ -21,7 +21,7 @@ fn ends_and_sources_are_individual() {
         refuses(&what, &ROWS, &rrep(0, to(bad), A, &[]), BAD_ADDRESS);
         refuses(&what, &ROWS, &rrep(0, PATH, bad, &[]), BAD_ADDRESS);
     }
-    // Also where both are the same, which alone would give 10.
+    // Also where both addresses are equal, which alone would give 10.
     refuses("both", &ROWS, &rrep(0, to(GROUP), GROUP, &[]), BAD_ADDRESS);
 }
 

@@ -43,7 +43,7 @@ const RECEIVED_FOR_9: [(u32, bool); 8] = [
 ];
 
 /// The row is invalidated in any case. Only a newer number is taken, with the largest metric. The
-/// forwarded error has the number as received.
+/// RERR that the point sends has the number as received.
 #[test]
 fn a_match_is_invalidated() {
     for (number, newer) in RECEIVED_FOR_9 {
@@ -116,7 +116,8 @@ fn without_a_match_it_is_refused_with_26() {
     );
 }
 
-/// Only the matches change and are forwarded, in the order of the error and not of the table.
+/// Only the rows of the matches change, and the RERR that the point sends names only the matches,
+/// in the order of the received RERR and not of the table.
 #[test]
 fn only_matches_go_on() {
     for (what, row) in not_concerned() {

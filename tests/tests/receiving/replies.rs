@@ -91,8 +91,8 @@ fn hops_left() {
     }
 }
 
-/// 11-06-1778 takes a reply with an equal number at any metric. docs/PROTOCOL.md refuses it unless
-/// the metric is smaller.
+/// The draft takes a reply with an equal number at any metric. docs/PROTOCOL.md refuses it unless
+/// the metric is smaller ('Departures from the draft').
 #[test]
 fn a_reply_with_an_equal_number_must_be_better() {
     let held = |metric| Row {

@@ -172,7 +172,7 @@ fn only_an_active_row_of_known_number_answers() {
     }
 }
 
-/// The row may have the largest metric and hop count, although every receiver refuses such a reply.
+/// The row may have the largest metric and hop count, although every receiver refuses the reply.
 #[test]
 fn an_intermediate_reply_has_what_the_row_has() {
     let rows = [

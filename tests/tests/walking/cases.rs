@@ -39,8 +39,8 @@ fn leading(place: usize, destination: Address, next_hop: Address) -> Vec<u8> {
     point(place, &[row(destination, next_hop)])
 }
 
-/// Returns points of which each leads to the destination through the next one. The last point has
-/// the row `last`.
+/// Returns points that each lead to the destination through the next one. The last point has the
+/// row `last`.
 fn line(count: usize, destination: Address, last: Row) -> Vec<Vec<u8>> {
     let next = |place| row(destination, address(place + 1));
     let rows = (0..count - 1).map(next).chain([last]);

@@ -117,7 +117,7 @@ fn a_start_must_be_a_point() {
     }
 }
 
-/// 10: two points have one address, on the way or not.
+/// 10: two points have equal addresses, on the way or not.
 #[test]
 fn two_points_may_not_have_one_address() {
     for count in 2..=16 {

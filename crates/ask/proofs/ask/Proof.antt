@@ -1,4 +1,4 @@
--- `ask::ask` meets its contract. Its check decides, and `send` does what an accepted ask does.
+-- `ask::ask` meets its contract: its check decides, and `send` does what an accepted ask does.
 use borrow.Author.Needs.{needs}
 use Rattle.ask.proofs.Asked.{ask-table-sized, ask-output-long, items-some, items-few, ask-refused, ask-accepted}
 use Rattle.ask.proofs.ask.Statement.{statement}

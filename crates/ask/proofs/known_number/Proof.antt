@@ -1,4 +1,4 @@
--- `ask::known_number` meets its contract. Each return is a case of `knownNumber`.
+-- `ask::known_number` meets its contract: each return is a case of `knownNumber`.
 use borrow.Author.Needs.{needs}
 use Rattle.table.proofs.Cases.{found-within}
 use Rattle.ask.proofs.Asked.{number-absent, number-unknown, number-known}

@@ -1,4 +1,4 @@
--- `ask::send` meets its contract. It writes the head after the step, and one frame with the destinations.
+-- `ask::send` meets its contract: it writes the head after the step, and one frame with the destinations.
 use borrow.Author.Needs.{needs}
 use Rattle.ask.proofs.Asked.{asked-exit}
 use Rattle.ask.proofs.send.Statement.{statement}

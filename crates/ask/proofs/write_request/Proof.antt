@@ -1,4 +1,4 @@
--- `ask::write_request` meets its contract. It writes the start, and then the destinations.
+-- `ask::write_request` meets its contract: it writes the start, and then the destinations.
 use borrow.Author.Needs.{needs}
 use Rattle.ask.proofs.Asked.{asked-written}
 use Rattle.ask.proofs.write_request.Statement.{statement}

@@ -1,4 +1,4 @@
--- `bench_run::run` meets its contract. It begins at the start, each turn finds the bench where its input has led it, and the
+-- `bench_run::run` meets its contract: it begins at the start, each turn finds the bench where its input has led it, and the
 -- turns end.
 use Prim.Native.Nat.{_+_, _*_, _≤_}
 use mathlib.Core.Path.{_≡_}

@@ -1,5 +1,4 @@
--- `bench_slots::keep_frames` meets its contract: in each turn, keeping the remaining frames would give the slots of the
--- contract.
+-- `bench_slots::keep_frames` meets its contract. Invariant: keeping the remaining frames would give the slots of the contract.
 use Prim.Native.Nat.{_+_, _-_, _≤_}
 use mathlib.Core.Path.{_≡_}
 use lib.ListN.{length, drop}

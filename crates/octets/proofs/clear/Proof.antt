@@ -1,4 +1,4 @@
--- `octets::clear` meets its contract: every octet before the current one is zero.
+-- `octets::clear` meets its contract. Invariant: every octet before the current one is zero.
 use Prim.Native.Nat.{_-_}
 use mathlib.Core.Path.{_≡_}
 use lib.ListN.{length}

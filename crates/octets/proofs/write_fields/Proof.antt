@@ -1,4 +1,4 @@
--- `octets::write_fields` meets its contract: writing the fields that are left gives the whole result.
+-- `octets::write_fields` meets its contract. Invariant: writing the fields that are left gives the whole result.
 use Prim.Native.Nat.{_+_, _-_, _≤_}
 use mathlib.Core.Path.{_≡_}
 use lib.ListN.{length, getD, drop}

@@ -1,4 +1,4 @@
--- `walk::are_side_by_side` meets its contract. Each return is a case of `sideBySide`.
+-- `walk::are_side_by_side` meets its contract: each return is a case of `sideBySide`.
 use borrow.Author.Needs.{needs}
 use Rattle.walk.proofs.Tables.{first-within, none-at-all, too-many, uneven, even}
 use Rattle.walk.proofs.are_side_by_side.Statement.{statement}

@@ -1,4 +1,4 @@
--- `walk::check` meets its contract. It returns the first refusal of the walk's list that applies.
+-- `walk::check` meets its contract: it returns the first refusal of the walk's list that applies.
 use borrow.Author.Needs.{needs}
 use Rattle.calls.proofs.Checks.{checking}
 use Rattle.walk.proofs.Tables.{pieces-there, divisible, ten-tested}

@@ -1,4 +1,4 @@
--- `walk::check_state` meets its contract. It returns the first of the two refusals that applies.
+-- `walk::check_state` meets its contract: it returns the first of the two refusals that applies.
 use borrow.Author.Needs.{needs}
 use Rattle.calls.proofs.Checks.{checking}
 use Rattle.walk.proofs.check_state.Statement.{statement}

@@ -1,4 +1,4 @@
--- `walk::in_numbers` meets its contract. Each case has its number.
+-- `walk::in_numbers` meets its contract: each case has its number.
 use borrow.Author.Needs.{needs}
 use Rattle.walk.proofs.in_numbers.Statement.{statement}
 use Rattle.walk.proofs.in_numbers.Tie as tie

@@ -1,4 +1,4 @@
--- `walk::walk` meets its contract. It refuses as the checks say, and otherwise follows the way.
+-- `walk::walk` meets its contract: it refuses as the checks say, and otherwise follows the way.
 use borrow.Author.Needs.{needs}
 use Rattle.walk.proofs.Ways.{count-accepted, pieces-accepted, start-accepted, walk-accepted, walk-refused}
 use Rattle.walk.proofs.walk.Statement.{statement}

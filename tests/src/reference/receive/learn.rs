@@ -108,8 +108,8 @@ impl Reception<'_> {
     }
 }
 
-/// Refusal 25, for rows of any status. 11-06-1778 has no test of the metric for a RREP;
-/// docs/PROTOCOL.md has it for all three types.
+/// Refusal 25, for rows of any status. The draft has no test of the metric for a RREP;
+/// docs/PROTOCOL.md has it for all three types ('Departures from the draft').
 fn is_stale(path: &Path, row: &Row) -> bool {
     let same = path.number == row.number;
     row.has_known_number()

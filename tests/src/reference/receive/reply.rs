@@ -14,8 +14,7 @@ impl Reception<'_> {
         let path = path(rrep).over(self.link)?;
         let ttl = ttl_left(rrep.ttl).ok_or(LOW_TTL)?;
         self.learn(&path)?;
-        // No row has the own address, so this point does not forward a reply of which it is the
-        // source.
+        // No row has the own address, so this point does not forward a reply whose source it is.
         if let Some(next_hop) = self.next_hop(rrep.source) {
             let onward = Rrep {
                 hop_count: path.hop_count,

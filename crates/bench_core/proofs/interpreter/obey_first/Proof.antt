@@ -1,4 +1,4 @@
--- `bench_core::interpreter::obey_first` meets its contract. The command is unknown, cut, or obeyed.
+-- `bench_core::interpreter::obey_first` meets its contract: the command is unknown, cut, or obeyed.
 use borrow.Author.Needs.{needs}
 use Rattle.bench_core.proofs.Obeying.{first-read, memory-remains, command-unknown, command-cut, command-obeyed}
 use Rattle.bench_core.proofs.interpreter.obey_first.Statement.{statement}

@@ -1,4 +1,4 @@
--- `bench_core::settle::keep_emitted` meets its contract. The frames are kept, or there are too many.
+-- `bench_core::settle::keep_emitted` meets its contract: the frames are kept, or there are too many.
 use borrow.Author.Needs.{needs}
 use Rattle.bench_core.proofs.Settling.{not-kept-prints, kept-prints}
 use Rattle.bench_core.proofs.settle.keep_emitted.Statement.{statement}

@@ -1,4 +1,4 @@
--- `bench_core::traffic::break_off` meets its contract. There is no point p, no point q, or the result is that of the call.
+-- `bench_core::traffic::break_off` meets its contract: there is no point p, no point q, or the result is that of the call.
 use borrow.Author.Needs.{needs}
 use Rattle.bench_points.proofs.Lending.{lent-table}
 use Rattle.bench_core.proofs.Calling.{break-fault, neighbour-fault, break-holds, break-done}

@@ -1,4 +1,4 @@
--- `bench_core::traffic::deliver_frame` meets its contract. There is no frame k, no point p, or the point receives the frame.
+-- `bench_core::traffic::deliver_frame` meets its contract: there is no frame k, no point p, or the point receives the frame.
 use borrow.Author.Needs.{needs}
 use Rattle.bench_core.proofs.Calling.{frame-fault, receiver-fault, sender-point, transmitter-fits, delivered}
 use Rattle.bench_core.proofs.traffic.deliver_frame.Statement.{statement}

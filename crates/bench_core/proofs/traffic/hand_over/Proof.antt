@@ -1,4 +1,4 @@
--- `bench_core::traffic::hand_over` meets its contract. The result is that of the receive.
+-- `bench_core::traffic::hand_over` meets its contract: the result is that of the receive.
 use borrow.Author.Needs.{needs}
 use Rattle.bench_points.proofs.Lending.{lent-table}
 use Rattle.bench_core.proofs.Calling.{receive-holds, handed-over}

@@ -1,4 +1,4 @@
--- `bench_core::traffic::item_of` meets its contract. The item is the flags, and after them the six octets of the address.
+-- `bench_core::traffic::item_of` meets its contract: the item is the flags, and after them the six octets of the address.
 use borrow.Author.Needs.{needs}
 use Rattle.bench_core.proofs.Calling.{item-is}
 use Rattle.bench_core.proofs.traffic.item_of.Statement.{statement}

@@ -1,4 +1,4 @@
--- `bench_run::block::print_fault` meets its contract. It writes the line of the fault, and all of the block is used.
+-- `bench_run::block::print_fault` meets its contract: it writes the line of the fault, and all of the block is used.
 use borrow.Author.Needs.{needs}
 use Rattle.bench_run.proofs.Stepping.{fault-printed}
 use Rattle.bench_run.proofs.block.print_fault.Statement.{statement}

@@ -1,4 +1,4 @@
--- `bench_run::block::print_line` meets its contract. It writes the line, and the octets of the command are used.
+-- `bench_run::block::print_line` meets its contract: it writes the line, and the octets of the command are used.
 use borrow.Author.Needs.{needs}
 use Rattle.bench_run.proofs.Stepping.{octets-fit, line-printed, line-text}
 use Rattle.bench_run.proofs.block.print_line.Statement.{statement}

@@ -1,4 +1,4 @@
--- `bench_run::block::step` meets its contract. A line leaves the octets behind the command, and a fault ends the bench.
+-- `bench_run::block::step` meets its contract: a line leaves the octets after the command, and a fault ends the bench.
 use borrow.Author.Needs.{needs}
 use Rattle.bench_run.proofs.Stepping.{all-octets, line-course, line-stands, line-uses, fault-course, fault-stands, fault-uses, to-the-end}
 use Rattle.bench_run.proofs.block.step.Statement.{statement}

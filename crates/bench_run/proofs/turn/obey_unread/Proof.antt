@@ -1,4 +1,4 @@
--- `bench_run::turn::obey_unread` meets its contract. It obeys what is left from where the bench stands.
+-- `bench_run::turn::obey_unread` meets its contract: it obeys what is left from where the bench stands.
 use borrow.Author.Needs.{needs}
 use Rattle.bench_run.proofs.Turning.{turned, offset-near, block-turned}
 use Rattle.bench_run.proofs.turn.obey_unread.Statement.{statement}

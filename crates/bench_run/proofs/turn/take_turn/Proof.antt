@@ -1,4 +1,4 @@
--- `bench_run::turn::take_turn` meets its contract. It obeys what has been read from where the bench stands.
+-- `bench_run::turn::take_turn` meets its contract: it obeys what has been read from where the bench stands.
 use borrow.Author.Needs.{needs}
 use Rattle.bench_run.proofs.Turning.{refilled, read-and-turned}
 use Rattle.bench_run.proofs.turn.take_turn.Statement.{statement}

@@ -1,5 +1,5 @@
--- `breaking::break_neighbour::break_neighbour` meets its contract. Its check decides, and `break_off` does what an accepted
--- break does. The contract has no `requires`.
+-- `breaking::break_neighbour::break_neighbour` meets its contract: its check decides, and `break_off` does what an accepted break
+-- does. The contract has no `requires`.
 use borrow.Author.Needs.{needs}
 use Rattle.breaking.proofs.Broken.{break-table-sized, break-output-long, break-refused, break-accepted}
 use Rattle.breaking.proofs.break_neighbour.break_neighbour.Statement.{statement}

@@ -1,4 +1,4 @@
--- `breaking::errors::add` meets its contract. It writes a start if one is begun, and then the entry.
+-- `breaking::errors::add` meets its contract: it writes a start if one is begun, and then the entry.
 use borrow.Author.Needs.{needs}
 use Rattle.breaking.proofs.Reported.{entry-fits, entry-after, entry-added}
 use Rattle.breaking.proofs.errors.add.Statement.{statement}

@@ -1,4 +1,4 @@
--- `breaking::errors::begin_if_full` meets its contract. A RERR is begun, or not.
+-- `breaking::errors::begin_if_full` meets its contract: a RERR is begun, or not.
 use borrow.Author.Needs.{needs}
 use Rattle.breaking.proofs.Reported.{next-there, next-same, next-begun, next-starts}
 use Rattle.breaking.proofs.errors.begin_if_full.Statement.{statement}

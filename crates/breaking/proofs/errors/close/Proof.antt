@@ -1,4 +1,4 @@
--- `breaking::errors::close` meets its contract. The last RERR has its count, or gets it.
+-- `breaking::errors::close` meets its contract: the last RERR has its count, or gets it.
 use borrow.Author.Needs.{needs}
 use Rattle.breaking.proofs.Reported.{close-none, close-last}
 use Rattle.breaking.proofs.errors.close.Statement.{statement}

@@ -1,4 +1,4 @@
--- `breaking::report::report` meets its contract. All rows are reported, and the errors are closed.
+-- `breaking::report::report` meets its contract: all rows are reported, and the RERRs are closed.
 use borrow.Author.Needs.{needs}
 use Rattle.breaking.proofs.Broken.{lost-few, lost-placed, lost-filled, lost-counted, errors-closed}
 use Rattle.breaking.proofs.report.report.Statement.{statement}

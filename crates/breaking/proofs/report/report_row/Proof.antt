@@ -1,4 +1,4 @@
--- `breaking::report::report_row` meets its contract. The destination is added, or nothing changes.
+-- `breaking::report::report_row` meets its contract: the destination is added, or nothing changes.
 use borrow.Author.Needs.{needs}
 use Rattle.breaking.proofs.Broken.{none-reported, none-added, one-reported, one-added}
 use Rattle.breaking.proofs.report.report_row.Statement.{statement}

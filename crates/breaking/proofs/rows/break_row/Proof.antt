@@ -1,4 +1,4 @@
--- `breaking::rows::break_row` meets its contract. The row breaks, or stays.
+-- `breaking::rows::break_row` meets its contract: the row breaks, or stays.
 use borrow.Author.Needs.{needs}
 use Rattle.breaking.proofs.Broken.{no-row, one-row}
 use Rattle.breaking.proofs.rows.break_row.Statement.{statement}

@@ -1,4 +1,4 @@
--- `breaking::rows::broken` meets its contract. Each return is a case of `broken`.
+-- `breaking::rows::broken` meets its contract: each return is a case of `broken`.
 use borrow.Author.Needs.{needs}
 use Rattle.breaking.proofs.Broken.{broken-unknown, broken-known}
 use Rattle.breaking.proofs.rows.broken.Statement.{statement}

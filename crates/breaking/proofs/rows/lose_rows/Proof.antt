@@ -1,4 +1,4 @@
--- `breaking::rows::lose_rows` meets its contract. Either no row breaks, or `break_rows` goes through all rows.
+-- `breaking::rows::lose_rows` meets its contract: either no row breaks, or `break_rows` goes through all rows.
 use borrow.Author.Needs.{needs}
 use Rattle.table.proofs.Changes.{below-all}
 use Rattle.breaking.proofs.Broken.{none-changed}

@@ -1,4 +1,4 @@
--- `destinations::replies::newer_of` meets its contract. Each return is a case of `newerOf`.
+-- `destinations::replies::newer_of` meets its contract: each return is a case of `newerOf`.
 use borrow.Author.Needs.{needs}
 use Rattle.destinations.proofs.Replying.{becomes-requested, stays-own}
 use Rattle.destinations.proofs.replies.newer_of.Statement.{statement}

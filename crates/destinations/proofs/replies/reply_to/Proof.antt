@@ -1,4 +1,4 @@
--- `destinations::replies::reply_to` meets its contract. Each return is a case of `answered`.
+-- `destinations::replies::reply_to` meets its contract: each return is a case of `answered`.
 use borrow.Author.Needs.{needs}
 use Rattle.destinations.proofs.Replying.{self-place, self-output, other-place, other-output, unwanted-place, unwanted-output, wanted-place, wanted-output}
 use Rattle.destinations.proofs.replies.reply_to.Statement.{statement}

@@ -1,4 +1,4 @@
--- `element::list::contains_from` meets its contract: none of the entries that the loop has passed has the address.
+-- `element::list::contains_from` meets its contract. Invariant: none of the entries that the loop has passed has the address.
 use Prim.Native.Nat.{_-_}
 use mathlib.Core.Path.{_≡_}
 use borrow.Author.Needs.{needs}

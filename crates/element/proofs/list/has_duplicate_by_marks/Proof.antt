@@ -1,4 +1,5 @@
--- `element::list::has_duplicate_by_marks` meets its contract: the entries from `from` on have no address twice, and are marked.
+-- `element::list::has_duplicate_by_marks` meets its contract. Invariant: the entries from `from` on have no address twice, and
+-- are marked.
 use Prim.Native.Nat.{_+_, _≤_}
 use mathlib.Core.Path.{_≡_}
 use mathlib.Core.Bool.{false}

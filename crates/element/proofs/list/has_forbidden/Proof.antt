@@ -1,4 +1,4 @@
--- `element::list::has_forbidden` meets its contract: all entries that the loop has passed are allowed.
+-- `element::list::has_forbidden` meets its contract. Invariant: all entries that the loop has passed are allowed.
 use Prim.Native.Nat.{_-_}
 use mathlib.Core.Path.{_≡_}
 use borrow.Author.Needs.{needs}

@@ -1,4 +1,4 @@
--- `matches::matching::matches_nothing` meets its contract: no entry before the current one is a match.
+-- `matches::matching::matches_nothing` meets its contract. Invariant: no entry before the current one is a match.
 use Prim.Native.Nat.{_-_}
 use mathlib.Core.Path.{_≡_}
 use borrow.Author.Needs.{needs}

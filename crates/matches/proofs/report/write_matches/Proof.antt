@@ -1,4 +1,4 @@
--- `matches::report::write_matches` meets its contract: writing what is left gives the whole result.
+-- `matches::report::write_matches` meets its contract. Invariant: writing what is left gives the whole result.
 use Prim.Native.Nat.{_-_}
 use mathlib.Core.Path.{_≡_}
 use lib.ListN.{length}

@@ -1,4 +1,4 @@
--- `matches::rows::lose_rows` meets its contract: every row before the current one is done.
+-- `matches::rows::lose_rows` meets its contract. Invariant: every row before the current one is done.
 use Prim.Native.Nat.{_-_, _≤_}
 use mathlib.Core.Path.{_≡_}
 use lib.ListN.{length}

@@ -1,4 +1,4 @@
--- `matches::rows::number_beside` meets its contract: the entries before the current one have other addresses.
+-- `matches::rows::number_beside` meets its contract. Invariant: the entries before the current one have other addresses.
 use Prim.Native.Nat.{_-_}
 use mathlib.Core.Path.{_≡_}
 use borrow.Author.Needs.{needs}

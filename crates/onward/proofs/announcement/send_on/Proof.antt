@@ -1,4 +1,4 @@
--- `onward::announcement::send_on` meets its contract. It writes no frame or one, by the TTL.
+-- `onward::announcement::send_on` meets its contract: it writes no frame or one, by the TTL.
 use borrow.Author.Needs.{needs}
 use Rattle.onward.proofs.Going.{announcement-none, announcement-unwritten, announcement-counted, announcement-written}
 use Rattle.onward.proofs.announcement.send_on.Statement.{statement}

@@ -1,4 +1,4 @@
--- `onward::kept::kept_of` meets its contract. Each return is a case of `keptOf`.
+-- `onward::kept::kept_of` meets its contract: each return is a case of `keptOf`.
 use borrow.Author.Needs.{needs}
 use Rattle.onward.proofs.KeptOnes.{own-struck, ones-kept, unanswered-kept, answered-struck, answered-kept}
 use Rattle.onward.proofs.kept.kept_of.Statement.{statement}

@@ -1,4 +1,4 @@
--- `onward::kept::write_if_kept` meets its contract. The destination is written, or not.
+-- `onward::kept::write_if_kept` meets its contract: the destination is written, or not.
 use borrow.Author.Needs.{needs}
 use Rattle.writing.proofs.Listing.{skipped-place, skipped-written, taken-written}
 use Rattle.onward.proofs.KeptOnes.{one-kept, kept-place, none-kept}

@@ -1,4 +1,4 @@
--- `onward::reply::receiver_of` meets its contract. Each return is a case of `replyReceiver`.
+-- `onward::reply::receiver_of` meets its contract: each return is a case of `replyReceiver`.
 use borrow.Author.Needs.{needs}
 use Rattle.onward.proofs.Going.{source-own, source-other}
 use Rattle.onward.proofs.reply.receiver_of.Statement.{statement}

@@ -1,4 +1,4 @@
--- `onward::reply::send_on` meets its contract. It sends the RREP to its receiver.
+-- `onward::reply::send_on` meets its contract: it sends the RREP to its receiver.
 use borrow.Author.Needs.{needs}
 use Rattle.onward.proofs.Going.{reply-goes-counted, reply-goes-written}
 use Rattle.onward.proofs.reply.send_on.Statement.{statement}

@@ -1,4 +1,4 @@
--- `onward::reply::send_to` meets its contract. It writes no frame or one, by the receiver.
+-- `onward::reply::send_to` meets its contract: it writes no frame or one, by the receiver.
 use borrow.Author.Needs.{needs}
 use Rattle.onward.proofs.Going.{reply-none, reply-unwritten, reply-room, reply-counted, reply-written}
 use Rattle.onward.proofs.reply.send_to.Statement.{statement}

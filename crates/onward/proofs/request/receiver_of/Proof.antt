@@ -1,4 +1,4 @@
--- `onward::request::receiver_of` meets its contract. Each return is a case of `requestReceiver`.
+-- `onward::request::receiver_of` meets its contract: each return is a case of `requestReceiver`.
 use borrow.Author.Needs.{needs}
 use Rattle.onward.proofs.Requests.{to-all, to-one}
 use Rattle.onward.proofs.request.receiver_of.Statement.{statement}

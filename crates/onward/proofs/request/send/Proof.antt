@@ -1,4 +1,4 @@
--- `onward::request::send` meets its contract. It writes no frame or one, by the receiver.
+-- `onward::request::send` meets its contract: it writes no frame or one, by the receiver.
 use borrow.Author.Needs.{needs}
 use Rattle.onward.proofs.Requests.{request-none, request-unwritten, request-one, request-one-written}
 use Rattle.onward.proofs.request.send.Statement.{statement}

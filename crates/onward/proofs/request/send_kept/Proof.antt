@@ -1,4 +1,4 @@
--- `onward::request::send_kept` meets its contract. It writes the kept destinations, and the start after them.
+-- `onward::request::send_kept` meets its contract: it writes the kept destinations, and the start after them.
 use borrow.Author.Needs.{needs}
 use Rattle.onward.proofs.Requests.{nothing-kept, nothing-written, count-few, kept-room, kept-counted, kept-sent}
 use Rattle.onward.proofs.request.send_kept.Statement.{statement}

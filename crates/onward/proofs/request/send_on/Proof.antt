@@ -1,4 +1,4 @@
--- `onward::request::send_on` meets its contract. It writes nothing if the TTL is low, and otherwise sends the RREQ to its
+-- `onward::request::send_on` meets its contract: it writes nothing if the TTL is low, and otherwise sends the RREQ to its
 -- receiver.
 use borrow.Author.Needs.{needs}
 use Rattle.onward.proofs.Requests.{request-low, request-low-unwritten, request-counted, request-written}

@@ -1,4 +1,4 @@
--- `originate::announce::announce` meets its contract. Its check decides, and `send` does what an accepted announcement does.
+-- `originate::announce::announce` meets its contract: its check decides, and `send` does what an accepted announcement does.
 use borrow.Author.Needs.{needs}
 use Rattle.calls.proofs.Checks.{table-sized, output-long}
 use Rattle.originate.proofs.Originated.{announce-refused, announce-accepted}

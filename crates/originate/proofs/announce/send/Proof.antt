@@ -1,4 +1,4 @@
--- `originate::announce::send` meets its contract. It writes the head after the step, and one frame.
+-- `originate::announce::send` meets its contract: it writes the head after the step, and one frame.
 use borrow.Author.Needs.{needs}
 use Rattle.originate.proofs.Originated.{announced-exit}
 use Rattle.originate.proofs.announce.send.Statement.{statement}

@@ -1,4 +1,4 @@
--- `originate::common::start_request` meets its contract. The fields are those of the point.
+-- `originate::common::start_request` meets its contract: the fields are those of the point.
 use borrow.Author.Needs.{needs}
 use Rattle.originate.proofs.Originated.{request-started}
 use Rattle.originate.proofs.common.start_request.Statement.{statement}

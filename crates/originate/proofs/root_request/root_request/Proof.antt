@@ -1,4 +1,4 @@
--- `originate::root_request::root_request` meets its contract. Its check decides, and `send` does what an accepted root request
+-- `originate::root_request::root_request` meets its contract: its check decides, and `send` does what an accepted root request
 -- does.
 use borrow.Author.Needs.{needs}
 use Rattle.calls.proofs.Checks.{table-sized, output-long}

@@ -1,4 +1,4 @@
--- `originate::root_request::send` meets its contract. It writes the head after the step, and one frame with one destination.
+-- `originate::root_request::send` meets its contract: it writes the head after the step, and one frame with one destination.
 use borrow.Author.Needs.{needs}
 use Rattle.originate.proofs.Originated.{root-exit}
 use Rattle.originate.proofs.root_request.send.Statement.{statement}

@@ -1,4 +1,4 @@
--- `probe::again::write_targets` meets its contract: in each turn of the loop, writing the rest would complete the list.
+-- `probe::again::write_targets` meets its contract. Invariant: writing the rest would complete the list.
 use Prim.Native.Nat.{_-_}
 use borrow.Author.Needs.{needs}
 use Rattle.element.specs.Entries.{targetAt, targetOctets}

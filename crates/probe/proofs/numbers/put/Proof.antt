@@ -1,4 +1,4 @@
--- `probe::numbers::put` meets its contract: in each turn of the loop, writing the rest would complete the values.
+-- `probe::numbers::put` meets its contract. Invariant: writing the rest would complete the values.
 use Prim.Native.Nat.{_+_, _-_, _≤_}
 use mathlib.Core.Path.{_≡_}
 use lib.ListN.{length, drop}

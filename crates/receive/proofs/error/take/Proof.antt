@@ -1,4 +1,4 @@
--- `receive::error::take` meets its contract, by the forwarded RERR, the rows and the head.
+-- `receive::error::take` meets its contract, by the RERR that it sends, the rows and the head.
 use borrow.Author.Needs.{needs}
 use Rattle.receive.proofs.Taken.{rerr-exit}
 use Rattle.receive.proofs.error.take.Statement.{statement}

@@ -1,4 +1,4 @@
--- `receive::faults::rreq_has_bad_list` meets its contract. The first fault decides.
+-- `receive::faults::rreq_has_bad_list` meets its contract: the first fault decides.
 use borrow.Author.Needs.{needs}
 use Rattle.receive.proofs.Faulty.{named-duplicate, ones-beside, originator-named, unicast-to-many}
 use Rattle.receive.proofs.faults.rreq_has_bad_list.Statement.{statement}

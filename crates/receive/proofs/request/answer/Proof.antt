@@ -1,4 +1,4 @@
--- `receive::request::answer` meets its contract. It writes the replies, and after them the forwarded RREQ.
+-- `receive::request::answer` meets its contract: it writes the replies, and after them the forwarded RREQ.
 use borrow.Author.Needs.{needs}
 use Rattle.receive.proofs.Taken.{replies-few, replies-after, replies-short, replies-room, onward-few, onward-short, answer-counted, answer-written}
 use Rattle.receive.proofs.request.answer.Statement.{statement}

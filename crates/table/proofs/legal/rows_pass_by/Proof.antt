@@ -1,4 +1,5 @@
--- `table::legal::rows_pass_by` meets its contract: every row before the current one passes, and its destination is marked.
+-- `table::legal::rows_pass_by` meets its contract. Invariant: every row before the current one passes, and its destination is
+-- marked.
 use borrow.Author.Needs.{needs}
 use Prim.Native.Nat.{_+_, _≤_, _-_}
 use mathlib.Core.Path.{_≡_}

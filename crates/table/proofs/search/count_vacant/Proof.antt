@@ -1,4 +1,4 @@
--- `table::search::count_vacant` meets its contract: `found` counts the free rows before the current one.
+-- `table::search::count_vacant` meets its contract. Invariant: `found` counts the free rows before the current one.
 use borrow.Author.Needs.{needs}
 use Prim.Native.Nat.{_≤_, _-_}
 use mathlib.Core.Path.{_≡_}

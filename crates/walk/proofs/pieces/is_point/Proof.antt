@@ -1,4 +1,4 @@
--- `walk::pieces::is_point` meets its contract. It searches the points from the first on.
+-- `walk::pieces::is_point` meets its contract: it searches the points from the first on.
 use borrow.Author.Needs.{needs}
 use Rattle.walk.proofs.Tables.{point-contained}
 use Rattle.walk.proofs.pieces.is_point.Statement.{statement}

@@ -1,4 +1,4 @@
--- `walk::pieces::latest_clock_at` meets its contract. The clock is that of the table's head.
+-- `walk::pieces::latest_clock_at` meets its contract: the clock is that of the table's head.
 use Rattle.walk.proofs.Tables.{piece-within, piece-sized, clock-read}
 use Rattle.walk.proofs.pieces.latest_clock_at.Statement.{statement}
 use Rattle.walk.proofs.pieces.latest_clock_at.Tie as tie

@@ -1,4 +1,4 @@
--- `walk::pieces::point_at` meets its contract. The address is the first six octets of the table.
+-- `walk::pieces::point_at` meets its contract: the address is the first six octets of the table.
 use Rattle.walk.proofs.Tables.{piece-within, piece-address, point-read}
 use Rattle.walk.proofs.pieces.point_at.Statement.{statement}
 use Rattle.walk.proofs.pieces.point_at.Tie as tie

@@ -1,4 +1,4 @@
--- `walk::pieces::table_at` meets its contract. The table is its part of the octets.
+-- `walk::pieces::table_at` meets its contract: the table is its part of the octets.
 use borrow.Author.Needs.{needs}
 use Rattle.walk.proofs.Tables.{piece-is}
 use Rattle.walk.proofs.pieces.table_at.Statement.{statement}

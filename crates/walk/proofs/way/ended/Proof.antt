@@ -1,4 +1,4 @@
--- `walk::way::ended` meets its contract. Each return is a case of `resumed`.
+-- `walk::way::ended` meets its contract: each return is a case of `resumed`.
 use borrow.Author.Needs.{needs}
 use Rattle.walk.proofs.Ways.{ended-there, ended-off, ended-on}
 use Rattle.walk.proofs.way.ended.Statement.{statement}
