@@ -390,6 +390,12 @@ class EndsInWords(unittest.TestCase):
         self.assert_end(TWO_POINTS, TWO_ADDED, "octets 09", "there is no command 9")
         self.assert_end("", "", "octets 00 01", "there is no command 0")
 
+    def test_unknown_command_ends_with_its_line(self) -> None:
+        self.assertEqual(
+            words_for("octets 09\nwalk 0 0\n", "E 0\n"),
+            ["ends the run at line 1 (octet 0): there is no command 9", "what follows was not run"],
+        )
+
     def test_cut_operands(self) -> None:
         cut = "the input ends inside 'advance MILLISECONDS'"
         self.assert_end("advance 1\n", "2 0 0\n", "octets 02", cut)
@@ -1068,7 +1074,7 @@ WHAT_SCRIPTS_SHOW = {
     "no_route": "walk 0 2 stops after 0 hops (41: no active row there)",
     "points": "point 02:00:00:00:00:11 0 ends the run at line 28 (octet 207): "
     "there are 16 points already, the most there can be",
-    "unknown": "octets 09 05 00 e8 03 00 00 ends the run at line 7 (octet 29): "
+    "unknown": "octets 09 ends the run at line 7 (octet 29): "
     "there is no command 9",
     "worked": "walk 0 2 arrives after 2 hops",
     "wrap": f"deliver old-from-1 2 refused 25: {STALE}",

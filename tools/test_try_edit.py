@@ -136,8 +136,8 @@ class OwnEdit(unittest.TestCase):
         edit = try_edit.Edit("answering", list(try_edit.read_replacements(self.edit)))
         script = try_edit.benchscript.read_script("mine.bench", self.script)
         shown = "\n".join(try_edit.run_shown(edit, try_edit.ScriptRun(script)))
-        self.assertRegex(shown, r"(?m)^- deliver answer 0 +refused 24:")
-        self.assertRegex(shown, r"(?m)^\+ deliver answer 0 +accepted")
+        self.assertRegex(shown, r"(?m)^- deliver from-1 0 +refused 24:")
+        self.assertRegex(shown, r"(?m)^\+ deliver from-1 0 +accepted")
         self.assertRegex(shown, r"(?m)^- walk 0 2 +stops after 0 hops \(41")
         self.assertRegex(shown, r"(?m)^\+ walk 0 2 +stops after 1 hop \(41")
 
@@ -247,6 +247,10 @@ class Edits(unittest.TestCase):
     def test_definition(self) -> None:
         complaint = f"{self.edit} changes specs/Lib.antt; only an edit of code (src/) changes a run"
         self.assert_complaint("file: specs/Lib.antt\nold: one\nnew: x\n", complaint)
+
+    def test_path_from_the_root(self) -> None:
+        complaint = f"{self.edit}: 'file:' names a path within the crate, like src/lib.rt"
+        self.assert_complaint("file: crates/some/src/lib.rt\nold: one\nnew: x\n", complaint)
 
     def test_missing_file(self) -> None:
         complaint = f"{self.edit}: crate some has no file src/other.rt; it has src/lib.rt"
