@@ -1,18 +1,26 @@
 /*
- * One HWMP mesh point: its forwarding table, in octets that the caller lends, and the frames
+ * One HWMP mesh point: its forwarding table, in octets that the caller provides, and the frames
  * that the point sends. docs/FIRMWARE.md explains how firmware uses these calls.
  * docs/PROTOCOL.md states the rules in full.
  *
- * Buffers: a lent buffer is a pointer and a length in octets. The pointer must not be NULL and
- * must lead to memory of that length, at any alignment. The buffers of one call must not
- * overlap. An address is 6 octets. The library allocates nothing and keeps nothing: it uses no
- * pointer after the call returns. Calls may run at the same time if they share neither a table
- * nor an output.
+ * Buffers: a buffer is a pointer and a length in octets. The pointer must not be NULL and
+ * must lead to memory of that length, at any alignment. An address is 6 octets. A buffer that
+ * the call writes must not overlap any other buffer or address of the call. Buffers and
+ * addresses that the call only reads may overlap each other. The library allocates nothing and
+ * keeps nothing: it uses no pointer after the call returns. Calls may run at the same time if
+ * they share neither a table nor an output.
  *
- * Answers: every call returns an answer, a number of enum hwmp_answer. It is HWMP_ACCEPTED or
- * a refusal. Only a walk has two more answers, HWMP_NO_ROUTE and HWMP_TOO_LONG, which are not
+ * Answers: every call returns an answer, a number of enum hwmp_answer. The answer is
+ * HWMP_ACCEPTED, a refusal or, from a walk only, HWMP_NO_ROUTE or HWMP_TOO_LONG, which are not
  * refusals. If several refusals apply, the call returns the lowest number. A refused call
  * changes no octet, and everything it returns besides the answer is zero.
+ *
+ * Rows: a row of the table is free, or it is held and says how to reach one destination. A held
+ * row is valid or invalidated: a break or a received RERR invalidates it. A valid row is active
+ * while the clock is below the row's expiry, and expired from then on. An expired or
+ * invalidated row stays held, because its sequence number still refuses old elements. The
+ * number of a row is unknown if the point knows the destination only as the transmitter of
+ * elements about other points.
  *
  * Frames: a call that may send writes its frames into the output, from the start and without
  * gaps. A frame is a receiver address (6 octets) and an element. The receiver all ones stands
@@ -38,7 +46,8 @@ enum hwmp_answer {
     HWMP_ACCEPTED = 0,
     /*
      * The table's length is not HWMP_TABLE_OCTETS(R) with R from 1 to HWMP_MAX_ROWS. For a
-     * walk: the buffer is not 1 to HWMP_MAX_POINTS tables of one such length.
+     * walk: `count` is not 1 to HWMP_MAX_POINTS, or the buffer is not `count` tables of one
+     * length HWMP_TABLE_OCTETS(R).
      */
     HWMP_TABLE_LENGTH = 1,
     /* The output is shorter than HWMP_OUTPUT_OCTETS. */
@@ -57,7 +66,8 @@ enum hwmp_answer {
     /* The element's ID (the first octet) is not in enum hwmp_element_id. */
     HWMP_UNKNOWN_ID = 7,
     /*
-     * The element's Length does not fit its type and its number of entries. For an ask: the
+     * The element's Length does not fit its type and its number of entries, or that number is
+     * out of range: 1 to 20 for a RREQ, 0 to 22 for a RREP, 1 to 25 for a RERR. For an ask: the
      * items are not 1 to HWMP_MAX_ITEMS of HWMP_ITEM_OCTETS each.
      */
     HWMP_BAD_COUNT = 8,
@@ -95,9 +105,9 @@ enum hwmp_answer {
      */
     HWMP_ABOUT_ITSELF = 24,
     /*
-     * The row for the originator (RREP: for the destination), active or not, has a known
-     * number. The received number is older, or it is equal and the received metric plus the
-     * link metric is not smaller than the row's metric.
+     * The received number is older than the known number of the row for the originator (RREP:
+     * for the destination), or equal to it while the received metric plus the link metric is
+     * not smaller than the row's metric. The row need not be active.
      */
     HWMP_STALE = 25,
     /* A RERR names no active row of known number whose next hop is the transmitter. */
@@ -142,9 +152,11 @@ enum hwmp_answer {
 #define HWMP_TABLE_OCTETS(rows) (HWMP_HEAD_OCTETS + HWMP_ROW_OCTETS * (size_t)(rows))
 
 /*
- * Where a table has the point's own sequence number (4 octets) and the latest clock (8
- * octets), each with its lowest octet first. Firmware may read both but must not write them.
+ * Where a table has the point's own address, its own sequence number (4 octets) and the latest
+ * clock (8 octets), both numbers with the lowest octet first. Firmware may read all three but
+ * must not write them.
  */
+#define HWMP_OWN_ADDRESS_AT 0
 #define HWMP_OWN_NUMBER_AT 8
 #define HWMP_LATEST_CLOCK_AT 16
 
@@ -153,7 +165,11 @@ enum hwmp_answer {
 
 /* ---- elements and frames */
 
-/* The types of elements. The ID is the first octet of an element. */
+/* Where an element has its ID and its Length. The Length counts the octets after itself. */
+#define HWMP_ELEMENT_ID_AT 0
+#define HWMP_ELEMENT_LENGTH_AT 1
+
+/* The types of elements, by their IDs. */
 enum hwmp_element_id {
     HWMP_RANN = 126,
     HWMP_RREQ = 130,
@@ -180,7 +196,8 @@ enum hwmp_element_id {
 /* The smallest output. It has room for all frames of any call. */
 #define HWMP_OUTPUT_OCTETS 1560
 
-/* Where a frame has its element and the Length of its element. The receiver stands at 0. */
+/* Where a frame has its receiver address, its element, and the Length of its element. */
+#define HWMP_FRAME_RECEIVER_AT 0
 #define HWMP_FRAME_ELEMENT_AT 6
 #define HWMP_FRAME_LENGTH_AT 7
 
@@ -193,6 +210,9 @@ enum hwmp_element_id {
 
 /* ---- operands of asks, announcements and root requests */
 
+/* No flag of an item, an announcement or a root request. */
+#define HWMP_NO_FLAGS 0
+
 /* An item of an ask: flags (1 octet) and the address of a destination (6 octets). */
 #define HWMP_ITEM_OCTETS 7
 #define HWMP_ITEM_FLAGS_AT 0
@@ -204,7 +224,10 @@ enum hwmp_element_id {
 /* Flag of an item: a point that replies from its row also forwards the request. */
 #define HWMP_ITEM_RF 2
 
-/* Flag of an announcement and of a root request: the point is a portal. */
+/*
+ * Flag of an announcement and of a root request: the point is a portal, a way out of the mesh.
+ * The library passes the flag on and decides nothing by it.
+ */
 #define HWMP_PORTAL 1
 /* Flag of a root request: every point that accepts it replies. */
 #define HWMP_REPLY_WANTED 4
@@ -214,7 +237,7 @@ enum hwmp_element_id {
 /* The result of hwmp_next_hop: the address is the next hop if accepted, otherwise all zero. */
 struct hwmp_hop {
     uint32_t answer;
-    uint8_t address[6];
+    uint8_t address[HWMP_ADDRESS_OCTETS];
 };
 
 /* The result of hwmp_walk: how the walk ended, and its hops, at most as many as points. */
@@ -235,10 +258,13 @@ struct hwmp_outcome {
 /*
  * Writes a fresh table: this own address, this own sequence number, and all rows free. The
  * octets need not be a table before the call, which overwrites all of them. A point needs a
- * fresh table once: docs/FIRMWARE.md, 'Restart', says what a second one costs.
+ * fresh table once: docs/FIRMWARE.md, 'Restart', says what a second one costs. Begin with
+ * number 0, for the reasons in docs/FIRMWARE.md, 'Sequence numbers over weeks'. The point steps
+ * its number before it numbers an element, so its first element has the number after this one.
  * Refusals: HWMP_TABLE_LENGTH, HWMP_BAD_ADDRESS.
  */
-uint32_t hwmp_fresh(uint8_t *table, size_t table_len, const uint8_t own[6], uint32_t number);
+uint32_t hwmp_fresh(uint8_t *table, size_t table_len, const uint8_t own[HWMP_ADDRESS_OCTETS],
+                    uint32_t number);
 
 /*
  * Returns the next hop towards a destination. Its row must be active: valid, and the clock is
@@ -248,15 +274,17 @@ uint32_t hwmp_fresh(uint8_t *table, size_t table_len, const uint8_t own[6], uint
  * HWMP_OLD_CLOCK, HWMP_NO_NEXT_HOP.
  */
 struct hwmp_hop hwmp_next_hop(const uint8_t *table, size_t table_len, uint64_t clock,
-                              const uint8_t destination[6]);
+                              const uint8_t destination[HWMP_ADDRESS_OCTETS]);
 
 /*
- * Frees the row of a destination, whether the row is valid, expired or invalidated. The number
+ * Frees the row of a destination, whether the row is active, expired or invalidated. The number
  * that refuses old elements is lost with the row, and loops become possible: docs/FIRMWARE.md,
- * 'Forget', says when the call is safe. For the point's own address it answers HWMP_NOT_HELD.
+ * 'Forget', says when firmware may make the call. For the point's own address it answers
+ * HWMP_NOT_HELD.
  * Refusals: HWMP_TABLE_LENGTH, HWMP_BAD_ADDRESS, HWMP_NOT_A_TABLE, HWMP_NOT_HELD.
  */
-uint32_t hwmp_forget(uint8_t *table, size_t table_len, const uint8_t destination[6]);
+uint32_t hwmp_forget(uint8_t *table, size_t table_len,
+                     const uint8_t destination[HWMP_ADDRESS_OCTETS]);
 
 /*
  * Walks from a start to a destination, along rows that are active at the clock. The buffer has
@@ -270,16 +298,17 @@ uint32_t hwmp_forget(uint8_t *table, size_t table_len, const uint8_t destination
  * All three bring the hops walked. A walk that starts at the destination has 0 hops.
  * Refusals: HWMP_TABLE_LENGTH, HWMP_CLOCK_TOO_LARGE, HWMP_BAD_ADDRESS (the destination),
  * HWMP_BAD_LIST, HWMP_NOT_A_TABLE, HWMP_OLD_CLOCK. For HWMP_BAD_LIST a point's address is the
- * first six octets of its table, even where the octets are not a legal table.
+ * first 6 octets of its table, even where the octets are not a legal table.
  */
 struct hwmp_walked hwmp_walk(const uint8_t *tables, size_t tables_len, uint32_t count,
-                             uint64_t clock, const uint8_t start[6],
-                             const uint8_t destination[6]);
+                             uint64_t clock, const uint8_t start[HWMP_ADDRESS_OCTETS],
+                             const uint8_t destination[HWMP_ADDRESS_OCTETS]);
 
 /*
  * Asks for 1 to HWMP_MAX_ITEMS destinations: sends one RREQ to all ones, with the point's next
  * sequence number and next request ID, and stores both in the table. Each destination goes with
- * the number of its row if that is known, otherwise with 0. No row changes.
+ * the number of its row if that is known, otherwise with 0. No row changes. The lifetime, in
+ * milliseconds, is that of the rows that the RREQ and the replies to it bring.
  * Refusals: HWMP_TABLE_LENGTH, HWMP_SHORT_OUTPUT, HWMP_BAD_COUNT, HWMP_BAD_ADDRESS,
  * HWMP_BAD_LIST, HWMP_NO_LIFETIME, HWMP_NOT_A_TABLE, HWMP_ABOUT_ITSELF.
  */
@@ -289,7 +318,8 @@ struct hwmp_outcome hwmp_ask(uint8_t *table, size_t table_len, uint8_t *output,
 
 /*
  * Announces the point: sends one RANN to all ones, with the point's next sequence number, and
- * stores that number in the table. The flags are 0 or HWMP_PORTAL.
+ * stores that number in the table. The flags are HWMP_NO_FLAGS or HWMP_PORTAL. The lifetime, in
+ * milliseconds, is that of the rows that the RANN brings.
  * Refusals: HWMP_TABLE_LENGTH, HWMP_SHORT_OUTPUT, HWMP_BAD_LIST (the flags),
  * HWMP_NO_LIFETIME, HWMP_NOT_A_TABLE.
  */
@@ -298,8 +328,9 @@ struct hwmp_outcome hwmp_announce(uint8_t *table, size_t table_len, uint8_t *out
 
 /*
  * Sends a root request: one RREQ to all ones that asks for every point, with the point's next
- * sequence number and next request ID, and stores both in the table. The flags are 0,
- * HWMP_PORTAL, HWMP_REPLY_WANTED, or the last two together.
+ * sequence number and next request ID, and stores both in the table. The flags are
+ * HWMP_NO_FLAGS, HWMP_PORTAL, HWMP_REPLY_WANTED, or HWMP_PORTAL | HWMP_REPLY_WANTED. The
+ * lifetime, in milliseconds, is that of the rows that the RREQ and the replies to it bring.
  * Refusals: HWMP_TABLE_LENGTH, HWMP_SHORT_OUTPUT, HWMP_BAD_LIST (the flags),
  * HWMP_NO_LIFETIME, HWMP_NOT_A_TABLE.
  */
@@ -308,28 +339,32 @@ struct hwmp_outcome hwmp_root_request(uint8_t *table, size_t table_len, uint8_t 
 
 /*
  * Reports that a neighbour can no longer be reached. The call invalidates every active row
- * whose next hop is the neighbour, and these rows stay held. If the number of such a row is
- * known, it steps up by one and the row's metric becomes HWMP_UNREACHABLE, so that the point
- * refuses older news of that destination from now on. The point sends the destinations of
- * these rows to all ones, in table order and 25 to a RERR. Each goes with its stepped number,
- * or with 0 if its number is unknown. If no row is invalidated, there is no frame. An accepted
- * call stores the clock in any case.
+ * whose next hop is the neighbour. An invalidated row stays held. If the number of an
+ * invalidated row is known, the number steps up by one and the row's metric becomes
+ * HWMP_UNREACHABLE, so that the point refuses older news of the row's destination from now on.
+ * The point sends the destinations of the rows that the call invalidates to all ones, in table
+ * order and 25 to a RERR. Each destination goes with its stepped number, or with 0 if its
+ * number is unknown. If the call invalidates no row, there is no frame. An accepted call stores
+ * the clock in any case.
  * Refusals: HWMP_TABLE_LENGTH, HWMP_SHORT_OUTPUT, HWMP_CLOCK_TOO_LARGE, HWMP_BAD_NEIGHBOUR,
  * HWMP_NOT_A_TABLE, HWMP_OLD_CLOCK, HWMP_FROM_ITSELF.
  */
 struct hwmp_outcome hwmp_break(uint8_t *table, size_t table_len, uint8_t *output,
-                               size_t output_len, uint64_t clock, const uint8_t neighbour[6]);
+                               size_t output_len, uint64_t clock,
+                               const uint8_t neighbour[HWMP_ADDRESS_OCTETS]);
 
 /*
  * Receives an element that a neighbour, the transmitter, sent over a link of this metric. The
  * caller must hand over the element without the receiver address of its frame.
  *
- * Learning. A RANN, RREQ or RREP tells of a path through the transmitter to its originator
- * (RREP: to its destination). The point makes or renews the row for that address. If the
- * transmitter is a different address, the point may also make or renew the transmitter's row.
- * It does this if there is no such row; if the row is not active, and its number is unknown or
- * the link metric is at most the row's metric; or if the row is active and the link metric is
- * below the row's metric.
+ * Learning. A RANN, RREQ or RREP tells of a path through the transmitter. The path leads to the
+ * subject of the element: the originator of a RANN or RREQ, the destination of a RREP. The point
+ * makes the subject's row, or renews it. If the transmitter is not the subject, the point may
+ * also make or renew the transmitter's row. It makes the row if none is held. It renews an
+ * active row if the link metric is below the row's metric. It renews a row that is not active
+ * if the row's number is unknown or the link metric is at most the row's metric. A row that is
+ * made or renewed gets the clock plus the element's lifetime as its expiry, but a row that was
+ * active keeps a later expiry.
  *
  * Replies. The point replies to a RREQ with RREPs to the transmitter. It replies for itself if
  * it is a destination, and for all ones if a reply is wanted. It replies for another destination
@@ -341,25 +376,27 @@ struct hwmp_outcome hwmp_break(uint8_t *table, size_t table_len, uint8_t *output
  * Forwarding. The point forwards a RREQ with the destinations that it did not reply for, with
  * all ones, and with those that it replied for from a row and that have RF (now with DO set).
  * The RREQ goes to all ones, or if unicast to the next hop of its destination. A RANN goes to
- * all ones. Both need TTL 2 or more. A RREP goes to the next hop of its source, unless the
- * source is this point. Where a next hop is needed and no row is active, nothing is sent. In a
- * forwarded RANN, RREQ or RREP the hop count is one higher, the TTL one lower, and the link
- * metric added to the metric.
+ * all ones. A RREQ and a RANN need TTL 2 or more to be forwarded. A RREP goes to the next hop
+ * of its source, unless the source is this point. Where a next hop is needed and no row is
+ * active, nothing is sent. In a forwarded RANN, RREQ or RREP the hop count is one higher, the
+ * TTL one lower, and the link metric added to the metric.
  *
  * Errors. A RERR invalidates each active row of known number that it names and whose next hop
- * is the transmitter. If the received number is newer than the row's, the row takes that number
- * and the metric HWMP_UNREACHABLE. The point forwards the RERR to all ones with the
- * destinations of these rows.
+ * is the transmitter. If the received number is newer than the row's number, the row takes the
+ * received number and the metric HWMP_UNREACHABLE. The point sends the RERR to all ones with the
+ * destinations of the rows that it invalidated, and with the numbers and flags as received.
  *
  * An accepted call stores the clock.
  * Refusals: all from HWMP_TABLE_LENGTH (1) to HWMP_NO_ROOM (27). Only a RREP gets HWMP_LOW_TTL
- * and only a RERR gets HWMP_NO_MATCH. A RERR never gets HWMP_NO_LIFETIME, HWMP_TOO_MANY_HOPS,
- * HWMP_METRIC_TOO_LARGE, HWMP_ABOUT_ITSELF, HWMP_STALE or HWMP_NO_ROOM.
+ * and only a RERR gets HWMP_NO_MATCH. A RANN never gets HWMP_BAD_LIST. A RERR never gets
+ * HWMP_NO_LIFETIME, HWMP_TOO_MANY_HOPS, HWMP_METRIC_TOO_LARGE, HWMP_ABOUT_ITSELF, HWMP_STALE or
+ * HWMP_NO_ROOM.
  */
 struct hwmp_outcome hwmp_receive(uint8_t *table, size_t table_len, uint8_t *output,
                                  size_t output_len, uint64_t clock,
-                                 const uint8_t transmitter[6], uint32_t link_metric,
-                                 const uint8_t *element, size_t element_len);
+                                 const uint8_t transmitter[HWMP_ADDRESS_OCTETS],
+                                 uint32_t link_metric, const uint8_t *element,
+                                 size_t element_len);
 
 #ifdef __cplusplus
 }
