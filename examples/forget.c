@@ -1,5 +1,5 @@
 /*
- * Why a point must keep its rows. Three points in a row know the way to the last. The middle
+ * Why a point must keep its rows. Three points in a line know the way to the last. The middle
  * point asks for the last point once more, and the first point replies. A middle point that has
  * kept its rows refuses the reply (HWMP_STALE). A middle point that has forgotten the last
  * point, or has made a second fresh table, accepts the reply, and a loop appears.
@@ -13,7 +13,7 @@
 
 enum { FIRST, MIDDLE, LAST, POINTS };
 
-enum { ROWS = 4, LINK_METRIC = 10, START_MS = 0, LIFETIME_MS = 1000, NO_FLAGS = 0 };
+enum { ROWS = 4, LINK_METRIC = 10, START_MS = 0, LIFETIME_MS = 1000 };
 
 /* Own numbers: at first, and after the second fresh table. */
 enum { FIRST_NUMBER = 0, FAR_AHEAD = 1000000 };
@@ -52,7 +52,8 @@ static void learn_the_way(void)
 {
     for (size_t i = 0; i < POINTS; i++)
         hwmp_fresh(table_of(i), TABLE_OCTETS, points[i], FIRST_NUMBER);
-    hwmp_announce(table_of(LAST), TABLE_OCTETS, output, sizeof output, NO_FLAGS, LIFETIME_MS);
+    hwmp_announce(table_of(LAST), TABLE_OCTETS, output, sizeof output, HWMP_NO_FLAGS,
+                  LIFETIME_MS);
     deliver(LAST, MIDDLE);
     deliver(MIDDLE, FIRST);
 }
@@ -63,7 +64,7 @@ static void ask_and_walk(const char *what)
     uint8_t item[HWMP_ITEM_OCTETS];
     struct hwmp_walked walked;
 
-    item[HWMP_ITEM_FLAGS_AT] = NO_FLAGS;
+    item[HWMP_ITEM_FLAGS_AT] = HWMP_NO_FLAGS;
     memcpy(item + HWMP_ITEM_ADDRESS_AT, points[LAST], HWMP_ADDRESS_OCTETS);
     hwmp_ask(table_of(MIDDLE), TABLE_OCTETS, output, sizeof output, LIFETIME_MS, item,
              sizeof item);

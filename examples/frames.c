@@ -6,6 +6,7 @@
 #include <inttypes.h>
 #include <stdbool.h>
 #include <stdio.h>
+#include <stdlib.h>
 #include <string.h>
 
 #include "hwmp.h"
@@ -13,7 +14,10 @@
 /* The point that sends, two neighbours, and a point that the first neighbour leads to. */
 enum { SELF, NEIGHBOUR, OTHER, FAR, POINTS };
 
-enum { ROWS = 4, ITEMS = 2, LINK_METRIC = 10, NO_FLAGS = 0 };
+enum { ROWS = 4, LINK_METRIC = 10 };
+
+/* The items of an ask, by their places. */
+enum { FIRST_ITEM, SECOND_ITEM, ITEMS };
 
 enum { LIFETIME_MS = 5000, NO_LIFETIME_MS = 0 };
 
@@ -22,8 +26,14 @@ enum { LEARN_MS = 500, BREAK_MS = 1000, SECOND_BREAK_MS = 1001 };
 
 static const uint8_t addresses[POINTS][HWMP_ADDRESS_OCTETS] = {
     {2, 0, 0, 0, 0, 1}, {2, 0, 0, 0, 0, 2}, {2, 0, 0, 0, 0, 3}, {2, 0, 0, 0, 0, 9}};
-/* Own numbers in the fresh tables. The first element of a point has the number after it. */
-static const uint32_t first_numbers[POINTS] = {100, 6, 6, 6};
+
+/*
+ * Own numbers in the fresh tables. The first element of a point has the number after it. The
+ * numbers differ so that they can be told apart in the frames. Firmware begins at 0.
+ */
+enum { SELF_NUMBER = 100, OTHERS_NUMBER = 6 };
+static const uint32_t first_numbers[POINTS] = {SELF_NUMBER, OTHERS_NUMBER, OTHERS_NUMBER,
+                                               OTHERS_NUMBER};
 
 static uint8_t tables[POINTS][HWMP_TABLE_OCTETS(ROWS)];
 static uint8_t output[HWMP_OUTPUT_OCTETS];
@@ -32,8 +42,8 @@ static uint8_t output[HWMP_OUTPUT_OCTETS];
 
 static bool announced(size_t point)
 {
-    return hwmp_announce(tables[point], sizeof tables[point], output, sizeof output, NO_FLAGS,
-                         LIFETIME_MS)
+    return hwmp_announce(tables[point], sizeof tables[point], output, sizeof output,
+                         HWMP_NO_FLAGS, LIFETIME_MS)
                .answer == HWMP_ACCEPTED;
 }
 
@@ -77,7 +87,7 @@ static void print_outcome(const char *what, struct hwmp_outcome outcome)
            outcome.frames, outcome.octets);
     for (uint32_t i = 0; i < outcome.frames; i++) {
         printf("  to");
-        print_octets(frame, HWMP_ADDRESS_OCTETS);
+        print_octets(frame + HWMP_FRAME_RECEIVER_AT, HWMP_ADDRESS_OCTETS);
         printf(":");
         print_octets(frame + HWMP_FRAME_ELEMENT_AT,
                      HWMP_FRAME_OCTETS(frame) - HWMP_FRAME_ELEMENT_AT);
@@ -116,17 +126,17 @@ static void ask(void)
 {
     uint8_t items[ITEMS * HWMP_ITEM_OCTETS];
 
-    put_item(items, 0, NO_FLAGS, FAR);
-    put_item(items, 1, HWMP_ITEM_DO | HWMP_ITEM_RF, OTHER);
+    put_item(items, FIRST_ITEM, HWMP_NO_FLAGS, FAR);
+    put_item(items, SECOND_ITEM, HWMP_ITEM_DO | HWMP_ITEM_RF, OTHER);
     try_ask("ask for two", LIFETIME_MS, items, sizeof items);
     /* HWMP_BAD_COUNT, then HWMP_NO_LIFETIME */
     try_ask("ask, an item cut short", LIFETIME_MS, items, sizeof items - 1);
     try_ask("ask, lifetime 0", NO_LIFETIME_MS, items, sizeof items);
     /* HWMP_BAD_LIST */
-    put_item(items, 1, NO_FLAGS, FAR);
+    put_item(items, SECOND_ITEM, HWMP_NO_FLAGS, FAR);
     try_ask("ask, an address twice", LIFETIME_MS, items, sizeof items);
     /* HWMP_ABOUT_ITSELF */
-    put_item(items, 1, NO_FLAGS, SELF);
+    put_item(items, SECOND_ITEM, HWMP_NO_FLAGS, SELF);
     try_ask("ask, the own address", LIFETIME_MS, items, sizeof items);
 }
 
@@ -144,13 +154,13 @@ static void break_off(void)
 int main(void)
 {
     if (!rows_learnt())
-        return 1;
+        return EXIT_FAILURE;
     ask();
     print_outcome("announce", hwmp_announce(tables[SELF], sizeof tables[SELF], output,
                                             sizeof output, HWMP_PORTAL, LIFETIME_MS));
     try_root_request("root request", sizeof output, HWMP_REPLY_WANTED);
     /* HWMP_SHORT_OUTPUT */
-    try_root_request("root request, output too short", sizeof output - 1, NO_FLAGS);
+    try_root_request("root request, output too short", sizeof output - 1, HWMP_NO_FLAGS);
     break_off();
     return 0;
 }

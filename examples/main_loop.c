@@ -11,8 +11,8 @@
 /* The latest clock in a table: its octets, and the bits of each. */
 enum { CLOCK_OCTETS = 8, OCTET_BITS = 8 };
 
-/* Flags of an item: a point on the way may reply from its row, too. */
-enum { ANY_MAY_REPLY = 0 };
+/* The TTL of a scan that may not take another hop. */
+enum { NO_HOP_LEFT = 0 };
 
 /* ---- answers */
 
@@ -57,7 +57,7 @@ static void send_frames(const struct box *box, struct hwmp_outcome outcome)
     for (uint32_t i = 0; i < outcome.frames; i++) {
         size_t frame_len = HWMP_FRAME_OCTETS(frame);
 
-        radio_send(box->board, frame, frame + HWMP_FRAME_ELEMENT_AT,
+        radio_send(box->board, frame + HWMP_FRAME_RECEIVER_AT, frame + HWMP_FRAME_ELEMENT_AT,
                    frame_len - HWMP_FRAME_ELEMENT_AT);
         frame += frame_len;
     }
@@ -100,10 +100,10 @@ static void receive_elements(struct box *box, uint64_t now)
 
 /* ---- what is due */
 
-/* Reports whether something is due, and sets when it is due next. Period 0 means never. */
+/* Reports whether something is due, and sets when it is due next. */
 static bool is_due(uint64_t *due, uint32_t period, uint64_t now)
 {
-    if (period == 0 || now < *due)
+    if (period == BOX_NEVER || now < *due)
         return false;
     *due = now + period;
     return true;
@@ -127,8 +127,8 @@ static void request_as_root_if_due(struct box *box, uint64_t now)
 /* ---- scans */
 
 /*
- * Returns the place that notes the holdoff of a destination. If there is none yet, returns a
- * place whose holdoff is over, or NULL if there is none.
+ * Returns the place that notes the holdoff of a destination. If none notes it, returns a place
+ * whose holdoff is over. If no holdoff is over, returns NULL.
  */
 static struct box_asked *place_for(struct box *box, const uint8_t *destination, uint64_t now)
 {
@@ -147,7 +147,10 @@ static struct box_asked *place_for(struct box *box, const uint8_t *destination, 
 
 /*
  * Asks for a destination, but only once within a holdoff: many scans may lack the row, and each
- * request goes through the whole mesh.
+ * request goes through the whole mesh. RF lets a point on the way reply at once and still
+ * forward the request. Without RF the request could end at a neighbour whose row is still
+ * active with a number that this box knows already. The box would refuse the neighbour's reply
+ * (HWMP_STALE), and the destination would never reply with a newer number.
  */
 static void ask_unless_held_off(struct box *box, const uint8_t *destination, uint64_t now)
 {
@@ -158,7 +161,7 @@ static void ask_unless_held_off(struct box *box, const uint8_t *destination, uin
         return;
     memcpy(asked->destination, destination, HWMP_ADDRESS_OCTETS);
     asked->until = now + BOX_HOLDOFF_MS;
-    item[HWMP_ITEM_FLAGS_AT] = ANY_MAY_REPLY;
+    item[HWMP_ITEM_FLAGS_AT] = HWMP_ITEM_RF;
     memcpy(item + HWMP_ITEM_ADDRESS_AT, destination, HWMP_ADDRESS_OCTETS);
     settle(box, hwmp_ask(box->table, sizeof box->table, box->output, sizeof box->output,
                          BOX_LIFETIME_MS, item, sizeof item));
@@ -176,7 +179,7 @@ static void forward(struct box *box, struct box_scan *scan, uint64_t now)
     count(box, hop.answer);
     if (hop.answer == HWMP_NO_NEXT_HOP)
         ask_unless_held_off(box, scan->destination, now);
-    if (hop.answer != HWMP_ACCEPTED || scan->ttl == 0)
+    if (hop.answer != HWMP_ACCEPTED || scan->ttl == NO_HOP_LEFT)
         return;
     scan->ttl--;
     scan_send(box->board, hop.address, scan);
@@ -231,7 +234,8 @@ static enum box_state state_of_kept(const struct box *box, uint64_t now)
 
     if (answer == HWMP_OLD_CLOCK)
         return BOX_CLOCK_WENT_BACK;
-    if (answer != HWMP_NO_NEXT_HOP || memcmp(box->table, own, HWMP_ADDRESS_OCTETS) != 0)
+    if (answer != HWMP_NO_NEXT_HOP ||
+        memcmp(box->table + HWMP_OWN_ADDRESS_AT, own, HWMP_ADDRESS_OCTETS) != 0)
         return BOX_DAMAGED;
     return BOX_WELL;
 }

@@ -21,8 +21,10 @@ enum {
     /* The most destinations that the box asks for within one holdoff. */
     BOX_ASKED = 4,
     BOX_HOLDOFF_MS = 1500,
-    /* Longer than several periods of an announcement, so that one announcement may be lost. */
+    /* Longer than two periods of an announcement, so that one may be lost. */
     BOX_LIFETIME_MS = 10000,
+    /* The period of what a box never sends. */
+    BOX_NEVER = 0,
     /* Every answer that the loop can get is below this. */
     BOX_ANSWERS = HWMP_NOT_HELD + 1
 };
@@ -32,7 +34,12 @@ enum box_state {
     BOX_WELL,
     BOX_TABLE_FULL,      /* the mesh has more boxes than the table has rows */
     BOX_CLOCK_WENT_BACK, /* the box receives and forwards nothing until the clock is right */
-    BOX_DAMAGED          /* memory or firmware is at fault: start the box again */
+    /*
+     * Memory or firmware is at fault. From box_turn: start the box again. From box_start: the
+     * kept table is lost (docs/FIRMWARE.md, 'Restart', options 2 and 3), or the own address or
+     * the clock is wrong.
+     */
+    BOX_DAMAGED
 };
 
 /* The hardware, which main_loop.c only hands on. */
@@ -40,14 +47,20 @@ struct board;
 
 struct box_config {
     uint8_t own[HWMP_ADDRESS_OCTETS];
-    /* The own sequence number of a box that starts for the first time. */
+    /* The own sequence number of a box that starts for the first time. It should be 0. */
     uint32_t first_number;
-    /* Periods in milliseconds. 0 means never. */
+    /*
+     * Periods in milliseconds, or BOX_NEVER. A box with a period announces itself as a portal,
+     * or sends its root requests as one.
+     */
     uint32_t announcement_period;
     uint32_t root_request_period;
 };
 
-/* An element that the radio received, and the metric of its link at that moment. */
+/*
+ * An element that the radio received, and the metric of its link at that moment: what it costs
+ * to send to the transmitter. The metric is at least 1, and larger is worse.
+ */
 struct box_heard {
     uint8_t transmitter[HWMP_ADDRESS_OCTETS];
     uint32_t link_metric;
@@ -99,12 +112,17 @@ uint64_t box_latest_clock(const struct box *box);
 
 /* ---- What the firmware provides. None of these may call the library on the box's table. */
 
-/* Returns the clock. It must never go back, not even over a restart. */
+/*
+ * Returns the clock. While the box runs, the clock must never go back. After a restart it must
+ * not be below the latest clock in the table (box_latest_clock). The clocks of different boxes
+ * need not agree.
+ */
 uint64_t clock_ms(struct board *board);
 
 /*
- * Takes the oldest element received. Returns false if there is none. The firmware must drop an
- * element that is longer than HWMP_MAX_ELEMENT_OCTETS.
+ * Takes the oldest element received. Returns false if there is none. The firmware must drop a
+ * frame whose receiver is neither the own address nor all ones, and an element that is longer
+ * than HWMP_MAX_ELEMENT_OCTETS.
  */
 bool radio_receive(struct board *board, struct box_heard *heard);
 
@@ -131,7 +149,12 @@ void scan_arrived(struct board *board, const struct box_scan *scan);
  * still there.
  */
 void memory_keep(struct board *board, const uint8_t *table, size_t table_len);
-/* Brings back the last table kept. Returns false if none was ever kept. */
+/*
+ * Brings back the last table kept. Returns false only if no table was ever kept, because
+ * box_start then makes a fresh table. If a table was kept but cannot be read, fills the table
+ * with zeros and returns true: box_start then reports BOX_DAMAGED. If the kept table is shorter,
+ * fills the rest with zeros, which are free rows.
+ */
 bool memory_recall(struct board *board, uint8_t *table, size_t table_len);
 
 #endif

@@ -5,8 +5,10 @@
  * their link and get it back, and box 1 loses its power and its clock. The program prints what
  * the boxes send, which scans arrive, and which answers each box got from the library.
  */
+#include <assert.h>
 #include <inttypes.h>
 #include <stdio.h>
+#include <stdlib.h>
 #include <string.h>
 
 #include "main_loop.h"
@@ -20,7 +22,12 @@ enum {
     /* Where a scan of this program has its number. */
     SCAN_NUMBER_AT = 0,
     /* A frame or scan that meets a full queue is lost, as on a real radio. */
-    QUEUE = 8
+    QUEUE = 8,
+    /* What a clock that lost its power begins with. */
+    CLOCK_RESET = 0,
+    /* The run is short. In the field these periods and BOX_LIFETIME_MS can be longer. */
+    ANNOUNCE_EVERY_MS = 4000,
+    ROOT_REQUEST_EVERY_MS = 10000
 };
 
 /* When things happen. */
@@ -46,7 +53,9 @@ static const uint8_t all_ones[HWMP_ADDRESS_OCTETS] = HWMP_ALL_ONES;
 static const struct box_config configs[BOXES] = {
     {.own = {2, 0, 0, 0, 0, 1}},
     {.own = {2, 0, 0, 0, 0, 2}},
-    {.own = {2, 0, 0, 0, 0, 3}, .announcement_period = 4000, .root_request_period = 10000},
+    {.own = {2, 0, 0, 0, 0, 3},
+     .announcement_period = ANNOUNCE_EVERY_MS,
+     .root_request_period = ROOT_REQUEST_EVERY_MS},
 };
 
 struct board {
@@ -58,6 +67,7 @@ struct board {
     /* The box got its power at powered_at. Its clock had the value clock_base then. */
     uint64_t clock_base, powered_at;
     bool is_kept;
+    size_t kept_len;
     uint8_t kept[HWMP_TABLE_OCTETS(BOX_ROWS)];
 };
 
@@ -98,26 +108,29 @@ uint64_t clock_ms(struct board *board)
 
 void memory_keep(struct board *board, const uint8_t *table, size_t table_len)
 {
-    if (table_len != sizeof board->kept)
-        return;
+    assert(table_len <= sizeof board->kept);
     memcpy(board->kept, table, table_len);
+    board->kept_len = table_len;
     board->is_kept = true;
 }
 
+/* A longer table has rows that do not fit. It counts as one that cannot be read. */
 bool memory_recall(struct board *board, uint8_t *table, size_t table_len)
 {
-    if (!board->is_kept || table_len != sizeof board->kept)
+    if (!board->is_kept)
         return false;
-    memcpy(table, board->kept, table_len);
+    memset(table, 0, table_len);
+    if (board->kept_len <= table_len)
+        memcpy(table, board->kept, board->kept_len);
     return true;
 }
 
 /* ---- radio: elements */
 
-/* Returns the name of an element's type, by its ID, which is the first octet. */
+/* Returns the name of an element's type. */
 static const char *name_of(const uint8_t *element)
 {
-    switch (element[0]) {
+    switch (element[HWMP_ELEMENT_ID_AT]) {
     case HWMP_RANN:
         return "RANN";
     case HWMP_RREQ:
@@ -300,7 +313,7 @@ static bool events(void)
         return true;
     case POWER_LOST_MS:
         happen("box 1 loses its power, and its clock counts from 0 again");
-        boards[BOX_1].clock_base = 0;
+        boards[BOX_1].clock_base = CLOCK_RESET;
         boards[BOX_1].powered_at = now_ms;
         return start(BOX_1);
     default:
@@ -348,14 +361,14 @@ int main(void)
 {
     for (size_t i = 0; i < BOXES; i++)
         if (!start(i))
-            return 1;
+            return EXIT_FAILURE;
     for (now_ms = START_MS; now_ms < END_MS; now_ms += TURN_MS) {
         if (!events())
-            return 1;
+            return EXIT_FAILURE;
         if (now_ms % SCAN_EVERY_MS == 0)
             make_scan();
         if (!turn_all())
-            return 1;
+            return EXIT_FAILURE;
     }
     for (size_t i = 0; i < BOXES; i++)
         print_answers(i);

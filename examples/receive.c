@@ -1,10 +1,11 @@
 /*
- * Three points in a row. The first asks for the last. The request and its reply give rows to
+ * Three points in a line. The first asks for the last. The request and its reply give rows to
  * all three. The program keeps each frame with its sender and delivers it by hand.
  * Build: cc -std=c11 -Iinclude examples/receive.c target/staticlib/libhwmp.a -o receive
  */
 #include <inttypes.h>
 #include <stdio.h>
+#include <stdlib.h>
 #include <string.h>
 
 #include "hwmp.h"
@@ -108,7 +109,7 @@ int main(void)
 {
     for (size_t i = 0; i < POINTS; i++)
         if (hwmp_fresh(tables[i], sizeof tables[i], addresses[i], FIRST_NUMBER) != HWMP_ACCEPTED)
-            return 1;
+            return EXIT_FAILURE;
 
     ask(FIRST, LAST);
     print_next_hop(FIRST, LAST, START_MS); /* HWMP_NO_NEXT_HOP: no row yet */

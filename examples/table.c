@@ -8,7 +8,10 @@
 
 #include "hwmp.h"
 
-enum { ROWS = 4, FIRST_NUMBER = 100, OCTET_BITS = 8 };
+enum { ROWS = 4, OCTET_BITS = 8 };
+
+/* Any number will do in this program. Firmware begins at 0. */
+enum { FIRST_NUMBER = 100 };
 
 /* Where the fields of a row stand: docs/FIRMWARE.md, 'The octets of a table'. */
 enum {

@@ -1,17 +1,18 @@
 /*
- * Walks over the tables of three points in a row. The first two learn of the last one from its
+ * Walks over the tables of three points in a line. The first two learn of the last one from its
  * announcement. Then the link between the last two breaks.
  * Build: cc -std=c11 -Iinclude examples/walk.c target/staticlib/libhwmp.a -o walk
  */
 #include <inttypes.h>
 #include <stdio.h>
+#include <stdlib.h>
 #include <string.h>
 
 #include "hwmp.h"
 
 enum { FIRST, MIDDLE, LAST, POINTS };
 
-enum { ROWS = 4, FIRST_NUMBER = 0, LINK_METRIC = 10, NO_FLAGS = 0, NO_TABLES = 0 };
+enum { ROWS = 4, FIRST_NUMBER = 0, LINK_METRIC = 10, NO_TABLES = 0 };
 
 /* Milliseconds. The rows expire a lifetime after the start. */
 enum { START_MS = 0, LIFETIME_MS = 1000, EXPIRED_MS = START_MS + LIFETIME_MS };
@@ -58,11 +59,12 @@ int main(void)
 {
     for (size_t i = 0; i < POINTS; i++)
         if (hwmp_fresh(table_of(i), TABLE_OCTETS, points[i], FIRST_NUMBER) != HWMP_ACCEPTED)
-            return 1;
+            return EXIT_FAILURE;
     /* HWMP_NO_ROUTE */
     walk("before any announcement", POINTS, START_MS, points[FIRST], points[LAST]);
 
-    hwmp_announce(table_of(LAST), TABLE_OCTETS, output, sizeof output, NO_FLAGS, LIFETIME_MS);
+    hwmp_announce(table_of(LAST), TABLE_OCTETS, output, sizeof output, HWMP_NO_FLAGS,
+                  LIFETIME_MS);
     deliver(LAST, MIDDLE);
     deliver(MIDDLE, FIRST);
     walk("from the first to the last", POINTS, START_MS, points[FIRST], points[LAST]);
