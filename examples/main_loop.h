@@ -21,7 +21,7 @@ enum {
     /* The most destinations that the box asks for within one holdoff. */
     BOX_ASKED = 4,
     BOX_HOLDOFF_MS = 1500,
-    /* Longer than two periods of an announcement, so that one may be lost. */
+    /* Must be longer than two announcement periods, so that one announcement may be lost. */
     BOX_LIFETIME_MS = 10000,
     /* The period of what a box never sends. */
     BOX_NEVER = 0,
@@ -32,7 +32,7 @@ enum {
 /* How a turn went, from good to bad. Firmware must act on every state but BOX_WELL. */
 enum box_state {
     BOX_WELL,
-    BOX_TABLE_FULL,      /* the mesh has more boxes than the table has rows */
+    BOX_TABLE_FULL,      /* there are more other boxes than the table has rows */
     BOX_CLOCK_WENT_BACK, /* the box receives and forwards nothing until the clock is right */
     /*
      * Memory or firmware is at fault. From box_turn: start the box again. From box_start: the
@@ -50,8 +50,8 @@ struct box_config {
     /* The own sequence number of a box that starts for the first time. It should be 0. */
     uint32_t first_number;
     /*
-     * Periods in milliseconds, or BOX_NEVER. A box with a period announces itself as a portal,
-     * or sends its root requests as one.
+     * Periods in milliseconds, or BOX_NEVER. A box with a period counts as a portal: its
+     * announcements and root requests carry HWMP_PORTAL.
      */
     uint32_t announcement_period;
     uint32_t root_request_period;
@@ -69,8 +69,8 @@ struct box_heard {
 };
 
 /*
- * A scan, which is what the mesh carries. Its TTL bounds its way: the tables have no loop at
- * any moment, but they may change while the scan is under way.
+ * A scan, which is what the mesh carries. Its TTL bounds its way: within the premise of demand
+ * 3 the tables have no loop at any moment, but they may change while the scan is under way.
  */
 struct box_scan {
     uint8_t destination[HWMP_ADDRESS_OCTETS];
@@ -78,7 +78,7 @@ struct box_scan {
     uint8_t octets[BOX_SCAN_OCTETS];
 };
 
-/* A destination that the box does not ask for again before a clock. */
+/* A destination, and the clock until which the box does not ask for it again. */
 struct box_asked {
     uint8_t destination[HWMP_ADDRESS_OCTETS];
     uint64_t until;

@@ -8,7 +8,7 @@
  * the call writes must not overlap any other buffer or address of the call. Buffers and
  * addresses that the call only reads may overlap each other. The library allocates nothing and
  * keeps nothing: it uses no pointer after the call returns. Calls may run at the same time if
- * they share neither a table nor an output.
+ * they share neither a table nor an output, and none reads a buffer that another writes.
  *
  * Answers: every call returns an answer, a number of enum hwmp_answer. The answer is
  * HWMP_ACCEPTED, a refusal or, from a walk only, HWMP_NO_ROUTE or HWMP_TOO_LONG, which are not
@@ -367,19 +367,20 @@ struct hwmp_outcome hwmp_break(uint8_t *table, size_t table_len, uint8_t *output
  * active keeps a later expiry.
  *
  * Replies. The point replies to a RREQ with RREPs to the transmitter. It replies for itself if
- * it is a destination, and for all ones if a reply is wanted. It replies for another destination
- * without DO if it has an active row of known number, and the number is not older than the
- * requested one. For itself and for all ones the point takes its next sequence number and
- * stores it in the table. If the RREQ names the point with a newer number, the point takes the
- * number after the named one.
+ * it is a destination, or if all ones is the destination and a reply is wanted. It replies for
+ * another destination without DO if it has an active row of known number, and the number is not
+ * older than the requested number. For each reply for itself the point takes its next sequence
+ * number and stores it in the table. If the RREQ names the point with a newer number, the point
+ * takes the number after the named number.
  *
- * Forwarding. The point forwards a RREQ with the destinations that it did not reply for, with
- * all ones, and with those that it replied for from a row and that have RF (now with DO set).
- * The RREQ goes to all ones, or if unicast to the next hop of its destination. A RANN goes to
- * all ones. A RREQ and a RANN need TTL 2 or more to be forwarded. A RREP goes to the next hop
- * of its source, unless the source is this point. Where a next hop is needed and no row is
- * active, nothing is sent. In a forwarded RANN, RREQ or RREP the hop count is one higher, the
- * TTL one lower, and the link metric added to the metric.
+ * Forwarding. A forwarded RREQ keeps all ones, each destination that the point did not reply
+ * for, and each destination that it replied for from a row and that has RF (DO is then set). If
+ * no destination is left, the point does not forward the RREQ. The RREQ goes to all ones, or if
+ * unicast to the next hop of its destination. A RANN goes to all ones. A RREQ and a RANN need
+ * TTL 2 or more to be forwarded. A RREP goes to the next hop of its source, unless the source
+ * is this point. Where a next hop is needed and no row is active, nothing is sent. In a
+ * forwarded RANN, RREQ or RREP the hop count is one higher, the TTL one lower, and the link
+ * metric added to the metric.
  *
  * Errors. A RERR invalidates each active row of known number that it names and whose next hop
  * is the transmitter. If the received number is newer than the row's number, the row takes the

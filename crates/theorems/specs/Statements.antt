@@ -1,4 +1,4 @@
--- Everything that is proved about the rules of `docs/PROTOCOL.md` and about its bench. Each statement is a type in this file.
+-- The theorems about the rules of `docs/PROTOCOL.md` and about its bench. Each statement is a type in this file.
 -- The comment above a statement says it in words. The comment begins with the name of the theorem in `proofs/Theorems.antt`
 -- that proves the statement.
 --
@@ -223,8 +223,8 @@ abbrev pub NeedsExclusions : Type 0
 NeedsExclusions = all (goesRound happenWider widerFits) leftOut ≡ true
 
 -- `needs-its-premise`: One list of calls has points and operands as `LoopFree` asks for. Under the rules themselves, the walk
--- along valid rows after its last call meets a point twice. In no window of 2^31 consecutive numbers do all numbers held or
--- carried for its destination lie from first to last.
+-- along valid rows after its last call meets a point twice. No window of 2^31 consecutive numbers contains all
+-- numbers held or carried for its destination, before the first call and after each call.
 abbrev pub NeedsPremise : Type 0
 NeedsPremise =
     (pointsFit (outside .points) ≡ true) × (all eventFits (outside .events) ≡ true) × (outsideLoops ≡ true)
