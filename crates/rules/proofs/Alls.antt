@@ -1,12 +1,16 @@
 -- How a property that holds for every entry of a list carries over the operations on lists.
 use Prim.Native.Nat.{ℕ, zero, suc, _+_, _<_, _≤_}
-use mathlib.Core.Path.{_≡_}
+use mathlib.Core.Path.{_≡_, refl, sym}
 use mathlib.Core.Bool.{Bool, true, false, _||_, cond}
 use mathlib.Core.List.{List, [], _∷_, _++_, map, flatMap}
 use lib.ListN.{length, take, drop, length-append}
 use native.Mathlib.Omega.{arith}
-use Rattle.octets.proofs.Tests.{clash}
+use borrow.Author.Tests.{ne-eqb, eqb-false}
+use Rattle.octets.proofs.Tests.{clash, neither}
+use Rattle.layout.specs.declared.address.Address.{Address}
+use Rattle.layout.specs.Address.{same}
 use Rattle.element.specs.Entries.{each, All}
+use Rattle.element.specs.Lists.{contains, hasDuplicate}
 use Rattle.rules.specs.Lists.{any, filter}
 use Rattle.rules.proofs.Branches.{cond-cases}
 
@@ -24,6 +28,11 @@ module _ {A : Type 0} (P : A → Type 0) where
   unfolding All
   all-append [] l′ h h′ = h′
   all-append (x ∷ l) l′ h h′ = (h .0, all-append l l′ (h .1) h′)
+
+  pub all-before : (l l′ : List A) → All P (l ++ l′) → All P l
+  unfolding All
+  all-before [] l′ h = tt
+  all-before (x ∷ l) l′ h = (h .0, all-before l l′ (h .1))
 
   pub all-after : (l l′ : List A) → All P (l ++ l′) → All P l′
   unfolding All
@@ -65,15 +74,45 @@ module _ {A B : Type 0} (Q : B → Type 0) where
   all-flat-map P f h [] k = tt
   all-flat-map P f h (x ∷ l) k = all-append Q (f x) (flatMap f l) (h x (k .0)) (all-flat-map P f h l (k .1))
 
+-- ---- entries by their addresses
+
+module _ {A : Type 0} (address : A → Address) where
+  -- If a list does not name an address, none of its entries has the address.
+  pub apart : (d : Address) (l : List A) → contains (map address l) d ≡ false → All (λ (x : A). same (address x) d ≡ false) l
+  unfolding contains All
+  apart d [] e = tt
+  apart d (x ∷ l) e = let other = neither (same (address x) d) (contains (map address l) d) e in (other .0, apart d l (other .1))
+
+  -- If no address stands twice, the address of an entry stands neither before nor after the entry.
+  pub apart-from : (before after : List A) (x : A) → hasDuplicate (map address (before ++ x ∷ after)) ≡ false
+      → All (λ (y : A). same (address y) (address x) ≡ false) before × All (λ (y : A). same (address y) (address x) ≡ false) after
+  unfolding hasDuplicate All
+  apart-from [] after x e = (tt, apart (address x) after (neither (contains (map address after) (address x)) (hasDuplicate (map address after)) e .0))
+  apart-from (y ∷ before) after x e =
+      let once = neither (contains (map address (before ++ x ∷ after)) (address y)) (hasDuplicate (map address (before ++ x ∷ after))) e in
+      let rest = apart-from before after x (once .1) in
+      let later = all-after (λ (z : A). same (address z) (address y) ≡ false) before (x ∷ after) (apart (address y) (before ++ x ∷ after) (once .0)) in
+      ((ne-eqb (address y .0) (address x .0) (λ is. eqb-false (address x .0) (address y .0) (later .0) (sym is)), rest .0), rest .1)
+
 -- If each entry becomes at most one entry, the result has no more entries than the list.
 pub flat-fewer : {A B : Type 0} (f : A → List B) → ((x : A) → length (f x) ≤ 1) → (l : List A) → length (flatMap f l) ≤ length l
 unfolding flatMap
 flat-fewer f one [] = omega arith
 flat-fewer f one (x ∷ l) = omega (arith, length-append (f x) (flatMap f l), one x, flat-fewer f one l)
 
--- ---- how many entries pass a test
+-- ---- which and how many entries pass a test
 
 module _ {A : Type 0} (p : A → Bool) where
+  pub any-fails : (l : List A) → All (λ (x : A). p x ≡ false) l → any p l ≡ false
+  unfolding any All
+  any-fails [] h = refl
+  any-fails (x ∷ l) h = rw (h .0) (any-fails l (h .1))
+
+  pub each-fails : (l : List A) → any p l ≡ false → All (λ (x : A). p x ≡ false) l
+  unfolding any All
+  each-fails [] e = tt
+  each-fails (x ∷ l) e = let both = neither (p x) (any p l) e in (both .0, each-fails l (both .1))
+
   pub filter-fewer : (l : List A) → length (filter p l) ≤ length l
   unfolding filter
   filter-fewer [] = omega arith

@@ -19,15 +19,7 @@ use Rattle.element.specs.Entries.{All}
 use Rattle.element.specs.Lists.{contains, hasDuplicate}
 use Rattle.rules.specs.Errors.{isLostBy, matches, numberBeside, isMatch, erredWith, erred}
 use Rattle.rules.specs.Receive.{lostAddresses}
-use Rattle.rules.proofs.Alls.{all-implies}
-
--- If a list does not name an address, none of its entries has the address.
-apart : (d : Address) (named : List LostDestination) → contains (lostAddresses named) d ≡ false → All (λ (m : LostDestination). same (m .address) d ≡ false) named
-unfolding contains All
-apart d [] e = tt
-apart d (m ∷ named) e =
-    let other = neither (same (m .address) d) (contains (lostAddresses named) d) e in
-    (other .0, apart d named (other .1))
+use Rattle.rules.proofs.Alls.{all-implies, apart}
 
 -- An entry m before the others does not change the number next to another destination.
 module _ (m : LostDestination) (named : List LostDestination) where
@@ -48,7 +40,7 @@ beside-each [] e = tt
 beside-each (m ∷ named) e =
     let once = neither (contains (lostAddresses named) (m .address)) (hasDuplicate (lostAddresses named)) e in
     let rest = beside-each named (once .1) in
-    (rw (eq-eqb (m .address .0) (m .address .0) refl), beside-others m named named (apart (m .address) named (once .0)) rest)
+    (rw (eq-eqb (m .address .0) (m .address .0) refl), beside-others m named named (apart (λ (k : LostDestination). k .address) (m .address) named (once .0)) rest)
 
 -- The row r of a destination that the RERR names.
 module _ (t : List ℕ) (c : ℕ) (transmitter : Address) (named : List LostDestination) (m : LostDestination) (b : numberBeside (m .address) named ≡ some (m .number))

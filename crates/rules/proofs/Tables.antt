@@ -89,6 +89,10 @@ module _ (t u : List ℕ) (w : Whole t) (k : Keeps t u) (n : SequenceNumber) (i 
       let first = and-eq-true-iff (eqb (h .zero2) 0) (leb (h .clock) (2 ^ 48 - 1)) .0 (zeros .0) in
       rw (all .0, first .0, le-leb c (2 ^ 48 - 1) c-small, zeros .1)
 
+  pub head-number : number (putHead u new) ≡ n
+  unfolding headWith
+  head-number = ap (λ (h : Head). h .number) (head-same u new (k .whole .long) new-fits)
+
   pub head-leaves : Leaves t (putHead u new)
   unfolding headWith
   head-leaves =
