@@ -1,7 +1,7 @@
 -- Laws of whether a row answers for a destination, case by case, as the proofs of the functions need them.
 use Prim.Native.Nat.{ℕ}
 use mathlib.Core.Path.{_≡_, refl}
-use mathlib.Core.Bool.{Bool, true, false, not}
+use mathlib.Core.Bool.{Bool, true, false, not, _||_}
 use mathlib.Core.List.{List, [], _∷_}
 use mathlib.Core.Option.{Option, none, some}
 use borrow.Author.Tests.{eq-eqb, ne-eqb, not-true, not-false}
@@ -17,7 +17,7 @@ use Rattle.table.proofs.Cases.{row-at, row-none}
 use Rattle.element.specs.declared.PathInfo.{PathInfo}
 use Rattle.element.specs.declared.Target.{Target}
 use Rattle.rules.specs.declared.Arrival.{Arrival}
-use Rattle.element.specs.Flags.{hasDO}
+use Rattle.element.specs.Flags.{hasDO, numberUnknown}
 use Rattle.rules.specs.Destinations.{Answered, rowReply, answersFor, keptOn, keptAfterReply, forAnother}
 use Rattle.answering.specs.Answering.{ifAnswers, answeringRow}
 
@@ -37,9 +37,10 @@ module _ (c : ℕ) (q : Target) (d : Bool) (de : d ≡ hasDO q) where
         unfolding answersFor
         answers-not-unknown k = rw (← de, no-do, ← be, not-false b is-active, ne-eqb (r .known) 1 k)
 
-        pub answers-not-older : r .known ≡ 1 → (o : Bool) → o ≡ older (r .number) (q .number) → not o ≡ answersFor c q r
+        pub answers-by-number : r .known ≡ 1 → (u : Bool) → u ≡ numberUnknown q → (o : Bool) → o ≡ older (r .number) (q .number)
+            → (u || not o) ≡ answersFor c q r
         unfolding answersFor
-        answers-not-older k o oe = rw (← de, no-do, ← be, not-false b is-active, eq-eqb (r .known) 1 k, ← oe)
+        answers-by-number k u ue o oe = rw (← de, no-do, ← be, not-false b is-active, eq-eqb (r .known) 1 k, ← ue, ← oe)
 
   no-answer-do : d ≡ true → (o : Option Row) → none ≡ ifAnswers c q o
   no-answer-do e none = refl

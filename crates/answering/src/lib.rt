@@ -16,8 +16,8 @@ pub enum Answering {
     Nobody,
 }
 
-// Reports whether the row answers for the destination q: DO = 0, the row is active and of known number, and the row's number is
-// not older than the requested number.
+// Reports whether the row answers for the destination q: DO = 0, the row is active and of known number, and the requested number
+// is marked unknown or the row's number is not older than it.
 fn answers_for(clock: u64, q: Target, r: Row) -> bool
     ensures { λ b. ⌜ b ≡ answersFor clock q r ⌝ }
 {
@@ -31,7 +31,8 @@ fn answers_for(clock: u64, q: Target, r: Row) -> bool
     if r.known != 1 {
         return false;
     }
-    !stored.is_older(q.number)
+    let unknown = flags::is_number_unknown(q);
+    unknown | !stored.is_older(q.number)
 }
 
 // Returns the row that answers for the destination q. With DO = 1 it looks for no row.

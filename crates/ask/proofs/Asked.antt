@@ -15,7 +15,7 @@ use Rattle.layout.specs.declared.row.Row.{Row}
 use Rattle.table.specs.declared.search.Found.{Found}
 use Rattle.table.specs.declared.search.Found.the-variants.{At, Nothing}
 use Rattle.layout.specs.Layout.{headAt, putHead, rowAt, Sized}
-use Rattle.table.specs.Table.{own, findRow, rowFor}
+use Rattle.table.specs.Table.{own, findRow}
 use Rattle.table.proofs.Cases.{row-at, row-none}
 use Rattle.element.specs.declared.Item.{Item}
 use Rattle.element.specs.declared.Kind.the-variants.{Rreq}
@@ -29,7 +29,7 @@ use Rattle.writing.proofs.Written.{entries-more, target-length}
 use Rattle.rules.specs.Decision.{accepted, Check}
 use Rattle.rules.specs.Lists.{any}
 use Rattle.rules.specs.Exit.{lend, Exit, atExit}
-use Rattle.rules.specs.Originate.{numberedHead, ownRequest, requested, itemsFit, hasHighFlags, knownNumber, askedFor, itemChecks, asking, ask}
+use Rattle.rules.specs.Originate.{numberedHead, ownRequest, requested, itemsFit, hasHighFlags, withKnown, withoutKnown, askedBy, askedFor, itemChecks, asking, ask}
 use Rattle.rules.proofs.AnyOf.{any-found, any-more}
 use Rattle.rules.proofs.Rulings.{listed, Passed, passed-check}
 use Rattle.calls.specs.declared.Outcome.{Outcome}
@@ -49,21 +49,21 @@ module _ (s : List ℕ) (n i : ℕ) (g : Bool) (l : i < n) (x : Item) (xe : x �
   pub high-more : x .flags ≤ 3 → any hasHighFlags (each (itemAt s) i (n - i)) ≡ g → any hasHighFlags (each (itemAt s) (i + 1) (n - (i + 1))) ≡ g
   high-more low = any-more hasHighFlags (itemAt s) n i g l x xe (le-ltb 3 (x .flags) low)
 
--- ---- a destination's number
+-- ---- a destination, by the row of its address
 
-module _ (t : List ℕ) (d : Address) (f : Found) (fe : f ≡ findRow t d) where
-  pub number-absent : f ≡ Nothing → record { 0 = 0 } ≡ knownNumber (rowFor t d)
-  unfolding knownNumber
-  number-absent e = rw (row-none t d f fe e)
+module _ (t : List ℕ) (x : Item) (f : Found) (fe : f ≡ findRow t (x .address)) (q : Target) where
+  pub number-absent : f ≡ Nothing → q ≡ withoutKnown x → q ≡ askedFor t x
+  unfolding askedFor askedBy
+  number-absent e qe = rw (row-none t (x .address) f fe e) qe
 
   module _ (i : ℕ) (at-i : f ≡ At i) (r : Row) (re : r ≡ rowAt t i) where
-    pub number-unknown : (r .known ≡ 1 → ⊥) → record { 0 = 0 } ≡ knownNumber (rowFor t d)
-    unfolding knownNumber
-    number-unknown k = rw (row-at t d f fe i at-i r re, ne-eqb (r .known) 1 k)
+    pub number-unknown : (r .known ≡ 1 → ⊥) → q ≡ withoutKnown x → q ≡ askedFor t x
+    unfolding askedFor askedBy
+    number-unknown k qe = rw (row-at t (x .address) f fe i at-i r re, ne-eqb (r .known) 1 k) qe
 
-    pub number-known : r .known ≡ 1 → r .number ≡ knownNumber (rowFor t d)
-    unfolding knownNumber
-    number-known k = rw (row-at t d f fe i at-i r re, eq-eqb (r .known) 1 k)
+    pub number-known : r .known ≡ 1 → q ≡ withKnown x (r .number) → q ≡ askedFor t x
+    unfolding askedFor askedBy
+    number-known k qe = rw (row-at t (x .address) f fe i at-i r re, eq-eqb (r .known) 1 k) qe
 
 -- ---- its destinations one by one, by what is left to write; g is the whole
 

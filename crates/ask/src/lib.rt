@@ -5,9 +5,9 @@ use calls::Outcome;
 use counters::SequenceNumber;
 use element::Item;
 use element::Target;
+use element::flags;
 use element::list;
 use element::list::ListKind;
-use layout::address::Address;
 use layout::row;
 use layout::row::Head;
 use originate::common;
@@ -19,7 +19,6 @@ ghost use mathlib.Core.List.{flatMap, map};
 ghost use Prim.Native.Nat.{_+_, _*_, _/_, _≤_};
 ghost use lib.ListN.{length};
 ghost use Rattle.octets.specs.LittleEndian.{overwrite};
-ghost use Rattle.table.specs.Table.{rowFor};
 ghost use Rattle.layout.specs.Layout.{Sized};
 ghost use Rattle.element.specs.Element.{rreq};
 ghost use Rattle.element.specs.Entries.{itemsIn, targetOctets};
@@ -35,9 +34,10 @@ ghost use Rattle.rules.specs.Originate.{
   hasHighFlags,
   itemChecks,
   itemsFit,
-  knownNumber,
   ownRequest,
   requested,
+  withKnown,
+  withoutKnown,
 };
 ghost use Rattle.calls.specs.Answers.{answerTo, exitOf};
 
@@ -103,32 +103,44 @@ fn check(table: &[u8], output: &[u8], lifetime: u32, items: &[u8]) -> Answer
     Answer::Accepted
 }
 
-// Returns the known number of the destination's row, active or not, and 0 if there is no known number.
-fn known_number(table: &[u8], destination: Address) -> SequenceNumber
-    requires { ⌜ Sized (now table) ⌝ }
-    ensures { λ r. ⌜ r ≡ knownNumber (rowFor (now (table .entry)) destination) ⌝ }
-{
-    let Found::At(i) = search::find_row(table, destination) else {
-        return SequenceNumber(0);
-    };
-    let r = row::read_row(table, i);
-    if r.known != 1 {
-        return SequenceNumber(0);
-    }
-    r.number
-}
-
-fn asked_for(table: &[u8], item: Item) -> Target
-    requires { ⌜ Sized (now table) ⌝ }
-    ensures { λ r. ⌜ r ≡ askedFor (now (table .entry)) item ⌝ }
+// Returns the destination for an item with a known number.
+fn with_known(item: Item, number: SequenceNumber) -> Target
+    ensures { λ r. ⌜ r ≡ withKnown item number ⌝ }
 {
     let address = item.address;
-    let number = known_number(table, address);
     Target {
         flags: item.flags,
         address,
         number,
     }
+}
+
+// Returns the destination for an item without a known number: 0, marked unknown.
+fn without_known(item: Item) -> Target
+    ensures { λ r. ⌜ r ≡ withoutKnown item ⌝ }
+{
+    let address = item.address;
+    Target {
+        flags: flags::with_unknown(item.flags),
+        address,
+        number: SequenceNumber(0),
+    }
+}
+
+// Returns the destination for an item. Its number is the known number of the held row, active or not. If there is none, the
+// number is marked unknown.
+fn asked_for(table: &[u8], item: Item) -> Target
+    requires { ⌜ Sized (now table) ⌝ }
+    ensures { λ r. ⌜ r ≡ askedFor (now (table .entry)) item ⌝ }
+{
+    let Found::At(i) = search::find_row(table, item.address) else {
+        return without_known(item);
+    };
+    let r = row::read_row(table, i);
+    if r.known != 1 {
+        return without_known(item);
+    }
+    with_known(item, r.number)
 }
 
 // Writes a destination for each item, starting at place `at`. Returns the place after them.

@@ -1,7 +1,7 @@
 -- Laws of the replies, case by case and one after another, as the proofs of the functions need them.
 use Prim.Native.Nat.{ℕ, _+_, _-_, _*_, _/_, _<_, _≤_}
 use mathlib.Core.Path.{_≡_, refl, sym, ap, ap₂, _∙_}
-use mathlib.Core.Bool.{Bool, true, false, not}
+use mathlib.Core.Bool.{Bool, true, false, not, _&&_}
 use mathlib.Core.List.{List, [], _∷_, _++_, append-nil, flatMap}
 use mathlib.Core.Option.{none, some}
 use lib.ListN.{length, length-append}
@@ -33,7 +33,7 @@ use Rattle.element.proofs.Scans.{each-next, each-end}
 use Rattle.element.proofs.Sizes.{frame-length}
 use Rattle.writing.proofs.Written.{frame-parts}
 use Rattle.rules.specs.declared.Arrival.{Arrival}
-use Rattle.element.specs.Flags.{replyWanted}
+use Rattle.element.specs.Flags.{replyWanted, numberUnknown}
 use Rattle.rules.specs.Exit.{Frame, frameOctets}
 use Rattle.rules.specs.Destinations.{Answered, reply, replyFields, ownReply, newerOf, answeredNumber, forOneself, forAllOnes, forAnother, answered, allAnswered}
 use Rattle.rules.proofs.Emitting.{Emits, one-answered, replies-emitted}
@@ -61,12 +61,12 @@ pub reply-written : (s v : List ℕ) (at : ℕ) (to : Address) (f : RrepFields) 
     → v ≡ overwrite s at (frameOctets (record { receiver = to; element = rrep f [] } ∷ []))
 reply-written s v at to f e = e ∙ ap (overwrite s at) (sym (reply-octets to f))
 
-module _ (self requested : SequenceNumber) (b : Bool) (be : b ≡ newer requested self) where
-  pub becomes-requested : b ≡ true → requested ≡ newerOf self requested
-  becomes-requested e = rw (← be, e)
+module _ (self : SequenceNumber) (q : Target) (u : Bool) (ue : u ≡ numberUnknown q) (b : Bool) (be : b ≡ newer (q .number) self) where
+  pub becomes-requested : (not u && b) ≡ true → q .number ≡ newerOf self q
+  becomes-requested e = rw (← ue, ← be, e)
 
-  pub stays-own : b ≡ false → self ≡ newerOf self requested
-  stays-own e = rw (← be, e)
+  pub stays-own : (not u && b) ≡ false → self ≡ newerOf self q
+  stays-own e = rw (← ue, ← be, e)
 
 pub reply-numbered : (n : SequenceNumber) (request : RequestId) (c : OwnCounters) → c ≡ advancedFor false (record { number = n; request = request })
     → c .number ≡ nextNumber n
@@ -168,12 +168,12 @@ module _ (t : List ℕ) (a : Arrival) (p : PathInfo) (q : Target) (before : Repl
     own-said-output : (s v : List ℕ) → v ≡ overwrite s (before .place) (frameOctets (ownReply a p (own t) m ∷ [])) → v ≡ overwrite s (before .place) (frameOctets (toThis .replies))
     own-said-output s v ve = ve ∙ ap (λ (l : List Frame). overwrite s (before .place) (frameOctets l)) (sym replies-are)
 
-  module _ (is-self : q .address .0 ≡ h .own .0) (m : SequenceNumber) (me : m ≡ newerOf (before .number) (q .number)) where
+  module _ (is-self : q .address .0 ≡ h .own .0) (m : SequenceNumber) (me : m ≡ newerOf (before .number) q) where
     self-answer : toThis ≡ forOneself t a p (before .number) q
     unfolding answered
     self-answer = rw (is-own t h he (q .address) is-self)
 
-    self-next : answeredNumber (before .number) (q .number) ≡ nextNumber m
+    self-next : answeredNumber (before .number) q ≡ nextNumber m
     unfolding answeredNumber
     self-next = ap nextNumber (sym me)
 

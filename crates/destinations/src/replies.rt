@@ -91,11 +91,13 @@ fn write_reply(output: &mut [u8], at: usize, a: Arrival, f: RrepFields) -> usize
     writing::start_rrep(output, at, a.transmitter, f, 0)
 }
 
-// Returns the requested number if it is newer than the own number, otherwise the own number.
-fn newer_of(own: SequenceNumber, requested: SequenceNumber) -> SequenceNumber
-    ensures { λ r. ⌜ r ≡ newerOf own requested ⌝ }
+// Returns the requested number if it is not marked unknown and newer than the own number, otherwise the own number.
+fn newer_of(own: SequenceNumber, q: Target) -> SequenceNumber
+    ensures { λ r. ⌜ r ≡ newerOf own q ⌝ }
 {
-    if requested.is_newer(own) {
+    let requested = q.number;
+    let unknown = flags::is_number_unknown(q);
+    if !unknown & requested.is_newer(own) {
         return requested;
     }
     own
@@ -191,7 +193,7 @@ fn reply_to(
 {
     let number = before.number;
     if q.address.0 == row::read_head(table).own.0 {
-        return reply_as_oneself(output, table, a, p, newer_of(number, q.number), before);
+        return reply_as_oneself(output, table, a, p, newer_of(number, q), before);
     }
     if q.address.0 != list::ALL_ONES {
         return reply_for_another(output, table, a, p, q, before);

@@ -16,13 +16,21 @@ unicast p = bit 1 (p .flags)
 abbrev pub replyWanted : PathInfo → Bool
 replyWanted p = bit 2 (p .flags)
 
--- Flags of a RREQ's destination: bit 0 DO, bit 1 RF.
+-- Flags of a RREQ's destination: bit 0 DO, bit 1 RF, bit 2 number unknown.
 abbrev pub hasDO : Target → Bool
 hasDO q = bit 0 (q .flags)
 
 abbrev pub hasRF : Target → Bool
 hasRF q = bit 1 (q .flags)
 
+-- A requested number that is marked unknown plays no part, and a point writes 0 for it.
+abbrev pub numberUnknown : Target → Bool
+numberUnknown q = bit 2 (q .flags)
+
 -- Sets DO to 1 and leaves the other bits as they were.
 unfoldable pub withDO : Target → Target
 withDO q = record { flags = 2 * (q .flags / 2) + 1; address = q .address; number = q .number }
+
+-- Returns the flags of a destination with 'number unknown' set to 1 and the other bits as they were.
+unfoldable pub withUnknown : ℕ → ℕ
+withUnknown flags = 8 * (flags / 8) + 4 + flags % 4

@@ -3,7 +3,7 @@
 use crate::PathInfo;
 use crate::Target;
 ghost use mathlib.Core.Path.{_≡_};
-ghost use Rattle.element.specs.Flags.{hasDO, hasRF, replyWanted, unicast, withDO};
+ghost use Rattle.element.specs.Flags.{hasDO, hasRF, numberUnknown, replyWanted, unicast, withDO, withUnknown};
 
 pub fn is_unicast(p: PathInfo) -> bool
     ensures { λ r. ⌜ r ≡ unicast p ⌝ }
@@ -31,6 +31,13 @@ pub fn has_rf(q: Target) -> bool
     q.flags / 2 % 2 == 1
 }
 
+// Reports whether the requested number is marked unknown.
+pub fn is_number_unknown(q: Target) -> bool
+    ensures { λ r. ⌜ r ≡ numberUnknown q ⌝ }
+{
+    q.flags / 4 % 2 == 1
+}
+
 pub fn with_do(q: Target) -> Target
     ensures { λ r. ⌜ r ≡ withDO q ⌝ }
 {
@@ -41,4 +48,11 @@ pub fn with_do(q: Target) -> Target
         address,
         number,
     }
+}
+
+// Returns the flags of a destination with 'number unknown' set.
+pub fn with_unknown(flags: u8) -> u8
+    ensures { λ r. ⌜ r ≡ withUnknown flags ⌝ }
+{
+    8 * (flags / 8) + 4 + flags % 4
 }

@@ -21,7 +21,7 @@ use Rattle.writing.proofs.Written.{finished}
 use Rattle.rules.specs.Decision.{accepted}
 use Rattle.rules.specs.Exit.{lend, Exit, atExit}
 use Rattle.rules.specs.Onward.{toAll}
-use Rattle.rules.specs.Originate.{numberedHead, ownPath, ownRequest, announced, requested, originating, announcing, announce, isRootFlags, allWithDOAndRF, requestingAsRoot, rootRequest}
+use Rattle.rules.specs.Originate.{numberedHead, ownPath, ownRequest, announced, requested, originating, announcing, announce, isRootFlags, rootTarget, requestingAsRoot, rootRequest}
 use Rattle.rules.proofs.FrameOctets.{one-frame}
 use Rattle.calls.specs.declared.Outcome.{Outcome}
 use Rattle.calls.specs.declared.Answer.{Answer}
@@ -83,14 +83,14 @@ module _ (t output u v : List ℕ) (flags lifetime : ℕ) (h₀ h : Head) (e₀ 
 
   -- A root request has one destination.
   pub root-exit : (w : List ℕ) → w ≡ overwrite output 0 (frameStart allOnes Rreq 1 (rreqNumbers (ownRequest h flags lifetime)))
-      → (at : ℕ) → at ≡ 34 → (q : Target) → q ≡ allWithDOAndRF → v ≡ overwrite w at (targetOctets q) → (octets : ℕ) → octets ≡ at + 11
+      → (at : ℕ) → at ≡ 34 → (q : Target) → q ≡ rootTarget → v ≡ overwrite w at (targetOctets q) → (octets : ℕ) → octets ≡ at + 11
       → (em : Emitted) → em ≡ record { frames = 1; octets = octets }
-      → exitOf (Outcome.Accepted em) (lend u) v ≡ atExit (lend t) output (accepted (requested (lend t) flags lifetime (allWithDOAndRF ∷ [])))
+      → exitOf (Outcome.Accepted em) (lend u) v ≡ atExit (lend t) output (accepted (requested (lend t) flags lifetime (rootTarget ∷ [])))
   unfolding flatMap
   root-exit w we at ate q qe ve octets size =
-      requested-exit (allWithDOAndRF ∷ []) 1 refl
-      (request-finished w output v h flags lifetime (allWithDOAndRF ∷ []) 1 refl we at ate
-      (ve ∙ ap (λ (k : Target). overwrite w at (targetOctets k)) qe ∙ ap (overwrite w at) (sym (append-nil (targetOctets allWithDOAndRF)))))
+      requested-exit (rootTarget ∷ []) 1 refl
+      (request-finished w output v h flags lifetime (rootTarget ∷ []) 1 refl we at ate
+      (ve ∙ ap (λ (k : Target). overwrite w at (targetOctets k)) qe ∙ ap (overwrite w at) (sym (append-nil (targetOctets rootTarget)))))
       octets (omega (arith, size, ate))
 
 -- ---- from the answer of the check
@@ -114,7 +114,7 @@ module _ (t output : List ℕ) (flags lifetime : ℕ) (b : Bool) (be : b ≡ isR
   unfolding rootRequest
   root-refused = refusal (lend t) output (requestingAsRoot (lend t) (length output) flags lifetime) a root-checks
 
-  pub root-accepted : a ≡ Accepted → (x : Exit) → x ≡ atExit (lend t) output (accepted (requested (lend t) flags lifetime (allWithDOAndRF ∷ [])))
+  pub root-accepted : a ≡ Accepted → (x : Exit) → x ≡ atExit (lend t) output (accepted (requested (lend t) flags lifetime (rootTarget ∷ [])))
       → x ≡ atExit (lend t) output (rootRequest (lend t) (length output) flags lifetime)
   unfolding rootRequest
   root-accepted = acceptance (lend t) output (requestingAsRoot (lend t) (length output) flags lifetime) a root-checks

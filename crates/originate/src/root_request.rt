@@ -15,7 +15,7 @@ ghost use lib.ListN.{length};
 ghost use Rattle.rules.specs.Decision.{accepted};
 ghost use Rattle.rules.specs.Exit.{atExit, lend, leastOutput};
 ghost use Rattle.rules.specs.Exits.{rootRequestExit};
-ghost use Rattle.rules.specs.Originate.{allWithDOAndRF, isRootFlags, requested};
+ghost use Rattle.rules.specs.Originate.{isRootFlags, requested, rootTarget};
 ghost use Rattle.calls.specs.Answers.{exitOf};
 ghost use Rattle.layout.specs.Layout.{Sized};
 
@@ -27,12 +27,12 @@ fn is_root_flags(flags: u8) -> bool
     (flags == 0) | (flags == 1) | (flags == 4) | (flags == 5)
 }
 
-// Returns the only destination of a root request: all ones, with DO and RF set and number 0.
-fn all_with_do_and_rf() -> Target
-    ensures { λ r. ⌜ r ≡ allWithDOAndRF ⌝ }
+// Returns the only destination of a root request: all ones, with DO, RF and 'number unknown' set and number 0.
+fn root_target() -> Target
+    ensures { λ r. ⌜ r ≡ rootTarget ⌝ }
 {
     Target {
-        flags: 3,
+        flags: 7,
         address: Address(list::ALL_ONES),
         number: SequenceNumber(0),
     }
@@ -44,12 +44,12 @@ fn send(table: &mut [u8], output: &mut [u8], flags: u8, lifetime: u32) -> Outcom
     requires { ⌜ leastOutput ≤ length (now output) ⌝ }
     ensures { λ r. ⌜ exitOf r (lend (now (table .exit))) (now (output .exit))
         ≡ atExit (lend (now (table .entry))) (now (output .entry))
-        (accepted (requested (lend (now (table .entry))) flags lifetime (allWithDOAndRF ∷ []))) ⌝ }
+        (accepted (requested (lend (now (table .entry))) flags lifetime (rootTarget ∷ []))) ⌝ }
 {
     let head = common::number_head(row::read_head(table), true);
     row::write_head(table, head);
     let place = common::start_request(output, head, flags, lifetime, 1);
-    let octets = writing::write_target(output, place, all_with_do_and_rf());
+    let octets = writing::write_target(output, place, root_target());
     Outcome::Accepted(Emitted::one_frame(octets))
 }
 

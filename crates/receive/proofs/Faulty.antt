@@ -1,5 +1,5 @@
 -- Laws of the faults in the destinations of a RREQ, as the proofs of the functions need them.
-use Prim.Native.Nat.{ℕ}
+use Prim.Native.Nat.{ℕ, _+_, _-_, _<_}
 use mathlib.Core.Path.{_≡_, sym, ap, ap₂, _∙_}
 use mathlib.Core.Bool.{Bool, true, false, not, _&&_, _||_}
 use mathlib.Core.List.{List}
@@ -9,13 +9,24 @@ use Rattle.layout.specs.declared.address.Address.{Address}
 use Rattle.layout.specs.Address.{individual}
 use Rattle.element.specs.declared.PathInfo.{PathInfo}
 use Rattle.element.specs.declared.RreqFields.{RreqFields}
+use Rattle.element.specs.declared.Target.{Target}
 use Rattle.element.specs.declared.list.ListKind.the-variants.{Targets}
 use Rattle.element.specs.Element.{rreq}
-use Rattle.element.specs.Entries.{entriesIn, targetsIn}
+use Rattle.element.specs.Entries.{each, entriesIn, targetAt, targetsIn}
 use Rattle.element.specs.Lists.{addressesIn, anyForbidden, allOnes, contains, hasDuplicate, onesBesideOthers}
 use Rattle.element.proofs.Scans.{addresses-many, target-addresses}
 use Rattle.element.specs.Flags.{unicast}
-use Rattle.rules.specs.Receive.{hasBadAddress, hasBadList, severalOrAll}
+use Rattle.rules.specs.Lists.{any}
+use Rattle.rules.specs.Receive.{hasBadAddress, hasBadList, isMismarked, severalOrAll}
+use Rattle.rules.proofs.AnyOf.{any-found, any-more}
+
+-- A loop over n destinations, at destination i. The result for all of them is g.
+module _ (part : List ℕ) (n i : ℕ) (g : Bool) (l : i < n) (q : Target) (qe : q ≡ targetAt part i) (b : Bool) (be : b ≡ isMismarked q) where
+  pub mismarked-found : b ≡ true → any isMismarked (each (targetAt part) i (n - i)) ≡ g → true ≡ g
+  mismarked-found e = any-found isMismarked (targetAt part) n i g l q qe (sym be ∙ e)
+
+  pub mismarked-more : b ≡ false → any isMismarked (each (targetAt part) i (n - i)) ≡ g → any isMismarked (each (targetAt part) (i + 1) (n - (i + 1))) ≡ g
+  mismarked-more e = any-more isMismarked (targetAt part) n i g l q qe (sym be ∙ e)
 
 -- Only the list of a unicast RREQ is searched.
 module _ (p : PathInfo) (u : Bool) (ue : u ≡ unicast p) where
@@ -38,7 +49,8 @@ module _ (part : List ℕ) where
     bad-address-is b be x xe = ap₂ (λ (c d : Bool). not c || d) be (xe ∙ ap (anyForbidden Targets) (sym (target-addresses part)))
 
     listFaults : List Address → Bool
-    listFaults l = hasDuplicate l || onesBesideOthers l || contains l (f .path .subject) || (unicast (f .path) && severalOrAll l)
+    listFaults l =
+        hasDuplicate l || onesBesideOthers l || contains l (f .path .subject) || (unicast (f .path) && severalOrAll l) || any isMismarked (targetsIn part)
 
     bad-list : listFaults (addressesIn Targets part) ≡ hasBadList (rreq f (targetsIn part))
     unfolding hasBadList listFaults
@@ -60,7 +72,11 @@ module _ (part : List ℕ) where
           unfolding listFaults
           originator-named e = rw (sym ae ∙ no-a, sym be ∙ no-b, sym ce ∙ e) at bad-list
 
-          pub unicast-to-many : c ≡ false → (m : Bool) → m ≡ (unicast (f .path) && severalOrAll (addressesIn Targets part))
-              → m ≡ hasBadList (rreq f (targetsIn part))
-          unfolding listFaults
-          unicast-to-many e m me = me ∙ rw (sym ae ∙ no-a, sym be ∙ no-b, sym ce ∙ e) at bad-list
+          module _ (no-c : c ≡ false) (m : Bool) (me : m ≡ (unicast (f .path) && severalOrAll (addressesIn Targets part))) where
+            pub unicast-to-many : m ≡ true → true ≡ hasBadList (rreq f (targetsIn part))
+            unfolding listFaults
+            unicast-to-many e = rw (sym ae ∙ no-a, sym be ∙ no-b, sym ce ∙ no-c, sym me ∙ e) at bad-list
+
+            pub mismarked-last : m ≡ false → (x : Bool) → x ≡ any isMismarked (targetsIn part) → x ≡ hasBadList (rreq f (targetsIn part))
+            unfolding listFaults
+            mismarked-last e x xe = xe ∙ rw (sym ae ∙ no-a, sym be ∙ no-b, sym ce ∙ no-c, sym me ∙ e) at bad-list

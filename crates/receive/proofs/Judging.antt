@@ -23,9 +23,9 @@ use Rattle.element.proofs.Scans.{addresses-many, target-addresses, lost-address
 use Rattle.rules.specs.declared.Arrival.{Arrival}
 use Rattle.rules.specs.Decision.{Check, decide}
 use Rattle.element.specs.Flags.{unicast}
-use Rattle.rules.specs.Lists.{isSomeAnd}
+use Rattle.rules.specs.Lists.{any, isSomeAnd}
 use Rattle.rules.specs.Exit.{lend, atExit}
-use Rattle.rules.specs.Receive.{pathOf, targetAddresses, hasBadAddress, hasBadList, severalOrAll, isLowTtlReply, fieldChecks, matchesNothing, judging}
+use Rattle.rules.specs.Receive.{pathOf, targetAddresses, hasBadAddress, hasBadList, isMismarked, severalOrAll, isLowTtlReply, fieldChecks, matchesNothing, judging}
 use Rattle.rules.proofs.Rulings.{listed, Passed, passed-check}
 use Rattle.calls.specs.declared.Outcome.{Outcome}
 use Rattle.calls.specs.declared.Answer.{Answer}
@@ -141,10 +141,10 @@ module _ (t : List ℕ) (a : Arrival) (r : Answer) (ok : r ≡ Accepted) where
       ap length (target-addresses part) ∙ addresses-many Targets part in
       ap (λ (n : ℕ). unicast (f .path) && ltb 1 n) (sym many)
       ∙ by (unicast (f .path)) (ltb 1 (length addresses)) (contains addresses allOnes)
-      (hasDuplicate addresses || onesBesideOthers addresses || contains addresses (f .path .subject)) good
+      (hasDuplicate addresses || onesBesideOthers addresses || contains addresses (f .path .subject)) (any isMismarked (targetsIn part)) good
     where
-      by : (u m o b : Bool) → (b || (u && (m || o))) ≡ false → (u && m) ≡ false
-      by false m o b e = refl
-      by true false o b e = refl
-      by true true o true e = e
-      by true true o false e = e
+      by : (u m o b x : Bool) → (b || (u && (m || o)) || x) ≡ false → (u && m) ≡ false
+      by false m o b x e = refl
+      by true false o b x e = refl
+      by true true o true x e = e
+      by true true o false x e = e

@@ -2,6 +2,7 @@
 use element::PathInfo;
 use element::RrepFields;
 use element::RreqFields;
+use element::Target;
 use element::flags;
 use element::list;
 use element::list::ListKind;
@@ -14,7 +15,8 @@ ghost use Rattle.element.specs.Entries.{targetsIn};
 ghost use Rattle.element.specs.Lists.{addressesIn};
 ghost use Rattle.element.specs.declared.list.ListKind.{ListKind};
 ghost use Rattle.element.specs.Flags.{unicast};
-ghost use Rattle.rules.specs.Receive.{hasBadAddress, hasBadList, severalOrAll};
+ghost use Rattle.rules.specs.Lists.{any};
+ghost use Rattle.rules.specs.Receive.{hasBadAddress, hasBadList, isMismarked, severalOrAll};
 ghost use Rattle.receive.specs.Checks.{faultsOf};
 
 // Holds whether the element is at fault in its addresses (9), in its list or in how its addresses go together (10), and in its
@@ -63,8 +65,29 @@ fn is_unicast_to_several(p: PathInfo, part: &[u8]) -> bool
     is_several_or_all(part)
 }
 
+// Reports whether a destination is marked 'number unknown' beside a number other than 0.
+fn is_mismarked(q: Target) -> bool
+    ensures { λ r. ⌜ r ≡ isMismarked q ⌝ }
+{
+    flags::is_number_unknown(q) & (q.number.0 != 0)
+}
+
+fn has_mismarked(part: &[u8]) -> bool
+    ensures { λ r. ⌜ r ≡ any isMismarked (targetsIn (now (part .entry))) ⌝ }
+{
+    let n = part.len() / list::TARGET;
+    let mut i = 0;
+    while i < n {
+        if is_mismarked(list::target_at(part, i)) {
+            return true;
+        }
+        i += 1;
+    }
+    false
+}
+
 // Reports whether the list has a fault: a destination stands twice; all ones and anything else; the originator among the
-// destinations; several destinations or all ones in a unicast RREQ.
+// destinations; several destinations or all ones in a unicast RREQ; a number other than 0 that is marked unknown.
 fn rreq_has_bad_list(f: RreqFields, part: &[u8]) -> bool
     ensures { λ r. ⌜ r ≡ hasBadList (rreq f (targetsIn (now (part .entry)))) ⌝ }
 {
@@ -77,7 +100,10 @@ fn rreq_has_bad_list(f: RreqFields, part: &[u8]) -> bool
     if list::contains(part, ListKind::Targets, f.path.subject) {
         return true;
     }
-    is_unicast_to_several(f.path, part)
+    if is_unicast_to_several(f.path, part) {
+        return true;
+    }
+    has_mismarked(part)
 }
 
 pub fn of_rreq(f: RreqFields, part: &[u8]) -> Faults

@@ -37,6 +37,7 @@ use Rattle.element.proofs.Lengths.{count-range}
 use Rattle.element.proofs.Scans.{each-length}
 use Rattle.element.proofs.ListParts.{all-each, FitsTarget, FitsNumbered, FitsLost}
 use Rattle.rules.specs.Decision.{Check, accepted}
+use Rattle.element.specs.Flags.{withUnknown}
 use Rattle.rules.specs.Lists.{any, filter}
 use Rattle.rules.specs.Exit.{Lent, Effect}
 use Rattle.rules.specs.declared.Arrival.{Arrival}
@@ -45,7 +46,7 @@ use Rattle.rules.specs.Destinations.{Answered, allAnswered}
 use Rattle.rules.specs.Onward.{rreqOnward}
 use Rattle.rules.specs.Errors.{matches, brokenEntries}
 use Rattle.rules.specs.Receive.{matchesNothing, rannReceived, rrepReceived, rreqReceived, rerrReceived, received, receiving, receive}
-use Rattle.rules.specs.Originate.{numberedHead, ownPath, announced, requested, itemsFit, knownNumber, askedFor, asking, ask, announcing, announce, isRootFlags, allWithDOAndRF, requestingAsRoot, rootRequest}
+use Rattle.rules.specs.Originate.{numberedHead, ownPath, announced, requested, itemsFit, withKnown, withoutKnown, askedBy, askedFor, asking, ask, announcing, announce, isRootFlags, rootTarget, requestingAsRoot, rootRequest}
 use Rattle.rules.specs.Break.{brokenOff, breaking, breakNeighbour}
 use Rattle.rules.specs.Calls.{Call, receives, makes, asks, announces, requestsAsRoot, breaks, decision, OperandsFit}
 use Rattle.rules.proofs.Rulings.{listed, passed, passed-check}
@@ -172,13 +173,6 @@ module _ (l : Lent) (w : Whole (l .table)) where
       }
 
   -- The destinations of an ask fit.
-  known-number-fits : (d : Address) (o : Option Row) → rowFor (l .table) d ≡ o → knownNumber o .0 < 256 ^ 4
-  unfolding knownNumber
-  known-number-fits d none e = omega arith
-  known-number-fits d (some r) e =
-      cond-cases (λ (n : SequenceNumber). n .0 < 256 ^ 4) (eqb (r .known) 1)
-      (λ _. row-fits-its-octets (l .table) d r e (w .octets) .number) (λ _. omega arith)
-
   abbrev FitsItem : Item → Type 0
   FitsItem i = (i .flags < 256 ^ 1) × (i .address .0 < 256 ^ 6)
 
@@ -186,9 +180,24 @@ module _ (l : Lent) (w : Whole (l .table)) where
   unfolding itemAt fieldsAt FitFields
   item-fits s o i = let f = fields-fit itemWidths s (7 * i) 0 o in (f .0, f .1 .0)
 
+  unknown-fits : (i : Item) → FitsItem i → FitsTarget (withoutKnown i)
+  unfolding withUnknown FitFields
+  unknown-fits i f = let k = f .0 in (omega arith, (f .1, (omega arith, tt)))
+
+  known-fits : (i : Item) → FitsItem i → (n : SequenceNumber) → n .0 < 256 ^ 4 → FitsTarget (withKnown i n)
+  unfolding FitFields
+  known-fits i f n small = (f .0, (f .1, (small, tt)))
+
+  asked-by-fits : (i : Item) → FitsItem i → (o : Option Row) → rowFor (l .table) (i .address) ≡ o → FitsTarget (askedBy i o)
+  unfolding askedBy
+  asked-by-fits i f none e = unknown-fits i f
+  asked-by-fits i f (some r) e =
+      cond-cases FitsTarget (eqb (r .known) 1)
+      (λ _. known-fits i f (r .number) (row-fits-its-octets (l .table) (i .address) r e (w .octets) .number)) (λ _. unknown-fits i f)
+
   asked-fits : (i : Item) → FitsItem i → FitsTarget (askedFor (l .table) i)
-  unfolding askedFor FitFields
-  asked-fits i f = (f .0, (f .1, (known-number-fits (i .address) (rowFor (l .table) (i .address)) refl, tt)))
+  unfolding askedFor
+  asked-fits i f = asked-by-fits i f (rowFor (l .table) (i .address)) refl
 
   asked-all-fit : (s : List ℕ) → Octets s → All FitsTarget (map (askedFor (l .table)) (itemsIn s))
   asked-all-fit s o = all-map FitsTarget FitsItem (askedFor (l .table)) asked-fits (itemsIn s) (all-each FitsItem (itemAt s) (item-fits s o) 0 (length s / 7))
@@ -250,7 +259,7 @@ module _ (l : Lent) (octets : Octets (l .table)) (room : ℕ) where
       let checks : List Check = requestingAsRoot l room flags lifetime .checks in
       let w : Whole (l .table) = whole (l .table) octets (passed-check 1 checks (p .0)) (passed-check 21 checks (p .0)) in
       rw (← p .1)
-      (requested-kept l w flags lifetime (allWithDOAndRF ∷ []) (root-flags-small flags (passed-check 10 checks (p .0))) short
+      (requested-kept l w flags lifetime (rootTarget ∷ []) (root-flags-small flags (passed-check 10 checks (p .0))) short
       ((omega arith, (omega arith, (omega arith, tt))), tt) (omega arith) (omega arith))
 
   break-kept : (c : ℕ) (neighbour : Address) (e : Effect) → breakNeighbour l room c neighbour ≡ accepted e → Kept (l .table) e

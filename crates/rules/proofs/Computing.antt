@@ -14,7 +14,7 @@ use Rattle.element.specs.Entries.{each, lostAt, lostOctets, numberedAt, numbere
 use Rattle.element.specs.Octets.{wrongLength, otherId, misfit, readAs, readElement, fixedOctets, writeElement, writeFrame}
 use Rattle.element.specs.Lists.{addressesFrom, allowed, anyForbidden, contains, hasDuplicate, onesBesideOthers}
 use Rattle.rules.specs.Lists.{any, all, filter}
-use Rattle.element.specs.Flags.{bit, withDO}
+use Rattle.element.specs.Flags.{bit, withDO, withUnknown}
 use Rattle.rules.specs.Exit.{frameOctets, atExit}
 use Rattle.rules.specs.Fresh.{makeFresh}
 use Rattle.rules.specs.Forget.{forget}
@@ -24,7 +24,7 @@ use Rattle.rules.specs.Destinations.{reply, answeredNumber, answersFor, 
 use Rattle.rules.specs.Onward.{onward, rannOnward, rreqOnward, rrepOnward}
 use Rattle.rules.specs.Errors.{isLostBy, matches, numberBeside, isMatch, erredWith, erred, broken, brokenEntry, brokenEntries, errorAt, errorsFor}
 use Rattle.rules.specs.Receive.{hasBadAddress, severalOrAll, hasBadList, isLowTtlReply, isStaleFor, isStale, matchesNothing, rowsNeeded, rannReceived, rrepReceived, rreqReceived, rerrReceived, received, receive}
-use Rattle.rules.specs.Originate.{numberedHead, ownPath, announced, requested, itemsFit, knownNumber, askedFor, ask, announce, isRootFlags, rootRequest}
+use Rattle.rules.specs.Originate.{numberedHead, ownPath, announced, requested, itemsFit, askedBy, askedFor, ask, announce, isRootFlags, rootRequest}
 use Rattle.rules.specs.Break.{brokenOff, breakNeighbour}
 use Rattle.rules.specs.Calls.{decision}
 use Rattle.rules.specs.Walk.{tableAt, sideBySide, hasLaterClock, rowOfPoint, leadsTo, follow, walk}
@@ -38,13 +38,13 @@ unfolding flatMap numberOctets numberAt overwrite withNumber fieldsAt withFields
     isTable fresh placeFor store freed changeBelow changeWhere
     known kindWith fits each lostAt lostOctets numberedAt numberedOctets targetAt targetOctets itemAt wrongLength otherId misfit
     readAs readElement fixedOctets writeElement writeFrame addressesFrom allowed anyForbidden contains onesBesideOthers hasDuplicate
-    any all filter bit withDO frameOctets atExit makeFresh forget nextHop
+    any all filter bit withDO withUnknown frameOctets atExit makeFresh forget nextHop
     expiryOf subjectRow transmitterRow takesLink subjectLearnt transmitterLearnt learnt
     reply answeredNumber answersFor forOneself forAllOnes forAnother answered allAnswered
     onward rannOnward rreqOnward rrepOnward
     isThrough isLostBy matches numberBeside isMatch erredWith erred broken brokenEntry brokenEntries errorAt errorsFor
     hasBadAddress severalOrAll hasBadList isLowTtlReply isStaleFor isStale matchesNothing rowsNeeded
     rannReceived rrepReceived rreqReceived rerrReceived received listed receive
-    numberedHead ownPath announced requested itemsFit knownNumber askedFor ask announce isRootFlags rootRequest
+    numberedHead ownPath announced requested itemsFit askedBy askedFor ask announce isRootFlags rootRequest
     brokenOff breakNeighbour decision tableAt sideBySide hasLaterClock rowOfPoint leadsTo follow walk
 computing = tt

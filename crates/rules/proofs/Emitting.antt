@@ -2,7 +2,7 @@
 -- also bound how many frames there are.
 use Prim.Native.Nat.{ℕ, _<_, _≤_}
 use mathlib.Core.Path.{_≡_, refl}
-use mathlib.Core.Bool.{true, not, _&&_, and-eq-true-iff}
+use mathlib.Core.Bool.{Bool, true, not, _&&_, _||_, and-eq-true-iff}
 use mathlib.Core.List.{List, [], _∷_}
 use mathlib.Core.Option.{Option, none, some}
 use lib.Dec.{eqb, ltb}
@@ -25,7 +25,7 @@ use Rattle.element.specs.Element.{Element, rann, rreq, rrep}
 use Rattle.element.specs.Entries.{All}
 use Rattle.element.specs.Lists.{allOnes}
 use Rattle.element.proofs.Scans.{each-length}
-use Rattle.element.specs.Flags.{replyWanted, unicast, hasDO}
+use Rattle.element.specs.Flags.{replyWanted, unicast, hasDO, numberUnknown}
 use Rattle.rules.specs.Exit.{Frame}
 use Rattle.rules.specs.declared.Arrival.{Arrival}
 use Rattle.rules.specs.Destinations.{Answered, ownReply, rowReply, answeredNumber, answersFor, forOneself, forAllOnes, forAnother, answered, allAnswered}
@@ -48,7 +48,8 @@ pub data GoesTo (t : List ℕ) (c : ℕ) : Address → Type 0 where
 answers-known : (c : ℕ) (q : Target) (r : Row) → answersFor c q r ≡ true → eqb (r .known) 1 ≡ true
 unfolding answersFor
 answers-known c q r h =
-    let first = and-eq-true-iff (not (hasDO q) && active c r && eqb (r .known) 1) (not (older (r .number) (q .number))) .0 h in
+    let fresh : Bool = numberUnknown q || not (older (r .number) (q .number)) in
+    let first = and-eq-true-iff (not (hasDO q) && active c r && eqb (r .known) 1) fresh .0 h in
     and-eq-true-iff (not (hasDO q) && active c r) (eqb (r .known) 1) .0 (first .0) .1
 
 module _ (Q : Frame → Type 0) where

@@ -1,7 +1,7 @@
 -- Defines the replies to a RREQ. The point takes the destinations in order. Each destination may bring a reply, and is kept or
 -- struck out. PROTOCOL, 'Replies'.
 use Prim.Native.Nat.{ℕ}
-use mathlib.Core.Bool.{Bool, not, _&&_, cond}
+use mathlib.Core.Bool.{Bool, not, _&&_, _||_, cond}
 use mathlib.Core.List.{List, [], _∷_, _++_}
 use mathlib.Core.Option.{Option, none, some}
 use lib.Dec.{eqb}
@@ -19,7 +19,7 @@ use Rattle.element.specs.declared.Target.{Target}
 use Rattle.element.specs.declared.RrepFields.{RrepFields}
 use Rattle.element.specs.Element.{rrep}
 use Rattle.element.specs.Lists.{allOnes}
-use Rattle.element.specs.Flags.{replyWanted, hasDO, hasRF, withDO}
+use Rattle.element.specs.Flags.{replyWanted, hasDO, hasRF, numberUnknown, withDO}
 use Rattle.rules.specs.Exit.{Frame, initialTtl}
 use Rattle.rules.specs.declared.Arrival.{Arrival}
 
@@ -59,18 +59,19 @@ ownReply a p self number = reply a p self number (record { 0 = 0 }) (record { 0 
 abbrev pub rowReply : Arrival → PathInfo → Row → Frame
 rowReply a p r = reply a p (r .destination) (r .number) (r .hops) (r .metric)
 
--- Returns the requested number if it is newer than the own number, otherwise the own number.
-abbrev pub newerOf : SequenceNumber → SequenceNumber → SequenceNumber
-newerOf self requested = cond (newer requested self) requested self
+-- Returns the requested number if it is not marked unknown and newer than the own number, otherwise the own number.
+abbrev pub newerOf : SequenceNumber → Target → SequenceNumber
+newerOf self q = cond (not (numberUnknown q) && newer (q .number) self) (q .number) self
 
--- The point sets its own number to the requested number if that is newer, and then steps its own number.
-unfoldable pub answeredNumber : SequenceNumber → SequenceNumber → SequenceNumber
-answeredNumber self requested = nextNumber (newerOf self requested)
+-- The point sets its own number to the requested number if that is not marked unknown and newer, and then steps its own number.
+unfoldable pub answeredNumber : SequenceNumber → Target → SequenceNumber
+answeredNumber self q = nextNumber (newerOf self q)
 
--- Reports whether the point sends an intermediate reply from a row: DO = 0, the row is active and of known number, and the row's
--- number is not older than the requested number.
+-- Reports whether the point sends an intermediate reply from a row: DO = 0, the row is active and of known number, and the
+-- requested number is marked unknown or the row's number is not older than it.
 unfoldable pub answersFor : ℕ → Target → Row → Bool
-answersFor c q r = not (hasDO q) && active c r && eqb (r .known) 1 && not (older (r .number) (q .number))
+answersFor c q r =
+    not (hasDO q) && active c r && eqb (r .known) 1 && (numberUnknown q || not (older (r .number) (q .number)))
 
 -- The point does nothing, and the destination is kept unchanged.
 abbrev pub keptOn : SequenceNumber → Target → Answered
@@ -85,7 +86,7 @@ module _ (t : List ℕ) (a : Arrival) (p : PathInfo) where
   -- The own address: the point replies for itself under `answeredNumber`, and strikes the destination out.
   unfoldable pub forOneself : SequenceNumber → Target → Answered
   forOneself n q =
-      let next : SequenceNumber = answeredNumber n (q .number) in
+      let next : SequenceNumber = answeredNumber n q in
       record { number = next; replies = ownReply a p (own t) next ∷ []; kept = [] }
 
   -- All ones: if the RREQ has 'reply wanted', the point steps its own number and replies for itself. The destination is kept.

@@ -27,6 +27,7 @@ use Rattle.element.specs.declared.Target.{Target}
 use Rattle.element.specs.declared.list.ListKind.the-variants.{Items}
 use Rattle.element.specs.Element.{rann, rreq}
 use Rattle.element.specs.Entries.{itemsIn}
+use Rattle.element.specs.Flags.{withUnknown}
 use Rattle.element.specs.Lists.{addressesIn, allOnes, anyForbidden, contains, hasDuplicate}
 use Rattle.rules.specs.Decision.{Decision, Check, Ruling, decide, refuse_when_, _then_, _above_, accept, _>>_}
 use Rattle.rules.specs.Checks.{bufferChecks}
@@ -80,14 +81,23 @@ itemsFit items = eqb (length items % 7) 0 && leb 7 (length items) && leb (length
 abbrev pub hasHighFlags : Item → Bool
 hasHighFlags i = i .flags above 3
 
--- A destination's number is that of the held row if its number is known, otherwise 0.
-unfoldable pub knownNumber : Option Row → SequenceNumber
-knownNumber none = record { 0 = 0 }
-knownNumber (some r) = cond (eqb (r .known) 1) (r .number) (record { 0 = 0 })
+-- Returns the destination of the RREQ for an item, with a known number: flags and address as the item says.
+abbrev pub withKnown : Item → SequenceNumber → Target
+withKnown i n = record { flags = i .flags; address = i .address; number = n }
 
--- Returns the destination of the RREQ for an item: flags and address as the item says, and the known number.
+-- Returns the destination of the RREQ for an item, without a known number: 'number unknown' is set beside the item's flags, and
+-- the number is 0.
+abbrev pub withoutKnown : Item → Target
+withoutKnown i = record { flags = withUnknown (i .flags); address = i .address; number = record { 0 = 0 } }
+
+-- A destination's number is that of the held row if its number is known. Otherwise the point knows no number.
+unfoldable pub askedBy : Item → Option Row → Target
+askedBy i none = withoutKnown i
+askedBy i (some r) = cond (eqb (r .known) 1) (withKnown i (r .number)) (withoutKnown i)
+
+-- Returns the destination of the RREQ for an item, by the row that the table t holds for its address.
 unfoldable pub askedFor : List ℕ → Item → Target
-askedFor t i = record { flags = i .flags; address = i .address; number = knownNumber (rowFor t (i .address)) }
+askedFor t i = askedBy i (rowFor t (i .address))
 
 -- Refusals 8 to 10, for the items of an ask.
 unfoldable pub itemChecks : List ℕ → List Check
@@ -133,14 +143,14 @@ announce l room flags lifetime = decide (announcing l room flags lifetime)
 unfoldable pub isRootFlags : ℕ → Bool
 isRootFlags flags = eqb flags 0 || eqb flags 1 || eqb flags 4 || eqb flags 5
 
--- The one destination of a root request: all ones, with DO and RF set and number 0.
-abbrev pub allWithDOAndRF : Target
-allWithDOAndRF = record { flags = 3; address = allOnes; number = record { 0 = 0 } }
+-- The one destination of a root request: all ones, with DO, RF and 'number unknown' set and number 0.
+abbrev pub rootTarget : Target
+rootTarget = record { flags = 7; address = allOnes; number = record { 0 = 0 } }
 
 -- 10. For root request, the flags are not 0, 1, 4 or 5.
 abbrev pub requestingAsRoot : Lent → ℕ → ℕ → ℕ → Ruling Effect
 requestingAsRoot l room flags lifetime =
-    originating (l .table) room (not (isRootFlags flags)) lifetime (requested l flags lifetime (allWithDOAndRF ∷ []))
+    originating (l .table) room (not (isRootFlags flags)) lifetime (requested l flags lifetime (rootTarget ∷ []))
 
 unfoldable pub rootRequest : Lent → ℕ → ℕ → ℕ → Decision Effect
 rootRequest l room flags lifetime = decide (requestingAsRoot l room flags lifetime)

@@ -31,7 +31,7 @@ use Rattle.element.specs.Lists.{allOnes, anyForbidden, contains, hasDuplicate, 
 use Rattle.rules.specs.Decision.{Decision, Check, Ruling, decide, refuse_when_, _then_, _above_, accept, _>>_}
 use Rattle.rules.specs.Checks.{operandChecks, stateChecks}
 use Rattle.rules.specs.Lists.{any, filter, isSomeAnd}
-use Rattle.element.specs.Flags.{unicast}
+use Rattle.element.specs.Flags.{unicast, numberUnknown}
 use Rattle.rules.specs.Exit.{Lent, withTable, Effect, underHead}
 use Rattle.rules.specs.declared.Arrival.{Arrival}
 use Rattle.rules.specs.Learn.{metricHere, maxMetric, maxHops, learnt}
@@ -82,14 +82,19 @@ hasBadAddress (rerr f destinations) = anyForbidden LostDestinations (lostAddress
 unfoldable pub severalOrAll : List Address → Bool
 severalOrAll addresses = ltb 1 (length addresses) || contains addresses allOnes
 
+-- Reports whether a destination is marked 'number unknown' beside a number other than 0.
+abbrev pub isMismarked : Target → Bool
+isMismarked q = numberUnknown q && not (eqb (q .number .0) 0)
+
 -- 10. A RREQ or a RERR names a destination twice; a RREQ names all ones and anything else; a RREQ names its own originator as a
--- destination; a unicast RREQ names several destinations, or all ones; the destination of a RREP equals its source.
+-- destination; a unicast RREQ names several destinations, or all ones; a RREQ marks a number other than 0 as unknown; the
+-- destination of a RREP equals its source.
 unfoldable pub hasBadList : Element → Bool
 hasBadList (rann p) = false
 hasBadList (rreq f targets) =
     let addresses : List Address = targetAddresses targets in
     hasDuplicate addresses || onesBesideOthers addresses || contains addresses (f .path .subject)
-    || (unicast (f .path) && severalOrAll addresses)
+    || (unicast (f .path) && severalOrAll addresses) || any isMismarked targets
 hasBadList (rrep f dependents) = same (f .path .subject) (f .source .address)
 hasBadList (rerr f destinations) = hasDuplicate (lostAddresses destinations)
 

@@ -8,18 +8,18 @@ use Rattle.rules.proofs.Computing.{computing}
 use Rattle.theorems.specs.Mesh.{start, boxOf, withBox, callOf, walkOver, pointFits, pointsFit, ownCallFits, actionFits, eventFits, sentBy, afterCall, happen, run, throughout, nextAt, met}
 use Rattle.theorems.specs.Premise.{beside, held, heldByAll, carried, numbersFor, isWithin, allWithin}
 use Rattle.theorems.specs.WrongRules.{ruledBy}
-use Rattle.theorems.specs.Runs.{way, after, endOf, asDemanded, goesRound, heldIn, linesFrom, lines, agree, worked, wentRound, loops, counterexamples, happenWider, widerFits, leftOut, outside, outsideLoops}
+use Rattle.theorems.specs.Runs.{way, after, endOf, asDemanded, goesRound, heldIn, linesFrom, lines, agree, worked, wentRound, foundUnheardOf, loops, counterexamples, happenWider, widerFits, leftOut, outside, outsideLoops}
 
 -- Collects the definitions that must unfold for a run to compute.
 running : Unit {0}
 unfolding computing start boxOf withBox callOf walkOver pointFits pointsFit ownCallFits actionFits
     sentBy afterCall happen run throughout nextAt met
     beside held heldByAll carried numbersFor isWithin allWithin
-    ruledBy way after endOf asDemanded goesRound heldIn linesFrom lines agree worked wentRound counterexamples
+    ruledBy way after endOf asDemanded goesRound heldIn linesFrom lines agree worked wentRound foundUnheardOf counterexamples
     happenWider widerFits leftOut outsideLoops
 running = tt
 
-pub runs-as-worked : all (λ b. b) (worked decision ++ wentRound decision) ≡ true
+pub runs-as-worked : all (λ b. b) (worked decision ++ wentRound decision ++ foundUnheardOf decision) ≡ true
 unfolding running
 runs-as-worked = refl
 

@@ -15,6 +15,7 @@ use Rattle.element.specs.declared.LostDestination.{LostDestination}
 use Rattle.element.specs.declared.NumberedAddress.{NumberedAddress}
 use Rattle.element.specs.declared.Target.{Target}
 use Rattle.element.specs.Element.{Element, rann, rreq, rrep, rerr}
+use Rattle.element.specs.Flags.{numberUnknown}
 use Rattle.element.specs.Octets.{readElement}
 use Rattle.rules.specs.Lists.{all}
 use Rattle.rules.specs.Exit.{Lent}
@@ -43,9 +44,9 @@ heldByAll d boxes = flatMap (λ (l : Lent). held d (l .table)) boxes
 abbrev pub pathNumber : Address → PathInfo → List SequenceNumber
 pathNumber d p = beside d (p .subject) (p .number)
 
--- Returns the number with a destination of a RREQ if the destination is d.
+-- Returns the number with a destination of a RREQ if the destination is d. A 0 that is marked unknown does not count.
 abbrev pub targetNumber : Address → Target → List SequenceNumber
-targetNumber d q = beside d (q .address) (q .number)
+targetNumber d q = cond (numberUnknown q) [] (beside d (q .address) (q .number))
 
 -- Returns the number with the source or a dependent of a RREP if its address is d.
 abbrev pub entryNumber : Address → NumberedAddress → List SequenceNumber

@@ -1,11 +1,12 @@
--- Defines runs as data, and tests of them that compute. Two runs have everything that demand 3 asks for and find their way. Eight
--- runs loop: five under wrong rules, two with a call that demand 3 leaves out, and one outside the premise of demand 3. What is
--- defined here:
+-- Defines runs as data, and tests of them that compute. Three runs have everything that demand 3 asks for and find their way.
+-- Eight runs loop: five under wrong rules, two with a call that demand 3 leaves out, and one outside the premise of demand 3. What
+-- is defined here:
 --   _gets_over_at_, _asks-for_lasting_, ..        events, in words
 --   Run                                           points, events and a destination
 --   way, endOf, asDemanded, goesRound             the walk of a run; its last mesh; what demand 3 asks for; whether the run loops
 --   lines                                         the answers to the events of a run, as in the bench's lines
---   workedCase, worked; roundZero, wentRound      the two runs that find their way, each with its tests
+--   workedCase, worked; roundZero, wentRound;     the three runs that find their way, each with its tests
+--   unheardOf, foundUnheardOf
 --   Counterexample, loops, counterexamples        the runs that loop under wrong rules
 --   WiderEvent, happenWider, leftOut              the runs with a forget or a second fresh table
 --   outside, outsideLoops                         the run outside the premise
@@ -300,6 +301,43 @@ wentRound rules =
     ∷ agree same (way roundZero m) (A ∷ B ∷ D ∷ [])
     ∷ []
 
+-- ---- a run in which a point asks for a destination that it never heard of
+
+abbrev pub unheardOf : Run Event
+unheardOf =
+    towardsD (2 ^ 31 + 1) (2 ^ 31 + 1)
+    -- D sends 0 with number 2,147,483,650. A 2147483650/1 via D, and A forwards 1. B 2147483650/2 via A, and B forwards 2.
+    (D announces-itself
+    ∷ A gets 0 over 1 at 0
+    ∷ B gets 1 over 1 at 0
+    -- C knows no number for D and asks with 0, marked unknown, element 3. D just steps its own number and replies with
+    -- 2,147,483,651, element 4. If 0 were compared, it would be newer, and D would reply with 1. A 2147483651/1 via D.
+    ∷ C asks-for D lasting 1000
+    ∷ D gets 3 over 1 at 0
+    ∷ A gets 4 over 1 at 0
+    -- D announces 2,147,483,652 and 2,147,483,653, elements 5 and 6. A 2147483653/1 via D, and A forwards 7.
+    ∷ D announces-itself
+    ∷ D announces-itself
+    ∷ A gets 6 over 1 at 0
+    -- A refuses B's late element 2, because 2,147,483,650 is older than 2,147,483,653.
+    ∷ A gets 2 over 1 at 0
+    ∷ [])
+
+unfoldable pub foundUnheardOf : Rules → List Bool
+foundUnheardOf rules =
+    let m : Mesh = endOf (happen rules) unheardOf in
+    -- All numbers held or carried for D lie in one window, those of the replies too.
+    asDemanded (happen rules) eventFits unheardOf
+    -- A forwards no reply, because it has no row for C. A refuses the late element 2 (25).
+    ∷ agree eqb (lines rules unheardOf)
+    (0 ∷ 1 ∷ 0 ∷ 1 ∷ 0 ∷ 1 ∷ 0 ∷ 1 ∷ 0 ∷ 1 ∷ 0 ∷ 0 ∷ 0 ∷ 1 ∷ 0 ∷ 1 ∷ 0 ∷ 1 ∷ 25 ∷ 0 ∷ [])
+    -- The numbers for D that A, B and D hold after six events, and at the end.
+    ∷ agree eqb (heldIn unheardOf (after (happen rules) 6 unheardOf)) (2_147_483_651 ∷ 2_147_483_650 ∷ 2_147_483_651 ∷ [])
+    ∷ agree eqb (heldIn unheardOf m) (2_147_483_653 ∷ 2_147_483_650 ∷ 2_147_483_653 ∷ [])
+    -- The walk of demand 3 meets A and D.
+    ∷ agree same (way unheardOf m) (A ∷ D ∷ [])
+    ∷ []
+
 -- ---- loops under wrong rules
 
 -- Wrong rules, and a run that loops under them.
@@ -455,25 +493,36 @@ leftOut = losingItsRow (forgets A D) ∷ losingItsRow (startsAnew A (record { 0 
 
 -- ---- a loop under the rules, outside the premise
 
--- No window holds 1, 3 and 2,147,483,650.
+-- No window holds 1, 3 and 2,147,483,650. The 0 that makes D go back to 1 comes from a break, which names a row of unknown number
+-- with 0. A RERR has no mark for an unknown number.
 abbrev pub outside : Run Event
 outside =
     towardsD (2 ^ 31 + 1) 0
-    -- D sends 0 with number 2,147,483,650. A 2147483650/1 via D, and A forwards 1. B 2147483650/2 via A, and B forwards 2.
-    (D announces-itself
-    ∷ A gets 0 over 1 at 0
-    ∷ B gets 1 over 1 at 0
-    -- C knows no number for D and asks with number 0, element 3. For D, 0 is newer than 2,147,483,650, so D replies with number
-    -- 1, element 4. A 1/1 via D.
-    ∷ C asks-for D lasting 1000
-    ∷ D gets 3 over 1 at 0
+    -- C sends 0, and D forwards 1. A has rows for C and, of unknown number, for D, and A forwards 2.
+    (C requests-as-root 0
+    ∷ D gets 0 over 1 at 0
+    ∷ A gets 1 over 1 at 0
+    -- The RERR is element 3. It names D with number 0.
+    ∷ A loses D
+    -- D sends 4 with number 2,147,483,650. A 2147483650/1 via D, and A forwards 5. B 2147483650/2 via A, and B forwards 6.
+    -- C 2147483650/2 via A, and C forwards 7.
+    ∷ D requests-as-root 0
     ∷ A gets 4 over 1 at 0
-    -- D announces numbers 2 and 3, elements 5 and 6. A 3/1 via D.
-    ∷ D announces-itself
-    ∷ D announces-itself
+    ∷ B gets 5 over 1 at 0
+    ∷ C gets 5 over 1 at 0
+    -- C receives A's late RERR, and 0 is newer than 2,147,483,650: C 0/largest, invalidated, and C sends 8.
+    ∷ C gets 3 over 1 at 0
+    -- C asks with the known number 0, element 9. For D, 0 is newer than 2,147,483,650, so D replies with number 1, element 10.
+    -- A 1/1 via D.
+    ∷ C asks-for D lasting 1000
+    ∷ D gets 9 over 1 at 0
+    ∷ A gets 10 over 1 at 0
+    -- D sends 11 and 12 with numbers 2 and 3. A 3/1 via D, and A forwards 13.
+    ∷ D requests-as-root 0
+    ∷ D requests-as-root 0
+    ∷ A gets 12 over 1 at 0
+    -- A receives B's late element 6, and 2,147,483,650 is newer than 3: A 2147483650/3 via B.
     ∷ A gets 6 over 1 at 0
-    -- A receives B's late element 2, and 2,147,483,650 is newer than 3: A 2147483650/3 via B.
-    ∷ A gets 2 over 1 at 0
     ∷ [])
 
 unfoldable pub outsideLoops : Bool

@@ -56,6 +56,7 @@ use Rattle.theorems.specs.Runs.{
   goesRound,
   worked,
   wentRound,
+  foundUnheardOf,
   loops,
   counterexamples,
   happenWider,
@@ -181,14 +182,17 @@ NeverTooLong =
 
 -- ---- not vacuous
 
--- `not-vacuous`: Two runs under the rules pass all their tests (`worked` and `wentRound` in `Runs.antt`).
+-- `not-vacuous`: Three runs under the rules pass all their tests (`worked`, `wentRound` and `foundUnheardOf` in `Runs.antt`).
 -- The first run is the worked case (PROTOCOL, 'Worked case') with its walk. It has everything that `LoopFree` asks for, both
 -- with point 2 and with point 0 as the destination. Its calls answer as the bench prints. At its end valid rows lead from point
 -- 0 over point 1 to point 2, and back.
 -- In the second run numbers pass from 4,294,967,295 to 0. It has everything that `LoopFree` asks for. Its calls answer as its
 -- tests list, and the tables hold the numbers that its tests list. At its end valid rows lead from A over B to D.
+-- In the third run C asks for D, which C never heard of, while D's number is above 2^31. It has everything that `LoopFree` asks
+-- for: the numbers that D replies with lie in the window of those before. Its calls answer as its tests list, and the tables hold
+-- the numbers that its tests list. At its end a valid row leads from A to D.
 abbrev pub NotVacuous : Type 0
-NotVacuous = all (λ b. b) (worked decision ++ wentRound decision) ≡ true
+NotVacuous = all (λ b. b) (worked decision ++ wentRound decision ++ foundUnheardOf decision) ≡ true
 
 -- ---- sharp
 

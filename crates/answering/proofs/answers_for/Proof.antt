@@ -1,6 +1,6 @@
 -- `answering::answers_for` meets its contract: each return is a case of `answersFor`.
 use borrow.Author.Needs.{needs}
-use Rattle.answering.proofs.AnsweringRows.{answers-not-do, answers-not-inactive, answers-not-unknown, answers-not-older}
+use Rattle.answering.proofs.AnsweringRows.{answers-not-do, answers-not-inactive, answers-not-unknown, answers-by-number}
 use Rattle.answering.proofs.answers_for.Statement.{statement}
 use Rattle.answering.proofs.answers_for.Tie as tie
 
@@ -14,4 +14,5 @@ answers-for-spec =
     (λ c. search answers-not-inactive)
     (λ c. search answers-not-unknown)
     (λ c κs. search needs)
-    (λ c. search answers-not-older))
+    (λ c κs. search needs)
+    (λ c. search answers-by-number))

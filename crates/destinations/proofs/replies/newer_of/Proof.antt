@@ -9,5 +9,6 @@ newer-of-spec =
     tie.close
     (tie.spec
     (λ c κs. search needs)
+    (λ c κs. search needs)
     (λ c. search becomes-requested)
     (λ c. search stays-own))

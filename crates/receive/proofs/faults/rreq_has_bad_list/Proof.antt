@@ -1,6 +1,6 @@
 -- `receive::faults::rreq_has_bad_list` meets its contract: the first fault decides.
 use borrow.Author.Needs.{needs}
-use Rattle.receive.proofs.Faulty.{named-duplicate, ones-beside, originator-named, unicast-to-many}
+use Rattle.receive.proofs.Faulty.{named-duplicate, ones-beside, originator-named, unicast-to-many, mismarked-last}
 use Rattle.receive.proofs.faults.rreq_has_bad_list.Statement.{statement}
 use Rattle.receive.proofs.faults.rreq_has_bad_list.Tie as tie
 
@@ -15,4 +15,6 @@ rreq-has-bad-list-spec =
     (λ c κs. search needs)
     (λ c. search originator-named)
     (λ c κs. search needs)
-    (λ c. search unicast-to-many))
+    (λ c. search unicast-to-many)
+    (λ c κs. search needs)
+    (λ c. search mismarked-last))
