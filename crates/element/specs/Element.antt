@@ -31,6 +31,13 @@ countOf (rreq f targets) = length targets
 countOf (rrep f dependents) = length dependents
 countOf (rerr f destinations) = length destinations
 
+-- Returns the destinations of a RREQ. Other elements have none.
+abbrev pub targetsOf : Element → List Target
+targetsOf (rann p) = []
+targetsOf (rreq f targets) = targets
+targetsOf (rrep f dependents) = []
+targetsOf (rerr f destinations) = []
+
 -- ---- the numbers of fields, in the order of the octets
 
 -- Flags, hop count and TTL come first in a RANN, a RREQ and a RREP.

@@ -13,6 +13,7 @@ pub mod FrameOctets
 pub mod Sending
 pub mod Accepted
 pub mod CallsKeep
+pub mod Unknown
 pub mod Room
 pub mod Output
 pub mod StaysTable

@@ -15,15 +15,16 @@ use Rattle.rules.specs.Calls.{receives, makes, asks, announces, requestsAsRoot,
 use Rattle.rules.proofs.Alls.{all-map}
 use Rattle.rules.proofs.Sending.{FrameFits}
 use Rattle.rules.proofs.CallsKeep.{Kept, call-kept}
+use Rattle.rules.proofs.Unknown.{just-steps, call-marks}
 use Rattle.rules.proofs.Room.{call-room, output-room}
 use Rattle.rules.proofs.Output.{written, element-in, all-read, together, cut-output, first-octets}
 use Rattle.rules.proofs.Hops.{walk-hops}
 use Rattle.rules.proofs.StaysTable.{fresh-stays, forget-stays}
 use Rattle.bench_rules.proofs.InParts.{obeyed-in-parts}
-use Rattle.theorems.specs.Statements.{EdgesHold, ErrorsShutOut, StaysTable, FreshIsTable, ForgetStaysTable, HasRoom, FramesInOutput, ReadsAsElement, ReadsBack, HopsAtMost, LoopFree, NeverTooLong, NotVacuous, Sharp, ElseTheRules, NeedsExclusions, NeedsPremise, ObeysInParts, PrintsWorkedCase}
+use Rattle.theorems.specs.Statements.{EdgesHold, ErrorsShutOut, FurtherCasesHold, UnknownJustSteps, OnlyZeroIsUnknown, StaysTable, FreshIsTable, ForgetStaysTable, HasRoom, FramesInOutput, ReadsAsElement, ReadsBack, HopsAtMost, LoopFree, NeverTooLong, NotVacuous, Sharp, ElseTheRules, NeedsExclusions, NeedsPremise, ObeysInParts, PrintsWorkedCase}
 use Rattle.theorems.specs.WrongRules.{ruledBy}
 use Rattle.theorems.specs.Runs.{endOf, way, outside, outsideLoops}
-use Rattle.theorems.proofs.AllEdges.{all-edges, all-shut-out}
+use Rattle.theorems.proofs.AllEdges.{all-edges, all-shut-out, all-further}
 use Rattle.theorems.proofs.Computed.{runs-as-worked, wrong-rules-loop, left-out-loop, outside-points-fit, outside-events-fit, outside-loops}
 use Rattle.theorems.proofs.Printed.{printed-as-worked}
 use Rattle.theorems.proofs.LoopFree
@@ -34,6 +35,16 @@ p1-to-p8 = all-edges
 
 pub errors-shut-out : ErrorsShutOut
 errors-shut-out = all-shut-out
+
+pub further-cases : FurtherCasesHold
+further-cases = all-further
+
+pub unknown-just-steps : UnknownJustSteps
+unfolding decision
+unknown-just-steps l octets room a s fit = just-steps l octets room a s (fit .0) (fit .1)
+
+pub only-0-is-unknown : OnlyZeroIsUnknown
+only-0-is-unknown = call-marks
 
 pub stays-a-table : StaysTable
 stays-a-table l octets room call fit e is =

@@ -1,11 +1,11 @@
--- Defines two lists of tests of the definitions: `edges` for P1 to P8, and `shutOut` for the trainees' errors. PROTOCOL, 'Edges'.
--- Tables and elements are octets.
-use Prim.Native.Nat.{ℕ, _+_, _*_}
-use mathlib.Core.Bool.{Bool, false, _&&_, _||_, not}
+-- Defines three lists of tests of the definitions: `edges` for P1 to P8, `shutOut` for the trainees' errors, and `furtherCases`.
+-- PROTOCOL, 'Edges'. Tables and elements are octets.
+use Prim.Native.Nat.{ℕ, _+_, _-_, _*_}
+use mathlib.Core.Bool.{Bool, true, false, _&&_, _||_, not}
 use mathlib.Core.List.{List, [], _∷_, _++_}
 use lib.Dec.{eqb}
-use lib.ListN.{length, getD, set}
-use Rattle.octets.specs.LittleEndian.{zeros}
+use lib.ListN.{length, getD, set, drop}
+use Rattle.octets.specs.LittleEndian.{numberOctets, zeros}
 use Rattle.counters.specs.Numbers.{newer, older}
 use Rattle.layout.specs.declared.address.Address.{Address}
 use Rattle.layout.specs.declared.row.Row.{Row}
@@ -21,12 +21,14 @@ use Rattle.element.specs.declared.Target.{Target}
 use Rattle.element.specs.Element.{Element, rann, rreq, rrep, rerr, countOf}
 use Rattle.element.specs.Layout.{fits}
 use Rattle.element.specs.Entries.{each}
+use Rattle.element.specs.Lists.{allOnes}
 use Rattle.element.specs.Octets.{wrongLength, otherId, misfit, writeElement}
 use Rattle.rules.specs.Decision.{Decision, refused, accepted}
 use Rattle.rules.specs.Lists.{all, isSomeAnd}
 use Rattle.rules.specs.Exit.{Frame, lend, Effect, leastOutput}
 use Rattle.rules.specs.Errors.{ownError}
 use Rattle.rules.specs.Receive.{receive}
+use Rattle.rules.specs.Originate.{ask, rootRequest}
 use Rattle.rules.specs.Break.{breakNeighbour}
 
 -- ---- addresses
@@ -104,9 +106,13 @@ announcement n metric = writeElement (rann (path n metric))
 abbrev request : List Target → List ℕ
 request targets = writeElement (rreq (record { request = record { 0 = 1 }; path = path 1 5 }) targets)
 
--- Returns the destination d of a RREQ, with requested number n.
+-- Returns the destination d of a RREQ, with these flags and requested number n.
+abbrev targetWith : ℕ → Address → ℕ → Target
+targetWith flags d n = record { flags = flags; address = d; number = record { 0 = n } }
+
+-- Returns the destination d of a RREQ, with flags 0 and requested number n.
 abbrev target : Address → ℕ → Target
-target d n = record { flags = 0; address = d; number = record { 0 = n } }
+target d n = targetWith 0 d n
 
 -- Returns a RREQ for n other points.
 abbrev requestFor : ℕ → List ℕ
@@ -276,4 +282,75 @@ shutOut =
     -- sends does not name it.
     ∷ acceptedWith losesOne
     (heard (tableWith 0 (row 1 originator 9 40 ∷ elsewhere 0 ∷ [])) 10 (error (lost (other 0) 9 ∷ lost originator 9 ∷ [])))
+    ∷ []
+
+-- ---- further cases: unknown numbers
+
+-- Returns a valid row for the originator of unknown number, which a point makes for its neighbour.
+abbrev unnumbered : Row
+unnumbered =
+    record {
+      status = 1;
+      known = 0;
+      hops = record { 0 = 1 };
+      zero = 0;
+      destination = originator;
+      next = originator;
+      number = record { 0 = 0 };
+      metric = record { 0 = 10 };
+      expiry = 1000;
+    }
+
+-- Returns the decision when this point, with own number 3,000,000,000, is asked for destinations.
+abbrev askedAt3Billion : List Target → Decision Effect
+askedAt3Billion targets = heard (tableWith 3000000000 (freeRow ∷ freeRow ∷ [])) 10 (request targets)
+
+-- Returns the decision when this point, with a row of number 3,000,000,000 for another point, is asked for the other point, with
+-- these flags and number 0.
+abbrev askedBeside3Billion : ℕ → Decision Effect
+askedBeside3Billion flags =
+    heard (tableWith 0 (row 1 (other 0) 3000000000 10 ∷ freeRow ∷ freeRow ∷ [])) 10 (request (targetWith flags (other 0) 0 ∷ []))
+
+-- Returns the decision when this point, with this row, asks for the originator with flags 1.
+abbrev askFor : Row → Decision Effect
+askFor r = ask (lend (tableWith 0 (r ∷ []))) leastOutput 1000 (1 ∷ numberOctets 6 (originator .0))
+
+-- Reports whether an element is a RREQ for one destination, with these flags and number 0.
+abbrev isRequestWith : ℕ → Element → Bool
+isRequestWith flags (rann p) = false
+isRequestWith flags (rreq f targets) =
+    eqb (length targets) 1 && all (λ (q : Target). eqb (q .flags) flags && eqb (q .number .0) 0) targets
+isRequestWith flags (rrep f dependents) = false
+isRequestWith flags (rerr f destinations) = false
+
+-- Reports whether the last of n frames is a RREQ for one destination, with these flags and number 0.
+abbrev endsWithRequest : ℕ → ℕ → Effect → Bool
+endsWithRequest n flags e =
+    eqb (length (e .frames)) n && all (λ (f : Frame). isRequestWith flags (f .element)) (drop (n - 1) (e .frames))
+
+abbrev pub furtherCases : List Bool
+furtherCases =
+    -- Own number 3,000,000,000, asked for with an unknown number: reply 3,000,000,001.
+    acceptedWith (repliesWith 3000000001) (askedAt3Billion (targetWith 4 point 0 ∷ []))
+    -- Asked for with a known 0, which is newer than 3,000,000,000: reply 1.
+    ∷ acceptedWith (repliesWith 1) (askedAt3Billion (targetWith 0 point 0 ∷ []))
+    -- Unknown beside 7: refused (10), for the own address, for all ones, and for the second of two destinations. Unknown beside 0
+    -- and known beside 7 are accepted.
+    ∷ refusedWith 10 (askedAt3Billion (targetWith 4 point 7 ∷ []))
+    ∷ refusedWith 10 (askedAt3Billion (targetWith 7 allOnes 7 ∷ []))
+    ∷ refusedWith 10 (askedAt3Billion (targetWith 4 (other 0) 0 ∷ targetWith 4 (other 1) 7 ∷ []))
+    ∷ acceptedWith (λ e. true) (askedAt3Billion (targetWith 4 (other 0) 0 ∷ targetWith 0 (other 1) 7 ∷ []))
+    -- A row of number 3,000,000,000, asked for with an unknown number: intermediate reply 3,000,000,000.
+    ∷ acceptedWith (λ e. firstIsReply (other 0) 3000000000 (e .frames)) (askedBeside3Billion 4)
+    -- Asked for with a known 0, which is newer than 3,000,000,000: no reply, and the RREQ goes on.
+    ∷ acceptedWith (endsWithRequest 1 0) (askedBeside3Billion 0)
+    -- A destination that goes on keeps 'number unknown': after a reply with RF, when DO is set, and without a reply.
+    ∷ acceptedWith (endsWithRequest 2 7) (askedBeside3Billion 6)
+    ∷ acceptedWith (endsWithRequest 1 5) (askedBeside3Billion 5)
+    -- An ask without a row, and with a row of unknown number: unknown. With a row of known number 0: known.
+    ∷ acceptedWith (endsWithRequest 1 5) (askFor freeRow)
+    ∷ acceptedWith (endsWithRequest 1 5) (askFor unnumbered)
+    ∷ acceptedWith (endsWithRequest 1 1) (askFor (row 2 originator 0 40))
+    -- A root request: DO, RF and number unknown.
+    ∷ acceptedWith (endsWithRequest 1 7) (rootRequest (lend (tableWith 0 (freeRow ∷ []))) leastOutput 0 1000)
     ∷ []

@@ -27,27 +27,34 @@
 use Prim.Native.Nat.{ℕ, _+_, _^_, _<_, _≤_}
 use mathlib.Core.Path.{_≡_}
 use mathlib.Core.Bool.{true, false}
-use mathlib.Core.List.{List, _++_, map, flatMap}
+use mathlib.Core.List.{List, _∷_, _++_, map, flatMap}
 use mathlib.Core.Logic.{_⊎_}
 use lib.ListN.{length, take}
 use Rattle.octets.specs.LittleEndian.{Octets}
 use Rattle.counters.specs.declared.SequenceNumber.{SequenceNumber}
+use Rattle.counters.specs.Numbers.{nextNumber}
 use Rattle.layout.specs.declared.address.Address.{Address}
-use Rattle.table.specs.Table.{isTable}
+use Rattle.layout.specs.Address.{same}
+use Rattle.table.specs.Table.{own, number, isTable}
+use Rattle.element.specs.declared.RreqFields.{RreqFields}
+use Rattle.element.specs.declared.Target.{Target}
+use Rattle.element.specs.Element.{rreq, targetsOf}
 use Rattle.element.specs.Entries.{All}
-use Rattle.element.specs.Octets.{wrongLength, otherId, misfit}
+use Rattle.element.specs.Flags.{numberUnknown}
+use Rattle.element.specs.Octets.{wrongLength, otherId, misfit, readElement}
 use Rattle.element.specs.Lists.{hasDuplicate}
 use Rattle.rules.specs.Decision.{accepted}
-use Rattle.rules.specs.Lists.{all}
-use Rattle.rules.specs.Exit.{Lent, Effect, frameOctets, leastOutput, Exit, atExit, framesAt, elementIn, readFrame}
+use Rattle.rules.specs.Lists.{all, any}
+use Rattle.rules.specs.declared.Arrival.{Arrival}
+use Rattle.rules.specs.Exit.{Frame, Lent, Effect, frameOctets, leastOutput, Exit, atExit, framesAt, elementIn, readFrame}
 use Rattle.rules.specs.Fresh.{makeFresh}
 use Rattle.rules.specs.Forget.{forget}
 use Rattle.rules.specs.Errors.{broken}
-use Rattle.rules.specs.Receive.{isStaleFor}
-use Rattle.rules.specs.Calls.{Call, decision, OperandsFit}
+use Rattle.rules.specs.Receive.{isMismarked, isStaleFor}
+use Rattle.rules.specs.Calls.{Call, receives, decision, OperandsFit}
 use Rattle.rules.specs.Walk.{Walked, walk}
 use Rattle.bench_rules.specs.Run.{Standing, going, obeyAll, textFor}
-use Rattle.theorems.specs.Edges.{edges, shutOut}
+use Rattle.theorems.specs.Edges.{edges, shutOut, furtherCases}
 use Rattle.theorems.specs.Mesh.{Point, start, Event, walkOver, pointsFit, eventFits, happen, run, throughout, met}
 use Rattle.theorems.specs.Premise.{allWithin}
 use Rattle.theorems.specs.WrongRules.{ruledBy, receivingBy, breakingBy}
@@ -76,6 +83,29 @@ EdgesHold = all (λ b. b) edges ≡ true
 -- (PROTOCOL, 'Edges').
 abbrev pub ErrorsShutOut : Type 0
 ErrorsShutOut = all (λ b. b) shutOut ≡ true
+
+-- `further-cases`: Every test in the list `furtherCases` passes. The list holds the tests of U1 to U6 (PROTOCOL, 'Edges').
+abbrev pub FurtherCasesHold : Type 0
+FurtherCasesHold = all (λ b. b) furtherCases ≡ true
+
+-- ---- unknown numbers
+
+-- `unknown-just-steps`: If a point accepts a RREQ that names the point itself and marks its number unknown, the own number steps by
+-- one. This holds whatever the own number is, and whatever else the RREQ names.
+abbrev pub UnknownJustSteps : Type 0
+UnknownJustSteps =
+    (l : Lent) → Octets (l .table) → (room : ℕ) (a : Arrival) (s : List ℕ) → OperandsFit (receives a s)
+    → (f : RreqFields) (before after : List Target) (q : Target) → readElement s ≡ rreq f (before ++ q ∷ after)
+    → same (q .address) (own (l .table)) ≡ true → numberUnknown q ≡ true
+    → (e : Effect) → decision l room (receives a s) ≡ accepted e
+    → number (e .lent .table) ≡ nextNumber (number (l .table))
+
+-- `only-0-is-unknown`: In all frames that any accepted call emits, only the number 0 is marked unknown. No point therefore refuses
+-- (10) a frame of another point because of the mark.
+abbrev pub OnlyZeroIsUnknown : Type 0
+OnlyZeroIsUnknown =
+    (l : Lent) (room : ℕ) (call : Call) (e : Effect) → decision l room call ≡ accepted e
+    → All (λ (f : Frame). any isMismarked (targetsOf (f .element)) ≡ false) (e .frames)
 
 -- ---- stays a table
 
