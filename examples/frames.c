@@ -11,8 +11,11 @@
 
 #include "hwmp.h"
 
-/* The point that sends, two neighbours, and a point that the first neighbour leads to. */
-enum { SELF, NEIGHBOUR, OTHER, FAR, POINTS };
+/*
+ * The point that sends, two neighbours, a point that the first neighbour leads to, and a point
+ * that nobody has heard of.
+ */
+enum { SELF, NEIGHBOUR, OTHER, FAR, UNHEARD, POINTS };
 
 enum { ROWS = 4, LINK_METRIC = 10 };
 
@@ -25,7 +28,8 @@ enum { LIFETIME_MS = 5000, NO_LIFETIME_MS = 0 };
 enum { LEARN_MS = 500, BREAK_MS = 1000, SECOND_BREAK_MS = 1001 };
 
 static const uint8_t addresses[POINTS][HWMP_ADDRESS_OCTETS] = {
-    {2, 0, 0, 0, 0, 1}, {2, 0, 0, 0, 0, 2}, {2, 0, 0, 0, 0, 3}, {2, 0, 0, 0, 0, 9}};
+    {2, 0, 0, 0, 0, 1}, {2, 0, 0, 0, 0, 2}, {2, 0, 0, 0, 0, 3}, {2, 0, 0, 0, 0, 9},
+    {2, 0, 0, 0, 0, 10}};
 
 /*
  * Own numbers in the fresh tables. The first element of a point has the number after it. The
@@ -33,7 +37,7 @@ static const uint8_t addresses[POINTS][HWMP_ADDRESS_OCTETS] = {
  */
 enum { SELF_NUMBER = 100, OTHERS_NUMBER = 6 };
 static const uint32_t first_numbers[POINTS] = {SELF_NUMBER, OTHERS_NUMBER, OTHERS_NUMBER,
-                                               OTHERS_NUMBER};
+                                               OTHERS_NUMBER, OTHERS_NUMBER};
 
 static uint8_t tables[POINTS][HWMP_TABLE_OCTETS(ROWS)];
 static uint8_t output[HWMP_OUTPUT_OCTETS];
@@ -59,7 +63,7 @@ static bool delivered(size_t from, size_t to)
                .answer == HWMP_ACCEPTED;
 }
 
-/* Lets the other points announce themselves. NEIGHBOUR forwards the announcement of FAR. */
+/* Lets all other points but UNHEARD announce themselves. NEIGHBOUR forwards FAR's announcement. */
 static bool rows_learnt(void)
 {
     for (size_t i = 0; i < POINTS; i++)
@@ -129,6 +133,10 @@ static void ask(void)
     put_item(items, FIRST_ITEM, HWMP_NO_FLAGS, FAR);
     put_item(items, SECOND_ITEM, HWMP_ITEM_DO | HWMP_ITEM_RF, OTHER);
     try_ask("ask for two", LIFETIME_MS, items, sizeof items);
+    /* Sends flags HWMP_ITEM_DO | HWMP_NUMBER_UNKNOWN and number 0. */
+    put_item(items, FIRST_ITEM, HWMP_ITEM_DO, UNHEARD);
+    try_ask("ask for one never heard of", LIFETIME_MS, items, HWMP_ITEM_OCTETS);
+    put_item(items, FIRST_ITEM, HWMP_NO_FLAGS, FAR);
     /* HWMP_BAD_COUNT, then HWMP_NO_LIFETIME */
     try_ask("ask, an item cut short", LIFETIME_MS, items, sizeof items - 1);
     try_ask("ask, lifetime 0", NO_LIFETIME_MS, items, sizeof items);

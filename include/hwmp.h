@@ -36,7 +36,7 @@
 extern "C" {
 #endif
 
-#define HWMP_VERSION "0.1.0"
+#define HWMP_VERSION "0.2.0"
 
 /* ---- answers */
 
@@ -80,9 +80,10 @@ enum hwmp_answer {
     /*
      * Received: a destination stands twice; all ones stands with other destinations; a RREQ
      * names its originator as a destination; a unicast RREQ has several destinations or all
-     * ones; the destination of a RREP equals its source. Ask: an address stands twice, or an
-     * item's flags are above 3. Announcement or root request: the flags are not allowed.
-     * Walk: the start is not among the points, or two points have the same address.
+     * ones; a destination has HWMP_NUMBER_UNKNOWN beside a number other than 0; the destination
+     * of a RREP equals its source. Ask: an address stands twice, or an item's flags are above 3.
+     * Announcement or root request: the flags are not allowed. Walk: the start is not among the
+     * points, or two points have the same address.
      */
     HWMP_BAD_LIST = 10,
     /* The lifetime is 0. */
@@ -225,6 +226,13 @@ enum hwmp_element_id {
 #define HWMP_ITEM_RF 2
 
 /*
+ * Flag of a RREQ's destination: the point that sent the RREQ knows no number for the destination.
+ * The number beside it is 0 and plays no part. hwmp_ask and hwmp_root_request set the flag; an
+ * item may not have it. The other flags of a destination are those of an item.
+ */
+#define HWMP_NUMBER_UNKNOWN 4
+
+/*
  * Flag of an announcement and of a root request: the point is a portal, a way out of the mesh.
  * The library passes the flag on and decides nothing by it.
  */
@@ -307,8 +315,9 @@ struct hwmp_walked hwmp_walk(const uint8_t *tables, size_t tables_len, uint32_t 
 /*
  * Asks for 1 to HWMP_MAX_ITEMS destinations: sends one RREQ to all ones, with the point's next
  * sequence number and next request ID, and stores both in the table. Each destination goes with
- * the number of its row if that is known, otherwise with 0. No row changes. The lifetime, in
- * milliseconds, is that of the rows that the RREQ and the replies to it bring.
+ * the number of its row if that is known, otherwise with 0 and HWMP_NUMBER_UNKNOWN. No row
+ * changes. The lifetime, in milliseconds, is that of the rows that the RREQ and the replies to it
+ * bring.
  * Refusals: HWMP_TABLE_LENGTH, HWMP_SHORT_OUTPUT, HWMP_BAD_COUNT, HWMP_BAD_ADDRESS,
  * HWMP_BAD_LIST, HWMP_NO_LIFETIME, HWMP_NOT_A_TABLE, HWMP_ABOUT_ITSELF.
  */
@@ -369,13 +378,14 @@ struct hwmp_outcome hwmp_break(uint8_t *table, size_t table_len, uint8_t *output
  * Replies. The point replies to a RREQ with RREPs to the transmitter. It replies for itself if
  * it is a destination, or if all ones is the destination and a reply is wanted. It replies for
  * another destination without DO if it has an active row of known number, and the number is not
- * older than the requested number. For each reply for itself the point takes its next sequence
- * number and stores it in the table. If the RREQ names the point with a newer number, the point
- * takes the number after the named number.
+ * older than the requested number or the destination has HWMP_NUMBER_UNKNOWN. For each reply for
+ * itself the point takes its next sequence number and stores it in the table. If the RREQ names
+ * the point with a newer number and without HWMP_NUMBER_UNKNOWN, the point takes the number after
+ * the named number.
  *
  * Forwarding. A forwarded RREQ keeps all ones, each destination that the point did not reply
- * for, and each destination that it replied for from a row and that has RF (DO is then set). If
- * no destination is left, the point does not forward the RREQ. The RREQ goes to all ones, or if
+ * for, and each destination that it replied for from a row and that has RF (DO is then set, and
+ * the other flags stay). If no destination is left, the point does not forward the RREQ. The RREQ goes to all ones, or if
  * unicast to the next hop of its destination. A RANN goes to all ones. A RREQ and a RANN need
  * TTL 2 or more to be forwarded. A RREP goes to the next hop of its source, unless the source
  * is this point. Where a next hop is needed and no row is active, nothing is sent. In a
