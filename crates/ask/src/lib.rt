@@ -103,7 +103,7 @@ fn check(table: &[u8], output: &[u8], lifetime: u32, items: &[u8]) -> Answer
     Answer::Accepted
 }
 
-// Returns the destination for an item with a known number.
+// Returns the destination for an item whose number is known.
 fn with_known(item: Item, number: SequenceNumber) -> Target
     ensures { λ r. ⌜ r ≡ withKnown item number ⌝ }
 {
@@ -115,7 +115,7 @@ fn with_known(item: Item, number: SequenceNumber) -> Target
     }
 }
 
-// Returns the destination for an item without a known number: 0, marked unknown.
+// Returns the destination for an item whose number is not known: 0, marked unknown.
 fn without_known(item: Item) -> Target
     ensures { λ r. ⌜ r ≡ withoutKnown item ⌝ }
 {

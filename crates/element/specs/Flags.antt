@@ -23,7 +23,7 @@ hasDO q = bit 0 (q .flags)
 abbrev pub hasRF : Target → Bool
 hasRF q = bit 1 (q .flags)
 
--- A requested number that is marked unknown plays no part, and a point writes 0 for it.
+-- Reports whether the requested number is marked unknown. A number that is marked unknown plays no part.
 abbrev pub numberUnknown : Target → Bool
 numberUnknown q = bit 2 (q .flags)
 

@@ -31,7 +31,7 @@ pub fn has_rf(q: Target) -> bool
     q.flags / 2 % 2 == 1
 }
 
-// Reports whether the requested number is marked unknown.
+// Reports whether the requested number is marked unknown. A number that is marked unknown plays no part.
 pub fn is_number_unknown(q: Target) -> bool
     ensures { λ r. ⌜ r ≡ numberUnknown q ⌝ }
 {

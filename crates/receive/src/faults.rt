@@ -65,7 +65,7 @@ fn is_unicast_to_several(p: PathInfo, part: &[u8]) -> bool
     is_several_or_all(part)
 }
 
-// Reports whether a destination is marked 'number unknown' beside a number other than 0.
+// Reports whether the number of a destination is marked unknown although it is not 0.
 fn is_mismarked(q: Target) -> bool
     ensures { λ r. ⌜ r ≡ isMismarked q ⌝ }
 {

@@ -81,16 +81,16 @@ itemsFit items = eqb (length items % 7) 0 && leb 7 (length items) && leb (length
 abbrev pub hasHighFlags : Item → Bool
 hasHighFlags i = i .flags above 3
 
--- Returns the destination of the RREQ for an item, with a known number: flags and address as the item says.
+-- Returns the destination of the RREQ for an item whose number n is known: flags and address as the item says.
 abbrev pub withKnown : Item → SequenceNumber → Target
 withKnown i n = record { flags = i .flags; address = i .address; number = n }
 
--- Returns the destination of the RREQ for an item, without a known number: 'number unknown' is set beside the item's flags, and
--- the number is 0.
+-- Returns the destination of the RREQ for an item whose number is not known: 'number unknown' is set next to the item's flags,
+-- and the number is 0.
 abbrev pub withoutKnown : Item → Target
 withoutKnown i = record { flags = withUnknown (i .flags); address = i .address; number = record { 0 = 0 } }
 
--- A destination's number is that of the held row if its number is known. Otherwise the point knows no number.
+-- A destination's number is that of the held row if the row is there and its number is known. Otherwise the number is not known.
 unfoldable pub askedBy : Item → Option Row → Target
 askedBy i none = withoutKnown i
 askedBy i (some r) = cond (eqb (r .known) 1) (withKnown i (r .number)) (withoutKnown i)

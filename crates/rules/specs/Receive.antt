@@ -82,12 +82,12 @@ hasBadAddress (rerr f destinations) = anyForbidden LostDestinations (lostAddress
 unfoldable pub severalOrAll : List Address → Bool
 severalOrAll addresses = ltb 1 (length addresses) || contains addresses allOnes
 
--- Reports whether a destination is marked 'number unknown' beside a number other than 0.
+-- Reports whether the number of a destination is marked unknown although it is not 0.
 abbrev pub isMismarked : Target → Bool
 isMismarked q = numberUnknown q && not (eqb (q .number .0) 0)
 
 -- 10. A RREQ or a RERR names a destination twice; a RREQ names all ones and anything else; a RREQ names its own originator as a
--- destination; a unicast RREQ names several destinations, or all ones; a RREQ marks a number other than 0 as unknown; the
+-- destination; a unicast RREQ names several destinations, or all ones; a RREQ marks a number other than 0 unknown; the
 -- destination of a RREP equals its source.
 unfoldable pub hasBadList : Element → Bool
 hasBadList (rann p) = false
