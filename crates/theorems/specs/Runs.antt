@@ -1,6 +1,6 @@
 -- Defines runs as data, and tests of them that compute. Three runs have everything that demand 3 asks for and find their way.
--- Eight runs loop: five under wrong rules, two with a call that demand 3 leaves out, and one outside the premise of demand 3. What
--- is defined here:
+-- Eight runs loop: five under wrong rules, two with a call that demand 3 leaves out, and one outside the premise of demand 3.
+-- What is defined here:
 --   _gets_over_at_, _asks-for_lasting_, ..        events, in words
 --   Run                                           points, events and a destination
 --   way, endOf, asDemanded, goesRound             the walk of a run; its last mesh; what demand 3 asks for; whether the run loops

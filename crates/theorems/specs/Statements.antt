@@ -90,8 +90,8 @@ FurtherCasesHold = all (λ b. b) furtherCases ≡ true
 
 -- ---- unknown numbers
 
--- `unknown-just-steps`: If a point accepts a RREQ that names the point itself and marks its number unknown, the own number steps by
--- one. This holds whatever the own number is, and whatever else the RREQ names.
+-- `unknown-just-steps`: If a point accepts a RREQ that names the point itself and marks its number unknown, the own number steps
+-- by one. This holds whatever the own number is, and whatever else the RREQ names.
 abbrev pub UnknownJustSteps : Type 0
 UnknownJustSteps =
     (l : Lent) → Octets (l .table) → (room : ℕ) (a : Arrival) (s : List ℕ) → OperandsFit (receives a s)
@@ -100,8 +100,8 @@ UnknownJustSteps =
     → (e : Effect) → decision l room (receives a s) ≡ accepted e
     → number (e .lent .table) ≡ nextNumber (number (l .table))
 
--- `only-0-is-unknown`: In all frames that any accepted call emits, only the number 0 is marked unknown. No point therefore refuses
--- (10) a frame of another point because of the mark.
+-- `only-0-is-unknown`: In all frames that any accepted call emits, only the number 0 is marked unknown. No point therefore
+-- refuses (10) a frame of another point because of the mark.
 abbrev pub OnlyZeroIsUnknown : Type 0
 OnlyZeroIsUnknown =
     (l : Lent) (room : ℕ) (call : Call) (e : Effect) → decision l room call ≡ accepted e
