@@ -71,7 +71,7 @@ EACH_COMMAND = {
     "point 02:0a:00:00:00:fe 67305985": "01 020a000000fe 01020304",
     "advance 500": "02 f4010000",
     "link 0 1 4294967295": "03 00 01 ffffffff",
-    "ask 3 1 02:00:00:00:00:09 1000": "04 03 01 020000000009 e8030000",
+    "ask 3 DO 02:00:00:00:00:09 1000": "04 03 01 020000000009 e8030000",
     "announce 255 1": "05 ff 01000000",
     "deliver 513 7": "06 0102 07",
     "break 1 2": "07 01 02",
@@ -113,6 +113,21 @@ class Conversion(unittest.TestCase):
     def test_addresses_and_octets_in_either_case(self) -> None:
         self.assertEqual(octets_of("ask 0 0 0A:Bc:00:00:00:fF 0")[3:9].hex(), "0abc000000ff")
         self.assertEqual(octets_of("octets 09 fF 00"), bytes.fromhex("09ff00"))
+
+    def test_flags_in_words_or_as_numbers(self) -> None:
+        for word, numbers in {"none": "0 00", "DO": "1 001", "RF": "2", "DO+RF": "3"}.items():
+            for flags in (word, *numbers.split()):
+                with self.subTest(flags):
+                    octets = octets_of(f"ask 0 {flags} 02:00:00:00:00:03 1")
+                    self.assertEqual(octets[2], int(numbers[0]))
+                    self.assertEqual(lines_of(octets), [f"ask 0 {word} 02:00:00:00:00:03 1"])
+
+    def test_all_flags_come_back_from_what_is_shown(self) -> None:
+        asks = [bytes([4, 0, flags, 2, 0, 0, 0, 0, 3, 1, 0, 0, 0]) for flags in range(256)]
+        lines = lines_of(b"".join(asks))
+        shown = ["none", "DO", "RF", "DO+RF", *map(str, range(4, 256))]
+        self.assertEqual([line.split()[2] for line in lines], shown)
+        self.assertEqual([octets_of(line) for line in lines], asks)
 
     def test_repeat(self) -> None:
         self.assertEqual(octets_of("repeat 3 walk 0 1"), bytes.fromhex("080001") * 3)
@@ -166,6 +181,8 @@ def random_octets(rng: random.Random) -> bytes:
     return b"".join(parts)
 
 
+NO_FLAGS = "is neither a decimal number nor one of the words none, DO, RF, DO+RF"
+
 BAD_LINES = {
     "wait 5": "unknown word 'wait'; the words are point, advance, link, ask, announce, deliver, "
     "break, walk, octets, repeat",
@@ -193,6 +210,12 @@ BAD_LINES = {
     "link 0 256 1": "POINT 256 is out of range: 0 to 255",
     "link 0 1 4294967296": "METRIC 4294967296 is out of range: 0 to 4294967295",
     "ask 0 256 02:00:00:00:00:03 1": "FLAGS 256 is out of range: 0 to 255",
+    "ask 0 do 02:00:00:00:00:03 1": f"FLAGS 'do' {NO_FLAGS}",
+    "ask 0 RF+DO 02:00:00:00:00:03 1": f"FLAGS 'RF+DO' {NO_FLAGS}",
+    "ask 0 DO+ 02:00:00:00:00:03 1": f"FLAGS 'DO+' {NO_FLAGS}",
+    "ask 0 DO RF 02:00:00:00:00:03 1": "wrong number of operands; "
+    "expected 'ask POINT FLAGS ADDRESS LIFETIME'",
+    "ask DO 0 02:00:00:00:00:03 1": "POINT 'DO' is not a decimal number",
     "announce 0 99999999999": "LIFETIME 99999999999 is out of range: 0 to 4294967295",
     "deliver 65536 0": "FRAME 65536 is out of range: 0 to 65535",
     "break 0 256": "NEIGHBOUR 256 is out of range: 0 to 255",
@@ -354,6 +377,19 @@ class ResultsInWords(unittest.TestCase):
         answers = answers_for(script, "2 0 0\n" * 5 + "8 0 0\n2 0 0\n")
         lines = [line for line, _ in answers]
         self.assertEqual(lines, ["advance 0005", "advance 05", "walk 0 0", "advance 5"])
+
+    def test_flags_are_shown_as_their_lines_have_them_and_from_octets_in_words(self) -> None:
+        ask = "ask 0 {} 02:00:00:00:00:02 5"
+        octets = "octets 04 00 {} 02 00 00 00 00 02 05 00 00 00"
+        for line, shown in (
+            (ask.format("01"), ask.format("01")),
+            (ask.format("DO"), ask.format("DO")),
+            (octets.format("01"), ask.format("DO")),
+            (octets.format("04"), ask.format("4")),
+        ):
+            with self.subTest(line):
+                answers = answers_for(TWO_POINTS + line, f"{TWO_ADDED}4 0 1\n")
+                self.assertEqual(answers[2], (shown, "accepted, emits frame 0"))
 
     def test_commands_that_lie_across_lines_are_shown_in_words(self) -> None:
         # The octets of the walks end an advance, are a point, and two are left over.
@@ -1036,7 +1072,7 @@ class Examples(unittest.TestCase):
             "point 02:00:00:00:00:03 0\nlink 0 1 1\nlink 1 2 1\n"
             "announce 2 9\ndeliver 0 1\n"  # point 1 knows a path to point 2; frames 0 and 1
             "repeat 124 announce 2 9\n"  # frames 2 to 125
-            "ask 0 2 02:00:00:00:00:03 9 as request\n"  # 126; flags 2 (RF): reply and forward
+            "ask 0 RF 02:00:00:00:00:03 9 as request\n"  # 126; RF: reply and forward
             "deliver request 1\n"
         )
         played = benchscript.play(read(script), lambda octets: benchscript.run_bench(BENCH, octets))
