@@ -1084,14 +1084,14 @@ class Examples(unittest.TestCase):
 
 
 WORKED_FROM_ITS_LAST_LINK = f"""\
-link 1 2 20                                 accepted
-ask 0 1 02:00:00:00:00:03 1000 as request   accepted, emits frame 0
-deliver request 1 as request-from-1         accepted, emits frame 1
-deliver request-from-1 2 as reply           accepted, emits frame 2
-deliver reply 1 as reply-from-1             accepted, emits frame 3
-deliver reply-from-1 0                      accepted, emits no frame
-walk 0 2                                    arrives after 2 hops
-deliver reply-from-1 0                      refused 25: {STALE}
+link 1 2 20                                  accepted
+ask 0 DO 02:00:00:00:00:03 1000 as request   accepted, emits frame 0
+deliver request 1 as request-from-1          accepted, emits frame 1
+deliver request-from-1 2 as reply            accepted, emits frame 2
+deliver reply 1 as reply-from-1              accepted, emits frame 3
+deliver reply-from-1 0                       accepted, emits no frame
+walk 0 2                                     arrives after 2 hops
+deliver reply-from-1 0                       refused 25: {STALE}
 """.splitlines()
 
 # A line that the tool prints for each script, with single spaces.
