@@ -1110,6 +1110,7 @@ WHAT_SCRIPTS_SHOW = {
     "no_route": "walk 0 2 stops after 0 hops (41: no active row there)",
     "points": "point 02:00:00:00:00:11 0 ends the run at line 28 (octet 207): "
     "there are 16 points already, the most there can be",
+    "unheard_of": f"deliver late 0 refused 25: {STALE}",
     "unknown": "octets 09 ends the run at line 7 (octet 29): "
     "there is no command 9",
     "worked": "walk 0 2 arrives after 2 hops",
