@@ -43,7 +43,8 @@ impl<'a> Items<'a> {
         self.iter().map(|item| item.address)
     }
 
-    /// Makes the checks that need no table. All ones is not an individual address.
+    /// Makes the checks that need no table. All ones is not an individual address. The point marks
+    /// unknown numbers itself, so no item may have the mark.
     pub fn check(&self) -> Result<(), Refusal> {
         let individual = self.addresses().all(Address::is_individual);
         ensure(individual, BAD_ADDRESS)?;
@@ -57,11 +58,7 @@ impl<'a> Items<'a> {
     pub fn destinations(&self, table: &Table) -> Entries<{ Destination::OCTETS }, { Rreq::MOST }> {
         let mut destinations = Entries::new();
         for Item { flags, address } in self.iter() {
-            let destination = Destination {
-                flags,
-                address,
-                number: table.known_number(address).unwrap_or_default(),
-            };
+            let destination = Destination::new(flags, address, table.known_number(address));
             destinations.push(destination.encode());
         }
         destinations

@@ -6,7 +6,7 @@ use super::frames::{Emitted, Frames};
 use super::items::Items;
 use super::refusal::ensure;
 use super::table::{Head, write_head};
-use super::{Address, HopCount, Metric, Refusal, SequenceNumber, checks};
+use super::{Address, HopCount, Metric, Refusal, checks};
 use crate::answers::{ABOUT_ITSELF, BAD_LIST};
 
 /// The TTL of a new element.
@@ -66,11 +66,7 @@ pub fn root_request(
     let flags_fit = matches!(flags, 0 | 1 | 4 | 5);
     let (head, mut frames) = start_as_root(octets, output, flags_fit, lifetime)?;
     let head = head.requested();
-    let everyone = Destination {
-        flags: Destination::DO | Destination::RF,
-        address: Address::ALL_ONES,
-        number: SequenceNumber(0),
-    };
+    let everyone = Destination::new(Destination::DO | Destination::RF, Address::ALL_ONES, None);
     request(&mut frames, &head, flags, lifetime, &[everyone.encode()]);
     write_head(octets, &head);
     Ok(frames.emitted())

@@ -24,6 +24,34 @@ impl Destination {
     pub const DO: u8 = 1;
     /// The flag 'reply and forward'.
     pub const RF: u8 = 2;
+    /// The flag 'number unknown', called the mark. The number of a marked destination is 0 and
+    /// plays no part.
+    pub const NUMBER_UNKNOWN: u8 = 4;
+
+    /// Returns a destination with the number that is known for it. Without a known number the
+    /// destination is marked, so that no point takes its 0 for a number.
+    pub fn new(flags: u8, address: Address, known: Option<SequenceNumber>) -> Destination {
+        let mark = match known {
+            Some(_) => 0,
+            None => Self::NUMBER_UNKNOWN,
+        };
+        Destination {
+            flags: flags | mark,
+            address,
+            number: known.unwrap_or_default(),
+        }
+    }
+
+    /// Returns the requested number, or None if the destination is marked.
+    pub fn requested(self) -> Option<SequenceNumber> {
+        let is_marked = self.flags & Self::NUMBER_UNKNOWN != 0;
+        (!is_marked).then_some(self.number)
+    }
+
+    /// Reports whether the destination has a number although its mark says that it has none.
+    pub fn contradicts_its_mark(self) -> bool {
+        self.requested().is_none() && self.number != SequenceNumber(0)
+    }
 
     pub fn decode(octets: &[u8; Self::OCTETS]) -> Destination {
         Destination {

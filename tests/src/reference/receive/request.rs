@@ -37,8 +37,10 @@ impl Reception<'_> {
         destination: Destination,
     ) -> Option<Destination> {
         if destination.address == head.own {
-            if destination.number.is_newer_than(head.number) {
-                head.number = destination.number;
+            if let Some(requested) = destination.requested()
+                && requested.is_newer_than(head.number)
+            {
+                head.number = requested;
             }
             self.reply_for_oneself(rreq, head);
             None
@@ -90,7 +92,7 @@ impl Reception<'_> {
 
     /// Returns the row from which this point replies for another point, unless only the destination
     /// itself may reply. Rows are those after steps 1 and 2, so the transmitter's row may just have
-    /// been made.
+    /// been made. To a point that knows no number, any known number is fresh.
     fn row_that_answers(&self, destination: &Destination) -> Option<Row> {
         if destination.flags & Destination::DO != 0 {
             return None;
@@ -98,8 +100,9 @@ impl Reception<'_> {
         let (_, row) = self
             .table()
             .active_row_for(destination.address, self.clock)?;
-        let fresh = row.has_known_number() && !row.number.is_older_than(destination.number);
-        fresh.then_some(row)
+        let is_fresh = |requested| !row.number.is_older_than(requested);
+        let answers = row.has_known_number() && destination.requested().is_none_or(is_fresh);
+        answers.then_some(row)
     }
 
     fn request_onward(&mut self, rreq: &Rreq, path: &Path, kept: &[[u8; Destination::OCTETS]]) {
@@ -152,19 +155,23 @@ fn has_fit_addresses(rreq: &Rreq) -> bool {
 }
 
 /// Refusal 10 for a request. All ones must stand alone. The destination of a unicast request must
-/// stand alone and must not be all ones.
+/// stand alone and must not be all ones. A marked destination must have number 0, also where its
+/// number would not be read.
 fn has_fit_list(rreq: &Rreq) -> bool {
     let alone = rreq.destinations.len() == 1;
     let all_ones = addresses(rreq).any(|address| address == Address::ALL_ONES);
     let itself = addresses(rreq).any(|address| address == rreq.originator);
+    let contradiction = rreq.destinations().any(Destination::contradicts_its_mark);
     (alone || !all_ones)
         && (!is_unicast(rreq) || alone && !all_ones)
         && !itself
         && !has_twice(addresses(rreq))
+        && !contradiction
 }
 
 /// A destination for which a point on the way replied is kept only if it has RF. It is then kept
-/// with DO, so that only the destination itself replies.
+/// with DO, so that only the destination itself replies. Mark and number stay: the point does not
+/// fill in the number of its row.
 fn after_reply(destination: Destination) -> Option<Destination> {
     let goes_on = destination.flags & Destination::RF != 0;
     goes_on.then_some(Destination {
