@@ -146,14 +146,17 @@ impl Mesh {
         sent
     }
 
-    /// Notes the numbers next to addresses in an element.
+    /// Notes the numbers next to addresses in an element. The 0 of a marked destination is none of
+    /// them. The 0 that a RERR has for a row of unknown number is.
     fn note_carried(&mut self, element: &Element) {
         match element {
             Element::Rann(rann) => self.note(rann.originator, rann.number),
             Element::Rreq(rreq) => {
                 self.note(rreq.originator, rreq.number);
                 for destination in rreq.destinations() {
-                    self.note(destination.address, destination.number);
+                    if let Some(requested) = destination.requested() {
+                        self.note(destination.address, requested);
+                    }
                 }
             }
             Element::Rrep(rrep) => {

@@ -162,8 +162,8 @@ impl Days {
 
     /// Checks the premise of demand 3, without which a walk in a circle would be excused. The
     /// premise holds because own numbers start a little below 2^32 and step far less than 2^31
-    /// times. All numbers of a point lie in one window with 0, which elements carry for a point
-    /// whose number is unknown.
+    /// times. All numbers of a point lie in one window with 0, which a RERR carries for a row of
+    /// unknown number.
     fn check_premise(&self) {
         for destination in 0..MOST_POINTS {
             let premise = self.mesh.meets_premise(destination);
