@@ -13,7 +13,8 @@ pub(super) fn destinations(
     random: &mut Random,
 ) -> Vec<Vec<u8>> {
     if random.one_in(10) {
-        let number = random.number() as u32;
+        let any = random.number() as u32;
+        let number = random.pick(&[0, any]);
         return vec![destination(some_flags(random), [0xFF; 6], number)];
     }
     let any = 1 + random.below(Rreq::MOST);
@@ -28,7 +29,9 @@ pub(super) fn destinations(
     let addresses = distinct(count, &[originator], draw, random);
     let listed = |address: &[u8; 6]| {
         let held = known.number_for(*address);
-        let (flags, number) = (some_flags(random), near(held, random));
+        let (flags, nearby) = (some_flags(random), near(held, random));
+        // A 0 without a mark is a number like any other, however far it is from the one held.
+        let number = random.pick(&[nearby, nearby, nearby, 0]);
         if all_answered {
             // Each row that is active and of known number answers.
             destination(flags & !Destination::DO, *address, held)
@@ -39,13 +42,17 @@ pub(super) fn destinations(
     addresses.iter().map(listed).collect()
 }
 
+/// Returns a destination. If it is marked, it has 0 instead of the number, which would be refused.
 fn destination(flags: u8, address: [u8; 6], number: u32) -> Vec<u8> {
+    let is_marked = flags & Destination::NUMBER_UNKNOWN != 0;
+    let number = if is_marked { 0 } else { number };
     [&[flags][..], &address, &number.to_le_bytes()].concat()
 }
 
-/// Returns flags with DO and RF in each of their four combinations, with any reserved bits or none.
+/// Returns flags with DO, RF and the mark in each of their eight combinations, with any reserved
+/// bits or none. A third of all destinations is marked.
 fn some_flags(random: &mut Random) -> u8 {
-    random.octet() & random.pick(&[0x03, 0xFF])
+    random.octet() & random.pick(&[0x03, 0x07, 0xFF])
 }
 
 /// Returns flags for a request with these destinations, with unicast set only where it is allowed.
@@ -118,6 +125,9 @@ pub(super) fn spoil(element: &mut [u8], own: [u8; 6], random: &mut Random) {
         return;
     };
     let at = random.pick(&places);
+    if element[0] == Rreq::ID && random.one_in(3) {
+        return mark_a_number(&mut element[at - 1..], random);
+    }
     let other: [u8; 6] = element[random.pick(&[first, last])..][..6]
         .try_into()
         .unwrap();
@@ -135,4 +145,13 @@ pub(super) fn spoil(element: &mut [u8], own: [u8; 6], random: &mut Random) {
         }
     };
     element[at..][..6].copy_from_slice(&address);
+}
+
+/// Marks the destination at the start of these octets, and gives it a number other than 0. Half of
+/// these numbers have one bit only, because a mark must be judged by the whole number.
+fn mark_a_number(destination: &mut [u8], random: &mut Random) {
+    let one_bit = 1_u32 << random.below(32);
+    let any = one_bit | random.number() as u32;
+    destination[0] |= Destination::NUMBER_UNKNOWN;
+    destination[7..11].copy_from_slice(&random.pick(&[one_bit, any]).to_le_bytes());
 }
