@@ -72,7 +72,7 @@ const LEAST_SEEN: u64 = 500;
 const SEEN: [Listed; 13] = [
     (ITEMS, &UP_TO_20),
     (ROW_OF_AN_ITEM, &[0, 1, 2, 3]),
-    (NUMBER_KNOWN, &[0, 1]),
+    (NUMBER_OF_A_ROW, &[3, 4, 5, 6, 7, 8, 9, 10, 11]),
     (NUMBER_OF_ASK_PASSES, &[0, 1]),
     (ID_OF_ASK_PASSES, &[0, 1]),
     (NUMBER_OF_ANNOUNCE_PASSES, &[0, 1]),
@@ -89,7 +89,8 @@ const UP_TO_20: [u32; 20] = [
 ];
 const ITEMS: &str = "items of an ask";
 const ROW_OF_AN_ITEM: &str = "row of an item none 0, valid 1, invalidated 2, expired 3";
-const NUMBER_KNOWN: &str = "number of a row of an item known";
+const NUMBER_OF_A_ROW: &str =
+    "number of a row of an item unknown 0, known 0 as 1, another 2; plus 3 for each sort of row";
 const NUMBER_OF_ASK_PASSES: &str = "own number of an ask passes to 0";
 const ID_OF_ASK_PASSES: &str = "request ID of an ask passes to 0";
 const NUMBER_OF_ANNOUNCE_PASSES: &str = "own number of an announcement passes to 0";
@@ -146,7 +147,12 @@ fn see_items(table: &[u8], items: &[u8], seen: &mut Tally) {
         let expired = row.status == VALID && row.expiry <= table.head().latest_clock;
         let sort = if expired { 3 } else { row.status.into() };
         seen.count(ROW_OF_AN_ITEM, sort);
-        seen.count(NUMBER_KNOWN, row.number_known.into());
+        let number = match (row.has_known_number(), row.number.0) {
+            (false, _) => 0,
+            (true, 0) => 1,
+            _ => 2,
+        };
+        seen.count(NUMBER_OF_A_ROW, number + 3 * sort);
     }
 }
 

@@ -7,9 +7,13 @@ use hwmp_tests::answers::{
     NO_ROOM, NOT_A_TABLE, OLD_CLOCK, SHORT_OUTPUT, STALE, TABLE_LENGTH, TOO_MANY_HOPS, UNKNOWN_ID,
 };
 use hwmp_tests::comparing::{Listed, Point, Run, Tally};
+use hwmp_tests::elements;
+use hwmp_tests::implementation::REFERENCE;
 use hwmp_tests::random::Random;
-use hwmp_tests::received;
+use hwmp_tests::received::{self, Received};
+use hwmp_tests::reference::element::{Destination, Element};
 use hwmp_tests::reference::table::MAX_ROWS;
+use hwmp_tests::reference::{Address, LEAST_OUTPUT};
 use hwmp_tests::tables;
 
 const TABLES: usize = 300_000;
@@ -44,8 +48,12 @@ const ANSWERS: [Listed; 1] = [(
         NO_ROOM,
     ],
 )];
-const SEEN: [Listed; 1] = [(ACCEPTED_BY_ID, &[126, 130, 131, 132])];
+const SEEN: [Listed; 2] = [
+    (ACCEPTED_BY_ID, &[126, 130, 131, 132]),
+    (MARKED_NUMBER, &[0, 1, 2, 3]),
+];
 const ACCEPTED_BY_ID: &str = "accepted by ID";
+const MARKED_NUMBER: &str = "refused with 10 for a marked number alone: own address 0, all ones 1, another first 2, later 3";
 
 fn some_table(random: &mut Random) -> Vec<u8> {
     let most = random.pick(&[4, 16, 40, MAX_ROWS]);
@@ -57,6 +65,49 @@ fn some_table(random: &mut Random) -> Vec<u8> {
         3..7 => tables::leaning(rows, random),
         _ => tables::legal(rows, random),
     }
+}
+
+/// Counts an element that was refused with 10 only because it has a marked number other than 0.
+fn see_marked_number(point: &Point, received: &Received, seen: &mut Tally) {
+    let Ok(Element::Rreq(rreq)) = Element::read(&received.element) else {
+        return;
+    };
+    let marked = rreq
+        .destinations()
+        .position(Destination::contradicts_its_mark);
+    if let Some(place) = marked
+        && !is_bad_list(point.table(), &without_mark(received, place))
+    {
+        let address = rreq.destinations().nth(place).map(|asked| asked.address);
+        let own = Address(*point.table().first_chunk().expect("a table's length"));
+        let sort = match (address, place) {
+            (Some(address), _) if address == own => 0,
+            (Some(Address::ALL_ONES), _) => 1,
+            (_, 0) => 2,
+            _ => 3,
+        };
+        seen.count(MARKED_NUMBER, sort);
+    }
+}
+
+/// Returns what was received, with the mark of one destination taken away.
+fn without_mark(received: &Received, place: usize) -> Received {
+    let mut received = received.clone();
+    let flags = elements::listed_places(&received.element)[place] - 1;
+    received.element[flags] &= !Destination::NUMBER_UNKNOWN;
+    received
+}
+
+fn is_bad_list(table: &[u8], received: &Received) -> bool {
+    let (table, output) = (&mut table.to_vec(), &mut [0; LEAST_OUTPUT]);
+    let Received {
+        clock,
+        transmitter,
+        link_metric,
+        element,
+    } = received;
+    let outcome = (REFERENCE.receive)(table, output, *clock, transmitter, *link_metric, element);
+    outcome.answer == BAD_LIST
 }
 
 #[test]
@@ -73,8 +124,10 @@ fn library_and_reference_agree() {
             } else {
                 received::faulty(point.table(), random)
             };
-            if point.receive(&received, run).answer == ACCEPTED {
-                seen.count(ACCEPTED_BY_ID, received.element[0].into());
+            match point.receive(&received, run).answer {
+                ACCEPTED => seen.count(ACCEPTED_BY_ID, received.element[0].into()),
+                BAD_LIST => see_marked_number(&point, &received, seen),
+                _ => {}
             }
         }
     }

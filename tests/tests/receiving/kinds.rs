@@ -22,27 +22,15 @@ const SEEN: [Listed; 15] = [
     (ACTIVE_LINK, &BELOW_AT_ABOVE),
     (INACTIVE_LINK, &BELOW_AT_ABOVE),
     (TTL, &[0, 1, 2, 3, 31, 255]),
-    (DESTINATION, &[0, 1, 2, 3, 4, 5, 6]),
-    (OWN_ASKED_FOR, &[0, 1, 2, 3]),
-    (
-        ACTIVE_ASKED_FOR,
-        UP_TO_25_AND_0.first_chunk::<16>().unwrap().as_slice(),
-    ),
-    (
-        REPLIES,
-        UP_TO_25_AND_0.first_chunk::<21>().unwrap().as_slice(),
-    ),
+    (DESTINATION, &range::<0, 21>()),
+    (OWN_ASKED_FOR, &range::<0, 12>()),
+    (ACTIVE_ASKED_FOR, &range::<0, 48>()),
+    (REPLIES, &range::<0, 21>()),
     (UNICAST_GOES_ON, &[0, 1]),
-    (
-        DEPENDENTS,
-        UP_TO_25_AND_0.first_chunk::<23>().unwrap().as_slice(),
-    ),
+    (DEPENDENTS, &range::<0, 23>()),
     (SOURCE, &[0, 1, 2]),
-    (NAMED, UP_TO_25_AND_0.last_chunk::<25>().unwrap().as_slice()),
-    (
-        MATCHES,
-        UP_TO_25_AND_0.last_chunk::<25>().unwrap().as_slice(),
-    ),
+    (NAMED, &range::<1, 25>()),
+    (MATCHES, &range::<1, 25>()),
 ];
 const END: &str = "row of the path's end, by its sort";
 const STORED_EXPIRY_LARGER: &str = "stored expiry of an active end larger";
@@ -50,9 +38,9 @@ const TRANSMITTER: &str = "row of another transmitter, by its sort";
 const ACTIVE_LINK: &str = "link below 0, at 1, above 2 the metric of an active transmitter";
 const INACTIVE_LINK: &str = "the same of an inactive one of known number";
 const TTL: &str = "TTL of a RREQ or RANN";
-const DESTINATION: &str = "row of a destination, by its sort; own address 5, all ones 6";
-const OWN_ASKED_FOR: &str = "number asked of oneself equal 0, newer 1, older 2, half apart 3";
-const ACTIVE_ASKED_FOR: &str = "the same of an active row, plus 4 for DO, plus 8 for RF";
+const DESTINATION: &str = "row of a destination, by its sort; own address 5, all ones 6; plus 7 for a 0, 14 for a marked 0";
+const OWN_ASKED_FOR: &str = "number asked of oneself equal 0, newer 1, older 2, half apart 3; plus 4 for a 0, 8 for a marked 0";
+const ACTIVE_ASKED_FOR: &str = "the same of an active row, plus 12 for DO, plus 24 for RF";
 const REPLIES: &str = "replies to a RREQ";
 const UNICAST_GOES_ON: &str = "unicast RREQ goes on";
 const DEPENDENTS: &str = "dependents of a RREP";
@@ -61,9 +49,17 @@ const NAMED: &str = "destinations of a RERR";
 const MATCHES: &str = "matches of a RERR";
 
 const BELOW_AT_ABOVE: [u32; 3] = [0, 1, 2];
-const UP_TO_25_AND_0: [u32; 26] = [
-    0, 1, 2, 3, 4, 5, 6, 7, 8, 9, 10, 11, 12, 13, 14, 15, 16, 17, 18, 19, 20, 21, 22, 23, 24, 25,
-];
+
+/// Returns COUNT numbers from FIRST on.
+const fn range<const FIRST: u32, const COUNT: usize>() -> [u32; COUNT] {
+    let mut numbers = [FIRST; COUNT];
+    let mut place = 0;
+    while place < COUNT {
+        numbers[place] += place as u32;
+        place += 1;
+    }
+    numbers
+}
 
 /// Some tables are full. In some, nearly all rows lead through one neighbour.
 fn some_table(random: &mut Random) -> Vec<u8> {
@@ -163,19 +159,21 @@ impl Accepted<'_> {
     /// Counts a destination by the rows after the path was learnt.
     fn see_destination(&self, asked: &Destination, seen: &mut Tally) {
         let head = self.before.head();
+        let with = asked_with(asked);
         if asked.address == head.own {
-            seen.count(DESTINATION, 5);
-            seen.count(OWN_ASKED_FOR, relation(asked.number, head.number));
+            seen.count(DESTINATION, 5 + 7 * with);
+            let relation = relation(asked.number, head.number);
+            seen.count(OWN_ASKED_FOR, relation + 4 * with);
         } else if asked.address == Address::ALL_ONES {
-            seen.count(DESTINATION, 6);
+            seen.count(DESTINATION, 6 + 7 * with);
         } else {
             let row = row(&self.after, asked.address);
             let sort = self.sort(row);
-            seen.count(DESTINATION, sort);
+            seen.count(DESTINATION, sort + 7 * with);
             if let (Some(row), 1) = (row, sort) {
                 let flags = u32::from(asked.flags & (Destination::DO | Destination::RF));
                 let relation = relation(asked.number, row.number);
-                seen.count(ACTIVE_ASKED_FOR, relation + 4 * flags);
+                seen.count(ACTIVE_ASKED_FOR, relation + 4 * with + 12 * flags);
             }
         }
     }
@@ -197,6 +195,15 @@ impl Accepted<'_> {
 
 fn row(table: &Table, destination: Address) -> Option<Row> {
     table.row_for(destination).map(|(_, row)| row)
+}
+
+/// Returns 0 for a number other than 0, 1 for a 0 without a mark, 2 for a marked 0.
+fn asked_with(asked: &Destination) -> u32 {
+    match asked.requested() {
+        Some(SequenceNumber(0)) => 1,
+        Some(_) => 0,
+        None => 2,
+    }
 }
 
 /// Returns 0 for equal, 1 for newer, 2 for older, 3 for half the circle apart.
