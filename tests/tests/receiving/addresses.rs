@@ -3,7 +3,7 @@
 use hwmp_tests::answers::{ABOUT_ITSELF, BAD_ADDRESS, BAD_LIST};
 use hwmp_tests::worked::{ALL_ONES, Address, FREE, GROUP, OWN, Row, ZERO};
 
-use crate::cases::{A, B, C, END, PATH, Path, T, active, rann, refuses, rerr, rrep, rreq};
+use crate::cases::{A, B, C, END, PATH, Path, T, UNKNOWN, active, rann, refuses, rerr, rrep, rreq};
 
 const ROWS: [Row; 2] = [FREE; 2];
 const NOT_INDIVIDUAL: [Address; 4] = [GROUP, ZERO, ALL_ONES, [1, 0, 0, 0, 0, 0]];
@@ -60,8 +60,9 @@ fn no_destination_stands_twice() {
             let what = format!("places {earlier} and {later}");
             if later < 20 {
                 // An address with other flags and another number is still the same destination.
+                let flags = |at: usize| at as u8 & !UNKNOWN;
                 let asked: Vec<_> = (0..20)
-                    .map(|at| (at as u8, address(at), at as u32))
+                    .map(|at| (flags(at), address(at), at as u32))
                     .collect();
                 refuses(&what, &ROWS, &rreq(0, PATH, &asked), BAD_LIST);
             }
@@ -78,8 +79,9 @@ fn no_destination_stands_twice() {
 #[test]
 fn lists_that_do_not_go_together() {
     let everyone = (3, ALL_ONES, 0);
+    let marked = (3 | UNKNOWN, ALL_ONES, 0);
     type Case<'a> = (&'a str, u8, &'a [(u8, Address, u32)]);
-    let cases: [Case; 8] = [
+    let cases: [Case; 13] = [
         ("all ones first", 0, &[everyone, (0, A, 0)]),
         ("all ones last", 0, &[(0, A, 0), everyone]),
         ("all ones twice", 0, &[everyone, everyone]),
@@ -92,6 +94,11 @@ fn lists_that_do_not_go_together() {
         ("unicast to two", 2, &[(0, A, 0), (0, B, 0)]),
         ("unicast to all ones", 2, &[everyone]),
         ("unicast to all ones, all flags", 0xFF, &[everyone]),
+        ("marked all ones first", 0, &[marked, (0, A, 0)]),
+        ("marked all ones last", 0, &[(UNKNOWN, A, 0), marked]),
+        ("marked and not", 0, &[(UNKNOWN, A, 0), (0, A, 7)]),
+        ("the originator, marked", 0, &[(UNKNOWN, END, 0)]),
+        ("unicast to marked all ones", 2, &[marked]),
     ];
     for (what, flags, asked) in cases {
         refuses(what, &ROWS, &rreq(flags, PATH, asked), BAD_LIST);

@@ -73,7 +73,7 @@ pub const NEIGHBOUR: Row = Row {
 
 /// Returns an active row of known number 9, through a neighbour that has no other part in the
 /// cases.
-pub fn active(destination: Address) -> Row {
+pub const fn active(destination: Address) -> Row {
     Row {
         status: 1,
         known: 1,
@@ -113,6 +113,9 @@ pub fn rann(flags: u8, path: Path) -> Vec<u8> {
 }
 
 pub const REQUEST_ID: u32 = 0x0A0B_0C0D;
+
+/// The mark of a RREQ's destination: its number is 0 because no number is known.
+pub const UNKNOWN: u8 = 4;
 
 /// Returns a RREQ. A destination is flags, address and number.
 pub fn rreq(flags: u8, path: Path, destinations: &[(u8, Address, u32)]) -> Vec<u8> {

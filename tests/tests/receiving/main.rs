@@ -8,6 +8,7 @@ mod errors;
 mod free_rows;
 mod kinds;
 mod learning;
+mod marks;
 mod mesh;
 mod refusals;
 mod replies;

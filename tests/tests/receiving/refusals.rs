@@ -11,7 +11,7 @@ use hwmp_tests::worked::{
 };
 
 use crate::cases::{
-    A, B, C, CLOCK, END, LINK, PATH, Path, T, active, rann, receive, rerr, rrep, rreq,
+    A, B, C, CLOCK, END, LINK, PATH, Path, T, UNKNOWN, active, rann, receive, rerr, rrep, rreq,
 };
 
 /// The faults that are in a call.
@@ -92,6 +92,13 @@ impl Faults {
         )
     }
 
+    /// The first destination is marked. Its fault 10 is a number other than 0.
+    fn marked_rreq(&self) -> Vec<u8> {
+        let second = self.or(BAD_ADDRESS, GROUP, C);
+        let first = (UNKNOWN, A, self.or(BAD_LIST, 7, 0));
+        rreq(0, self.path(), &[first, (0, second, 0)])
+    }
+
     fn rrep(&self) -> Vec<u8> {
         let path = self.path();
         let source = self.or(BAD_ADDRESS, GROUP, self.or(BAD_LIST, path.end, C));
@@ -124,9 +131,32 @@ impl Faults {
     }
 }
 
+/// The refusals that a RREQ can meet.
+const OF_A_RREQ: &[u32] = &[
+    TABLE_LENGTH,
+    SHORT_OUTPUT,
+    CLOCK_TOO_LARGE,
+    BAD_NEIGHBOUR,
+    NO_LINK,
+    ELEMENT_LENGTH,
+    UNKNOWN_ID,
+    BAD_COUNT,
+    BAD_ADDRESS,
+    BAD_LIST,
+    NO_LIFETIME,
+    TOO_MANY_HOPS,
+    METRIC_TOO_LARGE,
+    NOT_A_TABLE,
+    OLD_CLOCK,
+    FROM_ITSELF,
+    ABOUT_ITSELF,
+    STALE,
+    NO_ROOM,
+];
+
 /// The types, each with the refusals that it can meet.
 type Type = (&'static str, &'static [u32], fn(&Faults) -> Vec<u8>);
-const TYPES: [Type; 4] = [
+const TYPES: [Type; 5] = [
     (
         "RANN",
         &[
@@ -151,31 +181,8 @@ const TYPES: [Type; 4] = [
         ],
         Faults::rann,
     ),
-    (
-        "RREQ",
-        &[
-            TABLE_LENGTH,
-            SHORT_OUTPUT,
-            CLOCK_TOO_LARGE,
-            BAD_NEIGHBOUR,
-            NO_LINK,
-            ELEMENT_LENGTH,
-            UNKNOWN_ID,
-            BAD_COUNT,
-            BAD_ADDRESS,
-            BAD_LIST,
-            NO_LIFETIME,
-            TOO_MANY_HOPS,
-            METRIC_TOO_LARGE,
-            NOT_A_TABLE,
-            OLD_CLOCK,
-            FROM_ITSELF,
-            ABOUT_ITSELF,
-            STALE,
-            NO_ROOM,
-        ],
-        Faults::rreq,
-    ),
+    ("RREQ", OF_A_RREQ, Faults::rreq),
+    ("RREQ with a mark", OF_A_RREQ, Faults::marked_rreq),
     (
         "RREP",
         &[

@@ -4,17 +4,18 @@
 use hwmp_tests::worked::{ALL_ONES, Address, FREE, OWN, Row, STEPS};
 
 use crate::cases::{
-    A, B, C, LEARNT, LINK, NEIGHBOUR, ONWARD, PATH, Path, T, VIA, accepts, accepts_numbered,
-    active, expired, frame, invalidated, new_rrep, rreq,
+    A, B, C, LEARNT, LINK, NEIGHBOUR, ONWARD, PATH, Path, T, UNKNOWN, VIA, accepts,
+    accepts_numbered, active, expired, frame, invalidated, new_rrep, rreq,
 };
 
 const UNICAST: u8 = 2;
 const REPLY_WANTED: u8 = 4;
 
 /// With DO set, only the destination itself replies. With RF set, the destination is kept after a
-/// reply. The other bits are reserved.
+/// reply. UNKNOWN is the mark, and all other bits are reserved.
 const DO: u8 = 1;
 const RF: u8 = 2;
+const RESERVED: u8 = 0xF8;
 
 type Asked = (u8, Address, u32);
 
@@ -75,18 +76,43 @@ const OWN_NUMBERS: [(u32, u32, u32); 12] = [
 #[test]
 fn a_point_replies_for_itself() {
     for (own, asked, next) in OWN_NUMBERS {
-        for flags in [0, DO, RF, DO | RF, 0xFC] {
+        for flags in [0, DO, RF, DO | RF, RESERVED] {
             let what = format!("{asked} asked of {own}, flags {flags}");
-            let element = rreq(0, PATH, &[(flags, OWN, asked)]);
-            let (before, after) = ([FREE, FREE], [LEARNT, NEIGHBOUR]);
-            let frames = [own_reply(next)];
-            accepts_numbered(&what, own, &before, &element, next, &after, &frames);
+            replies_for_itself(&what, own, (flags, OWN, asked), next);
         }
     }
 }
 
+/// Receives a request for the own address alone. The own number must become `next`.
+fn replies_for_itself(what: &str, own: u32, asked: Asked, next: u32) {
+    let element = rreq(0, PATH, &[asked]);
+    let (before, after) = ([FREE, FREE], [LEARNT, NEIGHBOUR]);
+    accepts_numbered(
+        what,
+        own,
+        &before,
+        &element,
+        next,
+        &after,
+        &[own_reply(next)],
+    );
+}
+
+/// The own number steps by one, whatever a 0 would be to it: newer, older, equal or half the circle
+/// apart. Without a mark a 0 is a number like any other.
+#[test]
+fn a_marked_0_does_not_move_the_own_number() {
+    for (own, next) in STEPS.into_iter().chain([(3_000_000_000, 3_000_000_001)]) {
+        for flags in [0, DO, RF, DO | RF, RESERVED, 0xFF].map(|flags| flags | UNKNOWN) {
+            let what = format!("a marked 0 asked of {own}, flags {flags}");
+            replies_for_itself(&what, own, (flags, OWN, 0), next);
+        }
+    }
+    replies_for_itself("0 of 3,000,000,000", 3_000_000_000, (0, OWN, 0), 1);
+}
+
 /// All ones is kept. If a reply is wanted, the own number steps by one, whatever number stands next
-/// to all ones.
+/// to all ones, and whether or not it is marked.
 #[test]
 fn every_point_replies_if_a_reply_is_wanted() {
     let (before, after) = ([FREE, FREE], [LEARNT, NEIGHBOUR]);
@@ -97,10 +123,10 @@ fn every_point_replies_if_a_reply_is_wanted() {
         (0, false),
         (0xF9, false),
     ] {
-        for number in [0, 1000] {
-            let everyone = [(DO | RF, ALL_ONES, number)];
+        for (mark, number) in [(0, 0), (0, 1000), (UNKNOWN, 0)] {
+            let everyone = [(DO | RF | mark, ALL_ONES, number)];
             for (own, next) in STEPS {
-                let what = format!("all ones, flags {flags}, own number {own}");
+                let what = format!("all ones, {number}, flags {flags}, own number {own}");
                 let element = rreq(flags, PATH, &everyone);
                 let goes_on = onward(flags, &everyone);
                 let (next, frames) = match wanted {
@@ -138,18 +164,54 @@ const ASKED_OF_9: [(u32, bool); 8] = [
 #[test]
 fn a_row_answers_if_it_is_not_older() {
     for (number, fresh) in ASKED_OF_9 {
-        for reserved in [0, 4, 0xFC] {
-            for flags in [0, DO, RF, DO | RF] {
-                let flags = flags | reserved;
-                let what = format!("{number} asked of 9, flags {flags}");
-                let kept = onward(0, &[(flags, A, number)]);
-                let frames = match (fresh && flags & DO == 0, flags & RF != 0) {
-                    (false, _) => vec![kept],
-                    (true, false) => vec![row_reply(A)],
-                    (true, true) => vec![row_reply(A), onward(0, &[(flags | DO, A, number)])],
-                };
-                answers(&what, &[active(A)], 0, &[(flags, A, number)], &frames);
-            }
+        for reserved in [0, 8, RESERVED] {
+            let what = format!("{number} asked of 9, reserved bits {reserved}");
+            answers_by_flags(&what, active(A), fresh, reserved, number);
+        }
+    }
+}
+
+/// Receives a request for A, with this number and these further flags, for each combination of DO
+/// and RF. The row for A must answer if it is fresh.
+fn answers_by_flags(what: &str, row: Row, fresh: bool, further: u8, number: u32) {
+    for flags in [0, DO, RF, DO | RF].map(|flags| flags | further) {
+        let from_row = reply(A, row.number, row.hop_count, row.metric);
+        let kept = |flags| onward(0, &[(flags, A, number)]);
+        let frames = match (fresh && flags & DO == 0, flags & RF != 0) {
+            (false, _) => vec![kept(flags)],
+            (true, false) => vec![from_row],
+            (true, true) => vec![from_row, kept(flags | DO)],
+        };
+        let what = format!("{what}, flags {flags}");
+        answers(&what, &[row], 0, &[(flags, A, number)], &frames);
+    }
+}
+
+/// The number of a row, and whether the row answers if it is asked for with a 0 that is not marked.
+const ASKED_WITH_0: [(u32, bool); 8] = [
+    (0, true),
+    (1, true),
+    (9, true),
+    (0x7FFF_FFFF, true),
+    (0x8000_0000, false),
+    (0x8000_0001, false),
+    (3_000_000_000, false),
+    (0xFFFF_FFFF, false),
+];
+
+/// A marked 0 is compared with no row. DO, RF and the reserved bits do what they do next to a
+/// number, and the mark stays where the request is forwarded.
+#[test]
+fn a_marked_0_is_answered_from_any_known_number() {
+    for (number, fresh) in ASKED_WITH_0 {
+        let row = Row {
+            number,
+            ..active(A)
+        };
+        for reserved in [0, 8, RESERVED] {
+            let what = format!("0 asked of {number}, reserved bits {reserved}");
+            answers_by_flags(&what, row, fresh, reserved, 0);
+            answers_by_flags(&what, row, true, reserved | UNKNOWN, 0);
         }
     }
 }
@@ -165,11 +227,29 @@ fn only_an_active_row_of_known_number_answers() {
         ("unknown, invalidated", invalidated(unknown)),
     ];
     for (what, row) in rows {
-        for flags in [0, RF] {
+        for flags in [0, RF, UNKNOWN, UNKNOWN | RF] {
             let asked = [(flags, A, 0)];
             answers(what, &[row], 0, &asked, &[onward(0, &asked)]);
         }
     }
+}
+
+/// A point that knows a number and may not answer forwards mark and 0 as they are.
+#[test]
+fn a_known_number_is_not_filled_in() {
+    let row = active(A);
+    let rows = [
+        ("DO", DO, row),
+        ("expired", 0, expired(row)),
+        ("invalidated", 0, invalidated(row)),
+    ];
+    for (what, flags, row) in rows {
+        let asked = [(flags | UNKNOWN, A, 0)];
+        answers(what, &[row], 0, &asked, &[onward(0, &asked)]);
+    }
+    let asked = [(DO | UNKNOWN, A, 0)];
+    let unicast = [frame(VIA, rreq(UNICAST, ONWARD, &asked))];
+    answers("unicast", &[row], UNICAST, &asked, &unicast);
 }
 
 /// The row may have the largest metric and hop count, although every receiver refuses the reply.
@@ -223,6 +303,43 @@ fn destinations_are_taken_in_order() {
     accepts_numbered("six", 5, &before, &element, 6, &after, &frames);
 }
 
+/// Each destination has its own mark. A mark changes nothing for the destinations around it.
+#[test]
+fn marked_destinations_stand_beside_others() {
+    let far = |destination| Row {
+        number: 3_000_000_000,
+        ..active(destination)
+    };
+    let far_reply = |destination| reply(destination, 3_000_000_000, 2, 40);
+    let new: Address = [0x0A, 0, 0, 0, 0, 0x55];
+    let asked = [
+        (0, A, 0),
+        (UNKNOWN, B, 0),
+        (UNKNOWN, OWN, 0),
+        (0, new, 0),
+        (UNKNOWN | RF, C, 0),
+        (UNKNOWN, VIA, 0),
+    ];
+    let kept = [
+        (0, A, 0),
+        (0, new, 0),
+        (UNKNOWN | RF | DO, C, 0),
+        (UNKNOWN, VIA, 0),
+    ];
+    let rows = [far(A), far(B), far(C), far(VIA).unknown(40)];
+    let frames = [
+        far_reply(B),
+        own_reply(3_000_000_001),
+        far_reply(C),
+        onward(0, &kept),
+    ];
+    let before = [&[FREE, FREE][..], &rows].concat();
+    let after = [&[LEARNT, NEIGHBOUR][..], &rows].concat();
+    let element = rreq(0, PATH, &asked);
+    let (own, next) = (3_000_000_000, 3_000_000_001);
+    accepts_numbered("six", own, &before, &element, next, &after, &frames);
+}
+
 /// Twenty replies and a request with twenty destinations are the most that receive emits: 20 times
 /// 40 octets and 254.
 #[test]
@@ -266,19 +383,23 @@ fn rows_are_those_after_the_path_is_learnt() {
         ..before
     };
     for row in [before, expired(before), invalidated(before)] {
-        let element = rreq(0, PATH, &[(0, T, 9)]);
-        let frames = [reply(T, 9, 1, LINK)];
-        accepts(
-            "the transmitter",
-            &[FREE, row],
-            &element,
-            &[LEARNT, renewed],
-            &frames,
-        );
+        for asked in [(0, T, 9), (UNKNOWN, T, 0)] {
+            let element = rreq(0, PATH, &[asked]);
+            let frames = [reply(T, 9, 1, LINK)];
+            accepts(
+                "the transmitter",
+                &[FREE, row],
+                &element,
+                &[LEARNT, renewed],
+                &frames,
+            );
+        }
     }
     // A row of unknown number does not answer.
-    let asked = [(0, T, 0)];
-    answers("a new transmitter", &[], 0, &asked, &[onward(0, &asked)]);
+    for flags in [0, UNKNOWN] {
+        let asked = [(flags, T, 0)];
+        answers("a new transmitter", &[], 0, &asked, &[onward(0, &asked)]);
+    }
     // A row through the transmitter answers too.
     let row = Row {
         next_hop: T,
@@ -339,11 +460,13 @@ fn a_unicast_request_follows_the_row() {
 
 #[test]
 fn a_unicast_request_is_answered_like_others() {
-    let asked = |flags| [(flags, A, 9)];
-    let goes_on = frame(VIA, rreq(UNICAST, ONWARD, &asked(RF | DO)));
-    let (rows, both) = ([active(A)], [row_reply(A), goes_on]);
-    answers("struck out", &rows, UNICAST, &asked(0), &both[..1]);
-    answers("kept", &rows, UNICAST, &asked(RF), &both);
+    for (mark, number) in [(0, 9), (UNKNOWN, 0)] {
+        let asked = |flags| [(flags | mark, A, number)];
+        let goes_on = frame(VIA, rreq(UNICAST, ONWARD, &asked(RF | DO)));
+        let (rows, both) = ([active(A)], [row_reply(A), goes_on]);
+        answers("struck out", &rows, UNICAST, &asked(0), &both[..1]);
+        answers("kept", &rows, UNICAST, &asked(RF), &both);
+    }
     let element = rreq(UNICAST, PATH, &[(0, OWN, 0)]);
     let (before, after) = ([FREE, FREE], [LEARNT, NEIGHBOUR]);
     accepts_numbered("own", 5, &before, &element, 6, &after, &[own_reply(6)]);

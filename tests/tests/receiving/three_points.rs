@@ -6,14 +6,15 @@ use hwmp_tests::worked::{ALL_ONES, Address, BOTH, address};
 
 use crate::script::Script;
 
-/// Returns the request, as point 0 sends it or as point 1 forwards it.
+/// Returns the request, as point 0 sends it or as point 1 forwards it. Point 0 asks with DO, and
+/// marks the number because it knows none.
 fn request(hop_count: u8, ttl: u8, metric: u8) -> Vec<u8> {
     [
         &ALL_ONES[..],
         &[130, 37, 0, hop_count, ttl, 1, 0, 0, 0],
         &[2, 0, 0, 0, 0, 1],
         &[1, 0, 0, 0, 0xE8, 3, 0, 0, metric, 0, 0, 0, 1],
-        &[1, 2, 0, 0, 0, 0, 3, 0, 0, 0, 0],
+        &[5, 2, 0, 0, 0, 0, 3, 0, 0, 0, 0],
     ]
     .concat()
 }
