@@ -63,8 +63,11 @@ pub fn ask(
     move |by, table, output| (by.ask)(table, output, lifetime, items)
 }
 
-/// The request has the known numbers of valid, expired and invalidated rows. It has 0 for an
-/// unknown number, for an address that is only a next hop, and for one without a row.
+/// The mark of a destination: its number is 0 because none is known.
+pub const UNKNOWN: u8 = 4;
+
+/// The request has the known numbers of valid, expired and invalidated rows. It has a marked 0 for
+/// an unknown number, for an address that is only a next hop, and for one without a row.
 #[test]
 fn an_ask_octet_by_octet() {
     let frame = [
@@ -80,9 +83,9 @@ fn an_ask_octet_by_octet() {
         0, 0x0A, 0, 0, 0, 0, 3, 0xFF, 0xFF, 0xFF, 0xFF, // flags, C, number
         1, 0x0A, 0, 0, 0, 0, 1, 0x24, 0x23, 0x22, 0x21, // A
         2, 0x0A, 0, 0, 0, 0, 2, 0x34, 0x33, 0x32, 0x31, // B
-        3, 0x0A, 0, 0, 0, 0, 4, 0, 0, 0, 0, // D
-        0, 0x0A, 0, 0, 0, 0, 5, 0, 0, 0, 0, // E
-        1, 0x0A, 0, 0, 0, 0, 7, 0, 0, 0, 0, // ABSENT
+        7, 0x0A, 0, 0, 0, 0, 4, 0, 0, 0, 0, // D
+        4, 0x0A, 0, 0, 0, 0, 5, 0, 0, 0, 0, // E
+        5, 0x0A, 0, 0, 0, 0, 7, 0, 0, 0, 0, // ABSENT
     ];
     let items = [
         0, 0x0A, 0, 0, 0, 0, 3, // flags, C
@@ -106,7 +109,7 @@ fn both_counters_step_and_the_frame_has_them_after_the_step() {
         for (request_id, next_id) in STEPS {
             let before = table(number, request_id, 5000, &rows());
             let after = table(next_number, next_id, 5000, &rows());
-            let frame = rreq(0, next_id, next_number, 1000, &[(1, ABSENT, 0)]);
+            let frame = rreq(0, next_id, next_number, 1000, &[(1 | UNKNOWN, ABSENT, 0)]);
             let what = format!("number {number}, request ID {request_id}");
             let items = octets(&[(1, ABSENT)]);
             accepted(&what, &before, &ask(1000, &items), &after, &[frame]);
@@ -124,11 +127,48 @@ fn a_lifetime_is_not_0() {
     let items = octets(&[(0, ABSENT)]);
     refused_with_room("lifetime 0", &before, &ask(0, &items), NO_LIFETIME);
     for lifetime in [1, 0x100, 0x8000_0000, u32::MAX] {
-        let frame = rreq(0, 8, 6, lifetime, &[(0, ABSENT, 0)]);
+        let frame = rreq(0, 8, 6, lifetime, &[(UNKNOWN, ABSENT, 0)]);
         let what = format!("lifetime {lifetime}");
         accepted(&what, &before, &ask(lifetime, &items), &after, &[frame]);
     }
     println!("ask: lifetime 0 refused with 11, 1 and 4,294,967,295 accepted");
+}
+
+/// A number is known whatever the row is otherwise, and 0 is a number. Only a row of unknown number,
+/// or no row, leaves a point without a number.
+#[test]
+fn only_an_unknown_number_is_marked() {
+    let known = [
+        0,
+        1,
+        9,
+        0x7FFF_FFFF,
+        0x8000_0000,
+        3_000_000_000,
+        0xFFFF_FFFF,
+    ];
+    let numbered = known.map(|number| (row(A, number), 0));
+    let unknown = (row(A, 0).unknown(3), UNKNOWN);
+    for (row, mark) in numbered.into_iter().chain([unknown]) {
+        let expired = Row { expiry: 1, ..row };
+        let invalidated = Row { status: 2, ..row };
+        for (what, row) in [
+            ("valid", row),
+            ("expired", expired),
+            ("invalidated", invalidated),
+        ] {
+            let what = format!("{what}, number {}, known {}", row.number, row.known);
+            let (before, after) = (table(5, 7, 5000, &[row]), table(6, 8, 5000, &[row]));
+            for flags in 0..=3 {
+                // ABSENT stands beside A, so that known and unknown numbers are in one request.
+                let items = octets(&[(flags, A), (flags, ABSENT)]);
+                let asked = [(flags | mark, A, row.number), (flags | UNKNOWN, ABSENT, 0)];
+                let frame = rreq(0, 8, 6, 1000, &asked);
+                accepted(&what, &before, &ask(1000, &items), &after, &[frame]);
+            }
+        }
+    }
+    println!("ask: only unknown numbers are marked, not a known 0");
 }
 
 /// Rows in every place of a large table, with destinations that differ in one octet.

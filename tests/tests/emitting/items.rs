@@ -6,7 +6,7 @@ use hwmp_tests::worked::{
     ALL_ONES, Address, GROUP, OWN, ZERO, accepted, refused_with_room, rreq, table,
 };
 
-use crate::asking::{A, ABSENT, ask, octets, rows};
+use crate::asking::{A, ABSENT, UNKNOWN, ask, octets, rows};
 
 /// Asks, with own number 5 and request ID 7, for items whose numbers are unknown. Both must accept.
 fn asked(what: &str, items: &[(u8, Address)]) {
@@ -17,7 +17,7 @@ fn asked(what: &str, items: &[(u8, Address)]) {
 fn asked_with(what: &str, lent: &[u8], items: &[(u8, Address)]) {
     let destinations: Vec<_> = items
         .iter()
-        .map(|&(flags, address)| (flags, address, 0))
+        .map(|&(flags, address)| (flags | UNKNOWN, address, 0))
         .collect();
     let (before, after) = (table(5, 7, 5000, &rows()), table(6, 8, 5000, &rows()));
     let frame = rreq(0, 8, 6, 1000, &destinations);
@@ -71,6 +71,7 @@ fn one_to_twenty_whole_items_are_asked_for() {
     );
 }
 
+/// The point marks unknown numbers itself, so an item with the mark is refused too.
 #[test]
 fn item_flags_go_up_to_3() {
     for (count, place) in [(1, 0), (20, 0), (20, 10), (20, 19)] {

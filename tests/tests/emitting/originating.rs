@@ -10,8 +10,8 @@ use hwmp_tests::worked::{
 const DESTINATION: Address = [2, 0, 0, 0, 0, 9];
 const NEXT_HOP: Address = [2, 0, 0, 0, 0, 2];
 
-/// The one destination of a root request: flags DO and RF, number 0.
-const EVERYONE: (u8, Address, u32) = (3, ALL_ONES, 0);
+/// The one destination of a root request: flags DO, RF and 'number unknown', number 0.
+const EVERYONE: (u8, Address, u32) = (7, ALL_ONES, 0);
 
 /// Returns rows that these calls must leave alone.
 fn rows() -> [Row; 3] {
@@ -74,7 +74,7 @@ fn a_root_request_octet_by_octet() {
         0x44, 0x43, 0x42, 0x41, // lifetime
         0, 0, 0, 0, // metric
         1, // N
-        3, 0xFF, 0xFF, 0xFF, 0xFF, 0xFF, 0xFF, 0, 0, 0, 0, // flags, destination, number
+        7, 0xFF, 0xFF, 0xFF, 0xFF, 0xFF, 0xFF, 0, 0, 0, 0, // flags, destination, number
     ];
     assert_eq!(frame.len(), 45);
     let before = table(0x0102_0304, 0x1112_1314, 5000, &rows());

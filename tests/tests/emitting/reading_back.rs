@@ -95,9 +95,13 @@ impl Point {
         ]
     }
 
-    fn known_number(&self, address: Address) -> u64 {
+    /// Returns what an ask writes for a destination: 0 and the known number, or the mark 4 and 0.
+    fn mark_and_number(&self, address: Address) -> (u64, u64) {
         let row = self.rows.iter().find(|row| row.destination == address);
-        row.map_or(0, |row| row.number.0.into())
+        match row {
+            Some(row) if row.number_known == 1 => (0, row.number.0.into()),
+            _ => (4, 0),
+        }
     }
 
     fn ask(&mut self, random: &mut Random) -> usize {
@@ -112,8 +116,8 @@ impl Point {
         let mut numbers = self.request(0, lifetime, items.len());
         for &[flags, a, b, c, d, e, f] in items {
             let address = Address([a, b, c, d, e, f]);
-            let number = self.known_number(address);
-            numbers.extend([flags.into(), address.number(), number]);
+            let (mark, number) = self.mark_and_number(address);
+            numbers.extend([u64::from(flags) + mark, address.number(), number]);
         }
         read_back("ask", outcome, &output, &[numbers])
     }
@@ -147,7 +151,7 @@ impl Point {
             return 0;
         }
         let mut numbers = self.request(flags, lifetime, 1);
-        numbers.extend([3, 0xFFFF_FFFF_FFFF, 0]);
+        numbers.extend([7, 0xFFFF_FFFF_FFFF, 0]);
         read_back("root request", outcome, &output, &[numbers])
     }
 
