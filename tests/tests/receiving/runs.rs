@@ -62,7 +62,7 @@ fn points_agree_and_no_walk_meets_a_point_twice() {
     let seen = &mut Tally::default();
     let mut meshes = 0;
     while run.answers.total_of("receive") < DELIVERIES {
-        let mut random_mesh = RandomMesh::fresh(run);
+        let mut random_mesh = RandomMesh::fresh(run, seen);
         for _ in 0..200 + run.random.below(600) {
             random_mesh.step(run, seen);
         }
