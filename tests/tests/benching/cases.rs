@@ -3,7 +3,7 @@
 use hwmp_tests::worked::{GROUP, STRANGER, address};
 
 use crate::commands::{advance, announce, ask, deliver, link, point, report_break, walk};
-use crate::script::{LIFETIME, input, line, output, points, prints, prints_all, script};
+use crate::script::{LIFETIME, Step, input, line, output, points, prints, prints_all, script};
 
 /// The transmitter of an element is the point that sent it. The link is that of sender and
 /// receiver, both ways.
@@ -210,37 +210,80 @@ fn own_numbers_go_round() {
     prints("round", &case);
 }
 
+const NEAR: u8 = 0;
+const FAR: u8 = 1;
+const ASKING: u8 = 2;
+const DESTINATION: u8 = 3;
+
+/// Returns the four points above, with links between all but FAR and the two last. The number of
+/// DESTINATION is above 2^31, so that a 0 is newer.
+fn four_points() -> Vec<Step> {
+    let more = [
+        (point(address(3), (1 << 31) + 1), "1 0 0"),
+        (link(NEAR, DESTINATION, 5), "3 0 0"),
+        (link(NEAR, FAR, 5), "3 0 0"),
+        (link(ASKING, DESTINATION, 5), "3 0 0"),
+        (link(NEAR, ASKING, 5), "3 0 0"),
+    ];
+    script(points(3), &more)
+}
+
+/// An ask that knows no number says so. The destination steps its number, and what it announced
+/// before stays old.
+#[test]
+fn an_ask_without_a_number_leads_to_no_ring() {
+    let case = script(
+        four_points(),
+        &[
+            (announce(DESTINATION, LIFETIME), "5 0 1"),
+            (deliver(0, NEAR), "6 0 1"),
+            (deliver(1, FAR), "6 0 1"),
+            (ask(ASKING, 1, address(3), LIFETIME), "4 0 1"),
+            (deliver(3, DESTINATION), "6 0 1"),
+            (deliver(4, NEAR), "6 0 0"),
+            (announce(DESTINATION, LIFETIME), "5 0 1"),
+            (announce(DESTINATION, LIFETIME), "5 0 1"),
+            (deliver(6, NEAR), "6 0 1"),
+            (deliver(2, NEAR), "6 25 0"),
+            (walk(NEAR, DESTINATION), "8 0 1"),
+            (walk(FAR, DESTINATION), "8 0 2"),
+        ],
+    );
+    prints("no ring", &case);
+}
+
 /// Numbers more than half the circle apart let two points lead to each other. The walk has as many
-/// hops as there are points, and no more.
+/// hops as there are points, and no more. `rings` says what the frames carry.
 #[test]
 fn a_walk_in_a_ring_ends() {
-    let (near, far, asking, destination) = (0, 1, 2, 3);
     for idle in 0..=12 {
-        let mut first = points(3);
-        first.push((point(address(3), (1 << 31) + 1), "1 0 0"));
+        let mut first = four_points();
         first.extend((0..idle).map(|place| (point(address(4 + place), 0), "1 0 0")));
         let case = script(
             first,
             &[
-                (link(near, destination, 5), "3 0 0"),
-                (link(near, far, 5), "3 0 0"),
-                (link(asking, destination, 5), "3 0 0"),
-                (announce(destination, LIFETIME), "5 0 1"),
-                (deliver(0, near), "6 0 1"),
-                (deliver(1, far), "6 0 1"),
-                (walk(far, destination), "8 0 2"),
-                (ask(asking, 1, address(3), LIFETIME), "4 0 1"),
-                (deliver(3, destination), "6 0 1"),
-                (deliver(4, near), "6 0 0"),
-                (announce(destination, LIFETIME), "5 0 1"),
-                (announce(destination, LIFETIME), "5 0 1"),
-                (deliver(6, near), "6 0 1"),
-                (deliver(2, near), "6 0 1"),
-                (walk(destination, destination), "8 0 0"),
-                (walk(asking, destination), "8 41 0"),
+                (announce(ASKING, LIFETIME), "5 0 1"),
+                (deliver(0, DESTINATION), "6 0 1"),
+                (deliver(1, NEAR), "6 0 1"),
+                (report_break(NEAR, DESTINATION), "7 0 1"),
+                (announce(DESTINATION, LIFETIME), "5 0 1"),
+                (deliver(4, NEAR), "6 0 1"),
+                (deliver(5, FAR), "6 0 1"),
+                (deliver(5, ASKING), "6 0 1"),
+                (walk(FAR, DESTINATION), "8 0 2"),
+                (deliver(3, ASKING), "6 0 1"),
+                (ask(ASKING, 1, address(3), LIFETIME), "4 0 1"),
+                (deliver(9, DESTINATION), "6 0 1"),
+                (deliver(10, NEAR), "6 0 0"),
+                (announce(DESTINATION, LIFETIME), "5 0 1"),
+                (announce(DESTINATION, LIFETIME), "5 0 1"),
+                (deliver(12, NEAR), "6 0 1"),
+                (deliver(6, NEAR), "6 0 1"),
+                (walk(DESTINATION, DESTINATION), "8 0 0"),
+                (walk(ASKING, DESTINATION), "8 41 0"),
             ],
         );
-        let walks = [walk(near, destination), walk(far, destination)];
+        let walks = [walk(NEAR, DESTINATION), walk(FAR, DESTINATION)];
         let input = [input(&case), walks.concat()].concat();
         let walked = format!("8 42 {}\n", 4 + idle).repeat(walks.len());
         prints_all("ring", &input, &(output(&case) + &walked));

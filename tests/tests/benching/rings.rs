@@ -5,7 +5,7 @@ use hwmp_tests::random::Random;
 use hwmp_tests::reference::walk::MOST_POINTS;
 use hwmp_tests::tables;
 
-use crate::commands::{announce, ask, deliver, link, point, walk};
+use crate::commands::{announce, ask, deliver, link, point, report_break, walk};
 use crate::script::LIFETIME;
 use crate::stream::Stream;
 
@@ -38,20 +38,28 @@ pub fn some_ring(random: &mut Random) -> Stream {
     }
     let to = addresses[usize::from(destination)];
     let commands = [
-        // Frame 0 carries 2^31 + 2, and so do frames 1 and 2, which forward it.
+        // From what the destination forwards, `near` makes a row of unknown number for it. The error
+        // of the break, frame 3, carries 0 for the destination.
+        announce(asking, LIFETIME),
+        deliver(0, destination),
+        deliver(1, near),
+        report_break(near, destination),
+        // Frame 4 carries 2^31 + 2, and so do frames 5, 6 and 7, which forward it.
         announce(destination, LIFETIME),
-        deliver(0, near),
-        deliver(1, far),
-        // Frame 3 asks with 0, which is newer to the destination. Frame 4 replies with 1.
-        ask(asking, 1, to, LIFETIME),
-        deliver(3, destination),
         deliver(4, near),
-        // Frames 5 and 6 carry 2 and 3.
+        deliver(5, far),
+        deliver(5, asking),
+        // The 0 of the error is newer. Frame 9 asks with it, and frame 10 replies with 1.
+        deliver(3, asking),
+        ask(asking, 1, to, LIFETIME),
+        deliver(9, destination),
+        deliver(10, near),
+        // Frames 11 and 12 carry 2 and 3.
         announce(destination, LIFETIME),
         announce(destination, LIFETIME),
+        deliver(12, near),
+        // After 3, the 2^31 + 2 of frame 6 is newer again.
         deliver(6, near),
-        // After 3, the 2^31 + 2 of frame 2 is newer again.
-        deliver(2, near),
     ];
     for command in commands {
         stream.push(&command);

@@ -1,5 +1,6 @@
 //! Lists of calls that would let two points lead to each other if one rule were different. Each
-//! list has the delivery that a point must refuse. The destination is point 3.
+//! list has the delivery that a point must refuse. The destination is point 3. Only the last list
+//! lies outside the premise of demand 3, and there two points do lead to each other.
 
 use hwmp_tests::answers::{ACCEPTED, NO_NEXT_HOP, STALE};
 use hwmp_tests::worked::{BOTH, address};
@@ -91,6 +92,31 @@ fn a_number_that_went_round_is_newer() {
     }
 }
 
+/// The own number of D is above 2^31, so that a 0 is newer.
+const ABOVE_HALF: [u32; 5] = [7, 7, 7, 2_147_483_649, 7];
+
+/// The rule: a marked 0 is not compared with the own number. Otherwise D would fall back to 1, and
+/// an old announcement would be newer once more.
+#[test]
+fn a_number_does_not_fall_back_for_a_marked_0() {
+    for by in BOTH {
+        let points = &mut Script::fresh(by, &ABOVE_HALF);
+        points.announce(D);
+        assert_eq!(points.deliver(0, A, 1), ACCEPTED);
+        assert_eq!(points.deliver(1, B, 1), ACCEPTED);
+        // C knows no number. D's reply is frame 4.
+        points.ask(C, 0, D, 1000);
+        assert_eq!(points.deliver(3, D, 1), ACCEPTED);
+        assert_eq!(points.deliver(4, A, 1), ACCEPTED);
+        points.announce(D);
+        points.announce(D);
+        assert_eq!(points.deliver(6, A, 1), ACCEPTED);
+        assert_eq!(points.deliver(2, A, 1), STALE);
+        assert_eq!(points.next_hop(A, D), (ACCEPTED, address(D)));
+        assert_eq!(points.next_hop(B, D), (ACCEPTED, address(A)));
+    }
+}
+
 /// The rule: a link that is worse than the row does not change it.
 #[test]
 fn a_worse_link_is_not_taken() {
@@ -105,4 +131,35 @@ fn a_worse_link_is_not_taken() {
         assert_eq!(points.deliver(2, C, 2), STALE);
         assert_eq!(points.next_hop(C, D), (ACCEPTED, address(D)));
     });
+}
+
+/// The error of a break has no mark for the 0 of an unknown number. The 0 is therefore carried for
+/// D, whose numbers are half the circle away from it.
+#[test]
+fn outside_the_premise_a_number_falls_back() {
+    for by in BOTH {
+        let points = &mut Script::fresh(by, &ABOVE_HALF);
+        // From what D forwards, A makes a row of unknown number for D. Its error is frame 3.
+        points.announce(C);
+        assert_eq!(points.deliver(0, D, 1), ACCEPTED);
+        assert_eq!(points.deliver(1, A, 1), ACCEPTED);
+        points.report_break(A, D);
+        // D announces 2,147,483,650. A forwards it in frame 5, B in frame 6, C in frame 7.
+        points.announce(D);
+        assert_eq!(points.deliver(4, A, 1), ACCEPTED);
+        assert_eq!(points.deliver(5, B, 1), ACCEPTED);
+        assert_eq!(points.deliver(5, C, 1), ACCEPTED);
+        // The error brings C the number 0, and C asks with it. D replies with 1, in frame 10.
+        assert_eq!(points.deliver(3, C, 1), ACCEPTED);
+        points.ask(C, 0, D, 1000);
+        assert_eq!(points.deliver(9, D, 1), ACCEPTED);
+        assert_eq!(points.deliver(10, A, 1), ACCEPTED);
+        // D announces 2 and 3. To 3 the first number is newer once more.
+        points.announce(D);
+        points.announce(D);
+        assert_eq!(points.deliver(12, A, 1), ACCEPTED);
+        assert_eq!(points.deliver(6, A, 1), ACCEPTED);
+        assert_eq!(points.next_hop(A, D), (ACCEPTED, address(B)));
+        assert_eq!(points.next_hop(B, D), (ACCEPTED, address(A)));
+    }
 }
