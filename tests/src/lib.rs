@@ -3,6 +3,7 @@
 //! - the library behind safe functions, and a separately written implementation to compare it with;
 //! - random tables and elements;
 //! - points that send to each other, and thirty simulated days of them;
+//! - stand-ins for the library, each with one wrong rule that the tests must notice;
 //! - checks for calls that were worked out by hand.
 
 pub mod answers;
@@ -16,6 +17,7 @@ pub mod probe;
 pub mod random;
 pub mod received;
 pub mod reference;
+pub mod stand_ins;
 pub mod tables;
 pub mod thirty_days;
 pub mod worked;

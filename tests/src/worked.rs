@@ -3,12 +3,12 @@
 
 use crate::answers::ACCEPTED;
 use crate::fence::{Fence, Side};
-use crate::implementation::{Implementation, LIBRARY, REFERENCE};
+use crate::implementation::Implementation;
 use crate::library::Outcome;
+use crate::stand_ins::both;
 
 pub type Address = [u8; 6];
 
-pub const BOTH: [&Implementation; 2] = [&LIBRARY, &REFERENCE];
 pub const OWN: Address = [2, 0, 0, 0, 0, 1];
 pub const ALL_ONES: Address = [0xFF; 6];
 pub const ZERO: Address = [0; 6];
@@ -150,7 +150,7 @@ struct After<'a> {
 
 fn leaves(what: &str, table: &[u8], output: &[u8], call: Call, after: &After) {
     let (tables, outputs) = (&mut Fence::build(), &mut Fence::build());
-    for by in BOTH {
+    for by in both() {
         for side in Side::BOTH {
             let table = tables.lend(table, side);
             let output = outputs.lend(output, side);

@@ -1,9 +1,10 @@
 use crate::answers::ACCEPTED;
 use crate::fence::Fence;
-use crate::implementation::{Implementation, LIBRARY, REFERENCE};
+use crate::implementation::{Implementation, REFERENCE};
 use crate::library::Outcome;
 use crate::random::Random;
 use crate::received::Received;
+use crate::stand_ins::tested;
 use crate::tables;
 
 use super::lending::{lend, lend_address};
@@ -84,7 +85,7 @@ impl Point {
         call: impl Fn(&Implementation, &mut [u8]) -> A,
     ) -> A {
         self.keep_before();
-        let found = call(&LIBRARY, self.table.of_library());
+        let found = call(tested(), self.table.of_library());
         let expected = call(&REFERENCE, self.table.of_reference());
         let on = || format!("{} on {:?}", what(), self.before);
         assert_eq!(found, expected, "{}: answers differ", on());
@@ -110,7 +111,7 @@ impl Point {
             let (what, room, before) = (what(), blank.len(), &self.before);
             format!("{what} with an output of {room} on {before:?}")
         };
-        let found = call(&LIBRARY, self.table.of_library(), output.of_library());
+        let found = call(tested(), self.table.of_library(), output.of_library());
         let expected = call(&REFERENCE, self.table.of_reference(), output.of_reference());
         assert_eq!(found, expected, "{}: outcomes differ", on());
         for (name, pair) in [("table", &self.table), ("output", &output)] {

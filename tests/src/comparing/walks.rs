@@ -1,8 +1,8 @@
 use crate::answers::{ACCEPTED, NO_ROUTE, TOO_LONG};
 use crate::fence::Fence;
-use crate::implementation::{LIBRARY, REFERENCE};
 use crate::library::Walked;
 use crate::random::Random;
+use crate::stand_ins::both;
 
 use super::lending::{lend, lend_address};
 use super::tally::Tally;
@@ -50,8 +50,8 @@ impl Walks {
         let tables = lend(&walk.tables, &mut self.tables, random);
         let start = lend_address(walk.start, &mut self.start, random);
         let destination = lend_address(walk.destination, &mut self.destination, random);
-        let [found, expected] = [LIBRARY, REFERENCE]
-            .map(|by| (by.walk)(tables, walk.count, walk.clock, start, destination));
+        let [found, expected] =
+            both().map(|by| (by.walk)(tables, walk.count, walk.clock, start, destination));
         assert_eq!(found, expected, "{walk:?}");
         assert!(tables == walk.tables, "tables changed: {walk:?}");
         let addresses = (*start, *destination);

@@ -69,7 +69,7 @@ pub const UNKNOWN: u8 = 4;
 /// The request has the known numbers of valid, expired and invalidated rows. It has a marked 0 for
 /// an unknown number, for an address that is only a next hop, and for one without a row.
 #[test]
-fn an_ask_octet_by_octet() {
+pub fn an_ask_octet_by_octet() {
     let frame = [
         0xFF, 0xFF, 0xFF, 0xFF, 0xFF, 0xFF, // receiver
         130, 92, // ID, Length
@@ -137,7 +137,7 @@ fn a_lifetime_is_not_0() {
 /// A number is known whatever the row is otherwise, and 0 is a number. Only a row of unknown number,
 /// or no row, leaves a point without a number.
 #[test]
-fn only_an_unknown_number_is_marked() {
+pub fn only_an_unknown_number_is_marked() {
     let known = [
         0,
         1,

@@ -9,3 +9,4 @@ mod originating;
 mod reading_back;
 mod refusals;
 mod splitting;
+mod stand_ins;

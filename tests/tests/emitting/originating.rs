@@ -63,7 +63,7 @@ fn an_announcement_octet_by_octet() {
 }
 
 #[test]
-fn a_root_request_octet_by_octet() {
+pub fn a_root_request_octet_by_octet() {
     let frame = [
         0xFF, 0xFF, 0xFF, 0xFF, 0xFF, 0xFF, // receiver
         130, 37, // ID, Length
@@ -121,7 +121,7 @@ fn flags_of_an_announcement_are_0_or_1() {
 }
 
 #[test]
-fn flags_of_a_root_request_are_0_1_4_or_5() {
+pub fn flags_of_a_root_request_are_0_1_4_or_5() {
     let (before, after) = (table(5, 7, 5000, &rows()), table(6, 8, 5000, &rows()));
     for flags in 0..=255 {
         let what = format!("flags {flags}");

@@ -2,13 +2,13 @@
 //! that the call had to write. An address is one number here, with its first octet lowest.
 
 use hwmp_tests::answers::ACCEPTED;
-use hwmp_tests::implementation::LIBRARY;
 use hwmp_tests::library::Outcome;
 use hwmp_tests::probe::{self, Probe};
 use hwmp_tests::random::Random;
 use hwmp_tests::reference::element::MOST_NUMBERS;
 use hwmp_tests::reference::table::{Head, MAX_ROWS, Row, Table};
 use hwmp_tests::reference::{Address, SequenceNumber};
+use hwmp_tests::stand_ins::tested;
 use hwmp_tests::tables;
 use hwmp_tests::worked::{ALL_ONES, LEAST_OUTPUT};
 
@@ -108,7 +108,7 @@ impl Point {
         let lifetime = tables::some_lifetime(random);
         let items = tables::some_items(&self.octets, random);
         let mut output = [0; LEAST_OUTPUT];
-        let outcome = (LIBRARY.ask)(&mut self.octets, &mut output, lifetime, &items);
+        let outcome = (tested().ask)(&mut self.octets, &mut output, lifetime, &items);
         if outcome.answer != ACCEPTED {
             return 0;
         }
@@ -125,7 +125,7 @@ impl Point {
     fn announce(&mut self, random: &mut Random) -> usize {
         let (flags, lifetime) = (tables::some_flags(random), tables::some_lifetime(random));
         let mut output = [0; LEAST_OUTPUT];
-        let outcome = (LIBRARY.announce)(&mut self.octets, &mut output, flags, lifetime);
+        let outcome = (tested().announce)(&mut self.octets, &mut output, flags, lifetime);
         if outcome.answer != ACCEPTED {
             return 0;
         }
@@ -146,7 +146,7 @@ impl Point {
     fn root_request(&mut self, random: &mut Random) -> usize {
         let (flags, lifetime) = (tables::some_flags(random), tables::some_lifetime(random));
         let mut output = [0; LEAST_OUTPUT];
-        let outcome = (LIBRARY.root_request)(&mut self.octets, &mut output, flags, lifetime);
+        let outcome = (tested().root_request)(&mut self.octets, &mut output, flags, lifetime);
         if outcome.answer != ACCEPTED {
             return 0;
         }
@@ -159,7 +159,7 @@ impl Point {
         let clock = tables::some_clock(&self.octets, random);
         let neighbour = tables::some_neighbour(&self.octets, random);
         let mut output = [0; LEAST_OUTPUT];
-        let outcome = (LIBRARY.report_break)(&mut self.octets, &mut output, clock, &neighbour);
+        let outcome = (tested().report_break)(&mut self.octets, &mut output, clock, &neighbour);
         if outcome.answer != ACCEPTED {
             return 0;
         }
@@ -183,7 +183,7 @@ fn announced(row: &Row) -> SequenceNumber {
 }
 
 #[test]
-fn frames_are_read_back_as_they_were_meant() {
+pub fn frames_are_read_back_as_they_were_meant() {
     let random = &mut Random::announced("reading back", 0x0132_0130);
     let mut frames = [0; 4];
     for _ in 0..TABLES {

@@ -7,9 +7,10 @@ use hwmp_tests::answers::{
 use hwmp_tests::fence::{Fence, Side};
 use hwmp_tests::implementation::Implementation;
 use hwmp_tests::library::Outcome;
+use hwmp_tests::stand_ins::both;
 use hwmp_tests::worked::{
-    Address, BOTH, Call, FREE, GROUP, LAST_CLOCK, LEAST_OUTPUT, OWN, Row, refused,
-    refused_with_room, table,
+    Address, Call, FREE, GROUP, LAST_CLOCK, LEAST_OUTPUT, OWN, Row, refused, refused_with_room,
+    table,
 };
 
 const DESTINATION: Address = [2, 0, 0, 0, 0, 9];
@@ -181,7 +182,7 @@ fn each_call_gives_the_lowest_refusal() {
 
 /// Without a fault the call must be accepted. Otherwise the sets above would show nothing.
 fn accepted_by_both(what: &str, call: Call) {
-    for by in BOTH {
+    for by in both() {
         let outcome = call(by, &mut sample(), &mut [0xA5; LEAST_OUTPUT]);
         assert_eq!(
             (outcome.answer, outcome.frames),
@@ -231,7 +232,7 @@ fn only_whole_tables_of_1_to_128_rows_have_a_length() {
 fn an_output_has_at_least_1560_octets() {
     let fence = &mut Fence::build();
     each_call(|name, call| {
-        for by in BOTH {
+        for by in both() {
             for length in (0..1570).chain([2000, 4096, 65536]) {
                 let output = fence.lend(&vec![0xA5; length], Side::After);
                 let outcome = call(by, &mut sample(), output);

@@ -111,7 +111,7 @@ fn is_bad_list(table: &[u8], received: &Received) -> bool {
 }
 
 #[test]
-fn library_and_reference_agree() {
+pub fn library_and_reference_agree() {
     let run = &mut Run::announced("receiving anything", 0x0021_1778);
     let seen = &mut Tally::default();
     for _ in 0..TABLES {

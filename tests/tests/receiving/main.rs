@@ -16,5 +16,6 @@ mod requests;
 mod runs;
 mod script;
 mod short_loops;
+mod stand_ins;
 mod three_points;
 mod window;

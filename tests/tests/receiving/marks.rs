@@ -1,7 +1,8 @@
 //! Refusal 10 for a number other than 0 that is marked as unknown.
 
 use hwmp_tests::answers::{ACCEPTED, BAD_ADDRESS, BAD_LIST};
-use hwmp_tests::worked::{ALL_ONES, Address, BOTH, FREE, GROUP, LEAST_OUTPUT, OWN, Row, table};
+use hwmp_tests::stand_ins::both;
+use hwmp_tests::worked::{ALL_ONES, Address, FREE, GROUP, LEAST_OUTPUT, OWN, Row, table};
 
 use crate::cases::{A, B, CLOCK, LINK, PATH, T, UNKNOWN, active, receive, refuses, rreq};
 
@@ -18,7 +19,7 @@ const NOT_0: [u32; 7] = [7, 1, 1 << 8, 1 << 16, 1 << 24, 3_000_000_000, u32::MAX
 /// Also where the number would play no part: next to the own address, next to all ones, and where
 /// only the destination itself may reply.
 #[test]
-fn a_marked_number_other_than_0_is_refused_with_10() {
+pub fn a_marked_number_other_than_0_is_refused_with_10() {
     let destinations = [
         ("a row", A),
         ("no row", B),
@@ -39,7 +40,7 @@ fn a_marked_number_other_than_0_is_refused_with_10() {
 
 /// The other destinations have marks, or have none.
 #[test]
-fn marked_numbers_are_judged_in_every_place() {
+pub fn marked_numbers_are_judged_in_every_place() {
     let other = |place: usize| [0x20, 0, 0, 0, 0, place as u8];
     for count in [2, 3, 20] {
         for place in 0..count {
@@ -72,7 +73,7 @@ fn addresses_are_judged_before_marks() {
 
 /// The request must be accepted. Otherwise the refusal of another would show nothing.
 fn is_accepted(element: &[u8]) {
-    for by in BOTH {
+    for by in both() {
         let (table, output) = (&mut table(5, 7, 1000, &ROWS), &mut [0; LEAST_OUTPUT]);
         let outcome = receive(CLOCK, T, LINK, element)(by, table, output);
         assert_eq!(outcome.answer, ACCEPTED, "{element:?} by the {}", by.name);

@@ -6,8 +6,9 @@ use hwmp_tests::answers::{
     NO_ROOM, NOT_A_TABLE, OLD_CLOCK, SHORT_OUTPUT, STALE, TABLE_LENGTH, TOO_MANY_HOPS, UNKNOWN_ID,
 };
 use hwmp_tests::fence::{Fence, Side};
+use hwmp_tests::stand_ins::both;
 use hwmp_tests::worked::{
-    BOTH, FREE, GROUP, LAST_CLOCK, LEAST_OUTPUT, OWN, Row, ZERO, refused, refused_with_room, table,
+    FREE, GROUP, LAST_CLOCK, LEAST_OUTPUT, OWN, Row, ZERO, refused, refused_with_room, table,
 };
 
 use crate::cases::{
@@ -264,7 +265,7 @@ fn each_type_gives_the_lowest_refusal() {
                 // Without a fault the call must be accepted. Otherwise the sets with faults would
                 // show nothing.
                 None => {
-                    for by in BOTH {
+                    for by in both() {
                         let outcome = call(by, &mut table.clone(), &mut output.clone());
                         assert_eq!(outcome.answer, ACCEPTED, "{what}: {}", by.name);
                     }
@@ -298,7 +299,7 @@ fn an_output_has_at_least_1560_octets() {
     let fence = &mut Fence::build();
     let silent = Path { ttl: 1, ..PATH };
     for element in [rann(0, PATH), rann(0, silent)] {
-        for by in BOTH {
+        for by in both() {
             for length in (0..1570).chain([2000, 4096, 65536]) {
                 let output = fence.lend(&vec![0xA5; length], Side::After);
                 let table = &mut table(5, 7, 1000, &[FREE; 2]);
@@ -377,7 +378,7 @@ fn counts_of_entries() {
                 (false, false) => BAD_COUNT,
                 (false, true) => answer,
             };
-            for by in BOTH {
+            for by in both() {
                 let (table, output) = (&mut before.clone(), &mut [0; LEAST_OUTPUT]);
                 let outcome = receive(CLOCK, T, LINK, &element)(by, table, output);
                 let what = format!("{count} entries of {} by the {}", element[0], by.name);

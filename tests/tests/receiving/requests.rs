@@ -101,7 +101,7 @@ fn replies_for_itself(what: &str, own: u32, asked: Asked, next: u32) {
 /// The own number steps by one, whatever a 0 would be to it: newer, older, equal or half the circle
 /// apart. Without a mark a 0 is a number like any other.
 #[test]
-fn a_marked_0_does_not_move_the_own_number() {
+pub fn a_marked_0_does_not_move_the_own_number() {
     for (own, next) in STEPS.into_iter().chain([(3_000_000_000, 3_000_000_001)]) {
         for flags in [0, DO, RF, DO | RF, RESERVED, 0xFF].map(|flags| flags | UNKNOWN) {
             let what = format!("a marked 0 asked of {own}, flags {flags}");
@@ -114,7 +114,7 @@ fn a_marked_0_does_not_move_the_own_number() {
 /// All ones is kept. If a reply is wanted, the own number steps by one, whatever number stands next
 /// to all ones, and whether or not it is marked.
 #[test]
-fn every_point_replies_if_a_reply_is_wanted() {
+pub fn every_point_replies_if_a_reply_is_wanted() {
     let (before, after) = ([FREE, FREE], [LEARNT, NEIGHBOUR]);
     for (flags, wanted) in [
         (4, true),
@@ -202,7 +202,7 @@ const ASKED_WITH_0: [(u32, bool); 8] = [
 /// A marked 0 is compared with no row. DO, RF and the reserved bits do what they do next to a
 /// number, and the mark stays where the request is forwarded.
 #[test]
-fn a_marked_0_is_answered_from_any_known_number() {
+pub fn a_marked_0_is_answered_from_any_known_number() {
     for (number, fresh) in ASKED_WITH_0 {
         let row = Row {
             number,
@@ -217,7 +217,7 @@ fn a_marked_0_is_answered_from_any_known_number() {
 }
 
 #[test]
-fn only_an_active_row_of_known_number_answers() {
+pub fn only_an_active_row_of_known_number_answers() {
     let row = active(A);
     let unknown = row.unknown(40);
     let rows = [
@@ -236,7 +236,7 @@ fn only_an_active_row_of_known_number_answers() {
 
 /// A point that knows a number and may not answer forwards mark and 0 as they are.
 #[test]
-fn a_known_number_is_not_filled_in() {
+pub fn a_known_number_is_not_filled_in() {
     let row = active(A);
     let rows = [
         ("DO", DO, row),
@@ -305,7 +305,7 @@ fn destinations_are_taken_in_order() {
 
 /// Each destination has its own mark. A mark changes nothing for the destinations around it.
 #[test]
-fn marked_destinations_stand_beside_others() {
+pub fn marked_destinations_stand_beside_others() {
     let far = |destination| Row {
         number: 3_000_000_000,
         ..active(destination)
@@ -459,7 +459,7 @@ fn a_unicast_request_follows_the_row() {
 }
 
 #[test]
-fn a_unicast_request_is_answered_like_others() {
+pub fn a_unicast_request_is_answered_like_others() {
     for (mark, number) in [(0, 9), (UNKNOWN, 0)] {
         let asked = |flags| [(flags | mark, A, number)];
         let goes_on = frame(VIA, rreq(UNICAST, ONWARD, &asked(RF | DO)));

@@ -3,7 +3,8 @@
 //! lies outside the premise of demand 3, and there two points do lead to each other.
 
 use hwmp_tests::answers::{ACCEPTED, NO_NEXT_HOP, STALE};
-use hwmp_tests::worked::{BOTH, address};
+use hwmp_tests::stand_ins::both;
+use hwmp_tests::worked::address;
 
 use crate::script::Script;
 
@@ -15,7 +16,7 @@ const E: usize = 4;
 
 /// Runs a list of calls by both implementations, from own number 7 on.
 fn by_both(run: impl Fn(&mut Script)) {
-    for by in BOTH {
+    for by in both() {
         run(&mut Script::fresh(by, &[7; 5]));
     }
 }
@@ -80,7 +81,7 @@ fn a_reply_is_not_taken_back() {
 /// The rule: 0 is newer than 4,294,967,295.
 #[test]
 fn a_number_that_went_round_is_newer() {
-    for by in BOTH {
+    for by in both() {
         let points = &mut Script::fresh(by, &[7, 7, 7, 0xFFFF_FFFE, 7]);
         points.root_request(D);
         assert_eq!(points.deliver(0, A, 2), ACCEPTED);
@@ -98,8 +99,8 @@ const ABOVE_HALF: [u32; 5] = [7, 7, 7, 2_147_483_649, 7];
 /// The rule: a marked 0 is not compared with the own number. Otherwise D would fall back to 1, and
 /// an old announcement would be newer once more.
 #[test]
-fn a_number_does_not_fall_back_for_a_marked_0() {
-    for by in BOTH {
+pub fn a_number_does_not_fall_back_for_a_marked_0() {
+    for by in both() {
         let points = &mut Script::fresh(by, &ABOVE_HALF);
         points.announce(D);
         assert_eq!(points.deliver(0, A, 1), ACCEPTED);
@@ -137,7 +138,7 @@ fn a_worse_link_is_not_taken() {
 /// D, whose numbers are half the circle away from it.
 #[test]
 fn outside_the_premise_a_number_falls_back() {
-    for by in BOTH {
+    for by in both() {
         let points = &mut Script::fresh(by, &ABOVE_HALF);
         // From what D forwards, A makes a row of unknown number for D. Its error is frame 3.
         points.announce(C);

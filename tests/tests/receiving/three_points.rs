@@ -2,7 +2,8 @@
 //! the path through point 1.
 
 use hwmp_tests::answers::{ACCEPTED, STALE};
-use hwmp_tests::worked::{ALL_ONES, Address, BOTH, address};
+use hwmp_tests::stand_ins::both;
+use hwmp_tests::worked::{ALL_ONES, Address, address};
 
 use crate::script::Script;
 
@@ -34,7 +35,7 @@ fn reply(to: Address, hop_count: u8, ttl: u8, metric: u8) -> Vec<u8> {
 
 #[test]
 fn a_request_and_its_reply_teach_both_ways() {
-    for by in BOTH {
+    for by in both() {
         let mut points = Script::fresh(by, &[0, 0, 0]);
         points.ask(0, 1, 2, 1000);
         assert_eq!(points.deliver(0, 1, 10), ACCEPTED, "{}", by.name);

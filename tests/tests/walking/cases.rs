@@ -3,7 +3,8 @@
 use hwmp_tests::answers::{ACCEPTED, NO_ROUTE, TOO_LONG};
 use hwmp_tests::fence::{Fence, Side};
 use hwmp_tests::library::Walked;
-use hwmp_tests::worked::{Address, BOTH, FREE, Row, STRANGER, address, table};
+use hwmp_tests::stand_ins::both;
+use hwmp_tests::worked::{Address, FREE, Row, STRANGER, address, table};
 
 pub const CLOCK: u64 = 1000;
 const EXPIRY: u64 = 6000;
@@ -68,7 +69,7 @@ fn gives_at(
 ) {
     let (fence, count) = (&mut Fence::build(), tables.len() as u32);
     let octets = tables.concat();
-    for by in BOTH {
+    for by in both() {
         for side in Side::BOTH {
             let lent = fence.lend(&octets, side);
             let walked = (by.walk)(lent, count, clock, &start, &destination);

@@ -5,7 +5,8 @@ use hwmp_tests::answers::{
     TABLE_LENGTH,
 };
 use hwmp_tests::library::Walked;
-use hwmp_tests::worked::{Address, BOTH, FREE, GROUP, LAST_CLOCK, STRANGER, ZERO, address};
+use hwmp_tests::stand_ins::both;
+use hwmp_tests::worked::{Address, FREE, GROUP, LAST_CLOCK, STRANGER, ZERO, address};
 
 use crate::cases::{CLOCK, gives, point, row};
 
@@ -45,7 +46,7 @@ fn only_whole_tables_as_many_as_the_count_have_a_length() {
                 && (1..=128).any(|rows| length == count * (32 + 32 * rows));
             fits += u32::from(right);
             let answer = if right { BAD_LIST } else { TABLE_LENGTH };
-            for by in BOTH {
+            for by in both() {
                 let tables = &octets[..length];
                 let walked = (by.walk)(tables, count as u32, 0, &WAY[0], &WAY[1]);
                 let expected = Walked { answer, hops: 0 };
@@ -80,7 +81,7 @@ fn a_count_beyond_16_is_refused() {
             if suits {
                 continue;
             }
-            for by in BOTH {
+            for by in both() {
                 let walked = (by.walk)(&octets, wrong, CLOCK, &way[0], &way[1]);
                 let refused = Walked {
                     answer: TABLE_LENGTH,
@@ -245,7 +246,7 @@ fn the_lowest_fault_is_given() {
                     hops: 2,
                 },
             };
-            for by in BOTH {
+            for by in both() {
                 let walked = (by.walk)(&octets, 3, clock, &start, &destination);
                 assert_eq!(walked, expected, "faults {chosen:b}: {}", by.name);
             }
@@ -259,7 +260,7 @@ fn a_clock_above_the_last_is_refused() {
     let octets = three_points().concat();
     let beyond = (48..64).map(|bit| CLOCK | 1 << bit);
     for clock in beyond.chain([LAST_CLOCK + 1, u64::MAX]) {
-        for by in BOTH {
+        for by in both() {
             let walked = (by.walk)(&octets, 3, clock, &WAY[0], &WAY[1]);
             let refused = Walked {
                 answer: CLOCK_TOO_LARGE,
