@@ -5,6 +5,8 @@
 #include <stdlib.h>
 #include <string.h>
 
+#include "requests.h"
+
 /* Two fills of the output that differ in every bit, so that at least one of them shows a write. */
 enum { FIRST_FILL = 0xaa, SECOND_FILL = 0x55 };
 
@@ -140,6 +142,14 @@ static void check_receivers(const struct call *call, const struct made *made)
         found(call, result, "the frame does not go to all neighbours");
 }
 
+static void check_requests(const struct call *call, const struct made *made)
+{
+    const char *wrong = wrong_request(call, made);
+
+    if (wrong != NULL)
+        found(call, &made->result, wrong);
+}
+
 static void check_walked(const struct call *call, const struct result *result)
 {
     if (result->hops > call->number)
@@ -161,6 +171,7 @@ static void check_accepted(const struct call *call, const struct made *made, uin
     if (may_send(call->entry)) {
         check_output(call, made, fill);
         check_receivers(call, made);
+        check_requests(call, made);
     }
     if (call->entry == WALK)
         check_walked(call, &made->result);
