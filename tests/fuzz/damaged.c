@@ -7,6 +7,7 @@
 #include <string.h>
 
 #include "hwmp.h"
+#include "requests.h"
 
 static volatile uint8_t octet_read;
 
@@ -29,6 +30,63 @@ static uint8_t next_turn(void)
 
     turn ^= 1;
     return turn;
+}
+
+/* Changes each destination of an element, if it is a RREQ. */
+static void change_destinations(uint8_t *element, size_t length, void (*change)(uint8_t *))
+{
+    uint8_t count = count_destinations(element, length);
+
+    for (uint8_t i = 0; i < count; i++)
+        change(element + destination_at(i));
+}
+
+/* Changes each destination of the requests that were sent. */
+static void change_sent(uint8_t *output, const struct hwmp_outcome *outcome,
+                        void (*change)(uint8_t *))
+{
+    uint8_t *frame = output;
+
+    for (uint32_t i = 0; i < outcome->frames; i++) {
+        change_destinations(frame + HWMP_FRAME_ELEMENT_AT,
+                            HWMP_FRAME_OCTETS(frame) - HWMP_FRAME_ELEMENT_AT, change);
+        frame += HWMP_FRAME_OCTETS(frame);
+    }
+}
+
+static void mark_a_0(uint8_t *destination)
+{
+    static const uint8_t zero[4];
+
+    if (memcmp(destination + NUMBER_AT, zero, sizeof zero) == 0)
+        destination[FLAGS_AT] |= NUMBER_UNKNOWN;
+}
+
+static void unmark(uint8_t *destination)
+{
+    destination[FLAGS_AT] &= (uint8_t)~NUMBER_UNKNOWN;
+}
+
+static void number_if_marked(uint8_t *destination, uint32_t number)
+{
+    if ((destination[FLAGS_AT] & NUMBER_UNKNOWN) != 0)
+        memcpy(destination + NUMBER_AT, &number, sizeof number);
+}
+
+static void give_a_number(uint8_t *destination)
+{
+    number_if_marked(destination, 7);
+}
+
+static void take_the_number(uint8_t *destination)
+{
+    number_if_marked(destination, 0);
+}
+
+static void fill_in(uint8_t *destination)
+{
+    give_a_number(destination);
+    unmark(destination);
 }
 
 __typeof__(hwmp_fresh) __real_hwmp_fresh, __wrap_hwmp_fresh;
@@ -105,6 +163,12 @@ struct hwmp_outcome __wrap_hwmp_ask(uint8_t *table, size_t table_len, uint8_t *o
         octet_read = items[items_len];
     if (is("answers 12 to an ask") && outcome.answer == HWMP_NO_LIFETIME)
         outcome.answer = HWMP_TOO_MANY_HOPS;
+    if (is("marks a known 0"))
+        change_sent(output, &outcome, mark_a_0);
+    if (is("marks no unknown number"))
+        change_sent(output, &outcome, unmark);
+    if (is("sends a marked number"))
+        change_sent(output, &outcome, give_a_number);
     return outcome;
 }
 
@@ -134,6 +198,8 @@ struct hwmp_outcome __wrap_hwmp_root_request(uint8_t *table, size_t table_len, u
 
     if (is("asks one neighbour only") && outcome.answer == HWMP_ACCEPTED)
         output[0] = 2;
+    if (is("asks for everyone without a mark"))
+        change_sent(output, &outcome, unmark);
     return outcome;
 }
 
@@ -201,6 +267,25 @@ static void damage_accepted(struct hwmp_outcome *outcome, uint8_t *table, uint8_
         output[6] = 1;
     if (is("sends by turns"))
         output[8] ^= next_turn();
+    if (is("forwards no mark"))
+        change_sent(output, outcome, unmark);
+    if (is("forwards a number instead of a mark"))
+        change_sent(output, outcome, fill_in);
+}
+
+/* Writes what is received instead, and reports whether it differs. */
+static int damage_received(uint8_t *received, const uint8_t *table, size_t table_len,
+                           const uint8_t *element, size_t element_len)
+{
+    uint8_t count = count_destinations(element, element_len);
+
+    memcpy(received, element, element_len);
+    if (is("accepts a marked number"))
+        change_destinations(received, element_len, take_the_number);
+    for (uint8_t i = 0; is("compares a marked 0") && table_len >= 6 && i < count; i++)
+        if (memcmp(received + destination_at(i) + ADDRESS_AT, table, 6) == 0)
+            unmark(received + destination_at(i));
+    return memcmp(received, element, element_len) != 0;
 }
 
 __typeof__(hwmp_receive) __real_hwmp_receive, __wrap_hwmp_receive;
@@ -210,9 +295,11 @@ struct hwmp_outcome __wrap_hwmp_receive(uint8_t *table, size_t table_len, uint8_
                                         const uint8_t *transmitter, uint32_t link_metric,
                                         const uint8_t *element, size_t element_len)
 {
+    uint8_t received[MOST_ELEMENT_OCTETS];
+    int differs = damage_received(received, table, table_len, element, element_len);
     struct hwmp_outcome outcome =
         __real_hwmp_receive(table, table_len, output, output_len, clock, transmitter, link_metric,
-                            element, element_len);
+                            differs ? received : element, element_len);
 
     if (is("writes behind the table"))
         write_to(table + table_len);
