@@ -59,17 +59,17 @@ static void mark_a_0(uint8_t *destination)
     static const uint8_t zero[4];
 
     if (memcmp(destination + NUMBER_AT, zero, sizeof zero) == 0)
-        destination[FLAGS_AT] |= NUMBER_UNKNOWN;
+        destination[FLAGS_AT] |= HWMP_NUMBER_UNKNOWN;
 }
 
 static void unmark(uint8_t *destination)
 {
-    destination[FLAGS_AT] &= (uint8_t)~NUMBER_UNKNOWN;
+    destination[FLAGS_AT] &= (uint8_t)~HWMP_NUMBER_UNKNOWN;
 }
 
 static void number_if_marked(uint8_t *destination, uint32_t number)
 {
-    if ((destination[FLAGS_AT] & NUMBER_UNKNOWN) != 0)
+    if ((destination[FLAGS_AT] & HWMP_NUMBER_UNKNOWN) != 0)
         memcpy(destination + NUMBER_AT, &number, sizeof number);
 }
 

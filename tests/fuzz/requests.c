@@ -16,7 +16,7 @@ static uint32_t number_at(const uint8_t *octets)
 
 static int is_marked(const uint8_t *destination)
 {
-    return (destination[FLAGS_AT] & NUMBER_UNKNOWN) != 0;
+    return (destination[FLAGS_AT] & HWMP_NUMBER_UNKNOWN) != 0;
 }
 
 uint8_t count_destinations(const uint8_t *element, size_t length)
@@ -73,7 +73,7 @@ static int is_asked_right(const struct call *call, const uint8_t *destination, u
 {
     const uint8_t *item = call->octets + (size_t)place * HWMP_ITEM_OCTETS;
     const uint8_t *row = known_row(call, item + HWMP_ITEM_ADDRESS_AT);
-    uint8_t flags = item[HWMP_ITEM_FLAGS_AT] | (row == NULL ? NUMBER_UNKNOWN : 0);
+    uint8_t flags = item[HWMP_ITEM_FLAGS_AT] | (row == NULL ? HWMP_NUMBER_UNKNOWN : 0);
     uint32_t number = row == NULL ? 0 : number_at(row + ROW_NUMBER_AT);
 
     return destination[FLAGS_AT] == flags &&
@@ -84,7 +84,7 @@ static int is_asked_right(const struct call *call, const uint8_t *destination, u
 static int is_for_everyone(const uint8_t *destination)
 {
     static const uint8_t everyone[DESTINATION_OCTETS] = {
-        DO | RF | NUMBER_UNKNOWN, 0xff, 0xff, 0xff, 0xff, 0xff, 0xff};
+        HWMP_ITEM_DO | HWMP_ITEM_RF | HWMP_NUMBER_UNKNOWN, 0xff, 0xff, 0xff, 0xff, 0xff, 0xff};
 
     return memcmp(destination, everyone, sizeof everyone) == 0;
 }
@@ -97,7 +97,7 @@ static int is_forwarded_right(const struct call *call, const uint8_t *destinatio
     if (received == NULL)
         return 0;
     return (destination[FLAGS_AT] == received[FLAGS_AT] ||
-            destination[FLAGS_AT] == (received[FLAGS_AT] | DO)) &&
+            destination[FLAGS_AT] == (received[FLAGS_AT] | HWMP_ITEM_DO)) &&
            memcmp(destination + NUMBER_AT, received + NUMBER_AT, 4) == 0;
 }
 

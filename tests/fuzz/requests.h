@@ -11,9 +11,6 @@
 enum { DESTINATION_OCTETS = 11 };
 enum { FLAGS_AT = 0, ADDRESS_AT = 1, NUMBER_AT = 7 };
 
-/* Flags of a destination. The last is the mark of a 0 that is no number. */
-enum { DO = 1, RF = 2, NUMBER_UNKNOWN = 4 };
-
 /* Returns how many destinations the element has. What is not a whole RREQ has none. */
 uint8_t count_destinations(const uint8_t *element, size_t length);
 
