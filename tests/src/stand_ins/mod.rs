@@ -48,8 +48,16 @@ pub fn all_fail((stand_in, tests): Noticed) {
     }
 }
 
+/// The comparison must fail with each of the stand-ins.
+pub fn each_is_noticed_by(comparison: fn(), stand_ins: &[Noticed]) {
+    for (stand_in, _) in stand_ins {
+        let noticed = fails_with(stand_in, comparison);
+        assert!(noticed, "{}: unnoticed", stand_in.name);
+    }
+}
+
 /// Reports whether the test fails if the stand-in takes the library's place.
-pub fn fails_with(stand_in: &'static Implementation, test: fn()) -> bool {
+fn fails_with(stand_in: &'static Implementation, test: fn()) -> bool {
     hide_failures_that_may_be();
     let library = TESTED.replace(stand_in);
     MAY_FAIL.set(true);

@@ -2,7 +2,7 @@
 //! must notice it.
 
 use hwmp_tests::stand_ins::{
-    MARKS_A_KNOWN_0, MARKS_NO_ROOT_REQUEST, MARKS_NO_ROW, Noticed, all_fail, fails_with,
+    MARKS_A_KNOWN_0, MARKS_NO_ROOT_REQUEST, MARKS_NO_ROW, Noticed, all_fail, each_is_noticed_by,
 };
 
 use crate::{asking, originating, reading_back};
@@ -36,11 +36,8 @@ fn cases_notice_each_wrong_rule() {
 
 #[test]
 fn random_calls_notice_each_wrong_rule() {
-    for (stand_in, _) in STAND_INS {
-        let noticed = fails_with(
-            stand_in,
-            reading_back::frames_are_read_back_as_they_were_meant,
-        );
-        assert!(noticed, "{}: unnoticed", stand_in.name);
-    }
+    each_is_noticed_by(
+        reading_back::frames_are_read_back_as_they_were_meant,
+        &STAND_INS,
+    );
 }
