@@ -330,27 +330,27 @@ endsWithRequest n flags e =
 
 abbrev pub furtherCases : List Bool
 furtherCases =
-    -- Own number 3,000,000,000, asked for with an unknown number: reply 3,000,000,001.
+    -- U1: own number 3,000,000,000, asked for with an unknown number: reply 3,000,000,001.
     acceptedWith (repliesWith 3000000001) (askedAt3Billion (targetWith 4 point 0 ∷ []))
     -- Asked for with a known 0, which is newer than 3,000,000,000: reply 1.
     ∷ acceptedWith (repliesWith 1) (askedAt3Billion (targetWith 0 point 0 ∷ []))
-    -- Unknown beside 7: refused (10), for the own address, for all ones, and for the second of two destinations. Unknown beside 0
-    -- and known beside 7 are accepted.
+    -- U2: 7 marked unknown: refused (10), for the own address, for all ones, and for the second of two destinations. A marked 0
+    -- next to an unmarked 7 is accepted.
     ∷ refusedWith 10 (askedAt3Billion (targetWith 4 point 7 ∷ []))
     ∷ refusedWith 10 (askedAt3Billion (targetWith 7 allOnes 7 ∷ []))
     ∷ refusedWith 10 (askedAt3Billion (targetWith 4 (other 0) 0 ∷ targetWith 4 (other 1) 7 ∷ []))
     ∷ acceptedWith (λ e. true) (askedAt3Billion (targetWith 4 (other 0) 0 ∷ targetWith 0 (other 1) 7 ∷ []))
-    -- A row of number 3,000,000,000, asked for with an unknown number: intermediate reply 3,000,000,000.
+    -- U3: a row of number 3,000,000,000, asked for with an unknown number: intermediate reply 3,000,000,000.
     ∷ acceptedWith (λ e. firstIsReply (other 0) 3000000000 (e .frames)) (askedBeside3Billion 4)
-    -- Asked for with a known 0, which is newer than 3,000,000,000: no reply, and the RREQ goes on.
+    -- Asked for with a known 0, which is newer than 3,000,000,000: no reply, and the RREQ is forwarded.
     ∷ acceptedWith (endsWithRequest 1 0) (askedBeside3Billion 0)
-    -- A destination that goes on keeps 'number unknown': after a reply with RF, when DO is set, and without a reply.
+    -- U4: a destination that is forwarded keeps 'number unknown': after a reply with RF, when DO is set, and without a reply.
     ∷ acceptedWith (endsWithRequest 2 7) (askedBeside3Billion 6)
     ∷ acceptedWith (endsWithRequest 1 5) (askedBeside3Billion 5)
-    -- An ask without a row, and with a row of unknown number: unknown. With a row of known number 0: known.
+    -- U5: an ask without a row, and with a row of unknown number: unknown. With a row of known number 0: known.
     ∷ acceptedWith (endsWithRequest 1 5) (askFor freeRow)
     ∷ acceptedWith (endsWithRequest 1 5) (askFor unnumbered)
     ∷ acceptedWith (endsWithRequest 1 1) (askFor (row 2 originator 0 40))
-    -- A root request: DO, RF and number unknown.
+    -- U6: a root request: DO, RF and number unknown.
     ∷ acceptedWith (endsWithRequest 1 7) (rootRequest (lend (tableWith 0 (freeRow ∷ []))) leastOutput 0 1000)
     ∷ []
