@@ -1,4 +1,5 @@
--- Laws of numbers that are marked unknown: the own number steps by one, and only 0 is marked.
+-- Laws of numbers that are marked unknown: the own number steps by one, a destination that is kept keeps its mark, and only 0 is
+-- marked.
 use Prim.Native.Nat.{ℕ, _+_, _*_, _/_, _%_, _^_, _<_, _≤_}
 use mathlib.Core.Path.{_≡_, refl, sym, ap, subst, _∙_}
 use mathlib.Core.Bool.{Bool, true, false, _&&_, _||_, and-true, and-false}
@@ -41,7 +42,7 @@ use Rattle.rules.specs.Break.{brokenOff, breaking, breakNeighbour}
 use Rattle.rules.specs.Calls.{Call, receives, makes, asks, announces, requestsAsRoot, breaks, decision}
 use Rattle.rules.proofs.Rulings.{listed, passed, passed-check}
 use Rattle.rules.proofs.Branches.{cond-cases}
-use Rattle.rules.proofs.Alls.{all-one, all-append, all-before, all-after, all-map, apart, apart-from, any-fails, each-fails}
+use Rattle.rules.proofs.Alls.{all-one, all-implies, all-append, all-before, all-after, all-map, apart, apart-from, any-fails, each-fails}
 use Rattle.rules.proofs.Tables.{Keeps, number-fits, request-fits, head-number}
 use Rattle.rules.proofs.Learning.{learnt-keeps}
 use Rattle.rules.proofs.Emitting.{to-all-emitted, rann-emitted, rreq-emitted, rrep-emitted, replies-emitted, errors-emitted}
@@ -173,42 +174,57 @@ module _ (l : Lent) (octets : Octets (l .table)) (room : ℕ) (a : Arrival) (s :
       ∙ head-number t u (ok .whole) k (done .number) (requestId t) (a .clock) (fits .number) (request-fits t (ok .whole)) (ok .clock)
       ∙ stepped
 
+-- ---- what is kept of a destination
+
+-- States that k has the address, the number and the mark of q.
+abbrev pub KeepsMark : Target → Target → Type 0
+KeepsMark q k = (k .address ≡ q .address) × (k .number ≡ q .number) × (numberUnknown k ≡ numberUnknown q)
+
+with-do-keeps : (q : Target) → KeepsMark q (withDO q)
+unfolding withDO bit
+with-do-keeps q =
+    let kept : (2 * (q .flags / 2) + 1) / 4 % 2 ≡ q .flags / 4 % 2 = omega arith in
+    (refl, refl, ap (λ (b : ℕ). eqb b 1) kept)
+
+module _ (u : List ℕ) (a : Arrival) (p : PathInfo) (n : SequenceNumber) (q : Target) where
+  abbrev KeptSo : Answered → Type 0
+  KeptSo x = All (KeepsMark q) (x .kept)
+
+  as-received : KeepsMark q q
+  as-received = (refl, refl, refl)
+
+  another-keeps : (o : Option Row) → KeptSo (forAnother u a p n q o)
+  unfolding forAnother All
+  another-keeps none = (as-received, tt)
+  another-keeps (some r) =
+      cond-cases KeptSo (answersFor (a .clock) q r)
+      (λ _. cond-cases (All (KeepsMark q)) (hasRF q) (λ _. all-one (KeepsMark q) (withDO q) (with-do-keeps q)) (λ _. tt)) (λ _. (as-received, tt))
+
+  pub keeps-mark : KeptSo (answered u a p n q)
+  unfolding answered forOneself forAllOnes All
+  keeps-mark =
+      cond-cases KeptSo (same (q .address) (own u)) (λ _. tt)
+      (λ _. cond-cases KeptSo (same (q .address) allOnes)
+      (λ _. cond-cases KeptSo (replyWanted p) (λ _. (as-received, tt)) (λ _. (as-received, tt)))
+      (λ _. another-keeps (rowFor u (q .address))))
+
 -- ---- what is marked
 
 -- States that a destination is not marked, or that its number is 0.
 abbrev Fair : Target → Type 0
 Fair q = isMismarked q ≡ false
 
-with-do-fair : (q : Target) → Fair q → Fair (withDO q)
-unfolding withDO bit
-with-do-fair q h = let kept : (2 * (q .flags / 2) + 1) / 4 % 2 ≡ q .flags / 4 % 2 = omega arith in rw kept h
+kept-fair : (q : Target) → Fair q → (k : Target) → KeepsMark q k → Fair k
+kept-fair q fair k kept = rw (kept .2, kept .1) fair
 
 module _ (u : List ℕ) (a : Arrival) (p : PathInfo) where
-  module _ (n : SequenceNumber) (q : Target) (fair : Fair q) where
-    abbrev KeptFair : Answered → Type 0
-    KeptFair x = All Fair (x .kept)
-
-    another-fair : (o : Option Row) → KeptFair (forAnother u a p n q o)
-    unfolding forAnother All
-    another-fair none = (fair, tt)
-    another-fair (some r) =
-        cond-cases KeptFair (answersFor (a .clock) q r)
-        (λ _. cond-cases (All Fair) (hasRF q) (λ _. all-one Fair (withDO q) (with-do-fair q fair)) (λ _. tt)) (λ _. (fair, tt))
-
-    kept-fair : KeptFair (answered u a p n q)
-    unfolding answered forOneself forAllOnes All
-    kept-fair =
-        cond-cases KeptFair (same (q .address) (own u)) (λ _. tt)
-        (λ _. cond-cases KeptFair (same (q .address) allOnes)
-        (λ _. cond-cases KeptFair (replyWanted p) (λ _. (fair, tt)) (λ _. (fair, tt)))
-        (λ _. another-fair (rowFor u (q .address))))
-
   all-kept-fair : (qs : List Target) → All Fair qs → (n : SequenceNumber) → All Fair (allAnswered u a p n qs .kept)
   unfolding allAnswered All
   all-kept-fair [] fair n = tt
   all-kept-fair (q ∷ qs) fair n =
       let this : Answered = answered u a p n q in
-      all-append Fair (this .kept) (allAnswered u a p (this .number) qs .kept) (kept-fair n q (fair .0)) (all-kept-fair qs (fair .1) (this .number))
+      all-append Fair (this .kept) (allAnswered u a p (this .number) qs .kept)
+      (all-implies (KeepsMark q) Fair (kept-fair q (fair .0)) (this .kept) (keeps-mark u a p n q)) (all-kept-fair qs (fair .1) (this .number))
 
 -- An ask marks a number only where it writes 0.
 unmarked-fair : (i : Item) (n : SequenceNumber) → hasHighFlags i ≡ false → Fair (withKnown i n)

@@ -15,13 +15,13 @@ use Rattle.rules.specs.Calls.{receives, makes, asks, announces, requestsAsRoot,
 use Rattle.rules.proofs.Alls.{all-map}
 use Rattle.rules.proofs.Sending.{FrameFits}
 use Rattle.rules.proofs.CallsKeep.{Kept, call-kept}
-use Rattle.rules.proofs.Unknown.{just-steps, call-marks}
+use Rattle.rules.proofs.Unknown.{just-steps, keeps-mark, call-marks}
 use Rattle.rules.proofs.Room.{call-room, output-room}
 use Rattle.rules.proofs.Output.{written, element-in, all-read, together, cut-output, first-octets}
 use Rattle.rules.proofs.Hops.{walk-hops}
 use Rattle.rules.proofs.StaysTable.{fresh-stays, forget-stays}
 use Rattle.bench_rules.proofs.InParts.{obeyed-in-parts}
-use Rattle.theorems.specs.Statements.{EdgesHold, ErrorsShutOut, FurtherCasesHold, UnknownJustSteps, OnlyZeroIsUnknown, StaysTable, FreshIsTable, ForgetStaysTable, HasRoom, FramesInOutput, ReadsAsElement, ReadsBack, HopsAtMost, LoopFree, NeverTooLong, NotVacuous, Sharp, ElseTheRules, NeedsExclusions, NeedsPremise, ObeysInParts, PrintsWorkedCase}
+use Rattle.theorems.specs.Statements.{EdgesHold, ErrorsShutOut, FurtherCasesHold, UnknownJustSteps, KeepsTheMark, OnlyZeroIsUnknown, StaysTable, FreshIsTable, ForgetStaysTable, HasRoom, FramesInOutput, ReadsAsElement, ReadsBack, HopsAtMost, LoopFree, NeverTooLong, NotVacuous, Sharp, ElseTheRules, NeedsExclusions, NeedsPremise, ObeysInParts, PrintsWorkedCase}
 use Rattle.theorems.specs.WrongRules.{ruledBy}
 use Rattle.theorems.specs.Runs.{endOf, way, outside, outsideLoops}
 use Rattle.theorems.proofs.AllEdges.{all-edges, all-shut-out, all-further}
@@ -42,6 +42,9 @@ further-cases = all-further
 pub unknown-just-steps : UnknownJustSteps
 unfolding decision
 unknown-just-steps l octets room a s fit = just-steps l octets room a s (fit .0) (fit .1)
+
+pub keeps-the-mark : KeepsTheMark
+keeps-the-mark = keeps-mark
 
 pub only-0-is-unknown : OnlyZeroIsUnknown
 only-0-is-unknown = call-marks

@@ -9,6 +9,7 @@
 --   P ⊎ Q               P or Q holds
 --   x ≡ y               x equals y
 --   λ x. e              the function that takes x to e
+--   x ∷ l               the entry x followed by the list l
 --   l ++ k              the list l followed by the list k
 --   all test l ≡ true   every entry of the list l passes the test
 --   All (λ x. P) l      P holds for every entry x of the list l
@@ -23,6 +24,7 @@
 --   OperandsFit call           C's types can hold the operands of the call
 --   decision l room call       what the rules decide on a call that is lent l and an output of `room` octets
 --   accepted e                 the call is accepted; its effect e is the `Lent` that it leaves and the frames that it emits
+--   readElement s              the element that the octets s are read as; `rreq f targets` is a RREQ with these destinations
 --   atExit l output decision   answer, frames and octets reported, and all lent octets, when the call has ended
 use Prim.Native.Nat.{ℕ, _+_, _^_, _<_, _≤_}
 use mathlib.Core.Path.{_≡_}
@@ -36,6 +38,7 @@ use Rattle.counters.specs.Numbers.{nextNumber}
 use Rattle.layout.specs.declared.address.Address.{Address}
 use Rattle.layout.specs.Address.{same}
 use Rattle.table.specs.Table.{own, number, isTable}
+use Rattle.element.specs.declared.PathInfo.{PathInfo}
 use Rattle.element.specs.declared.RreqFields.{RreqFields}
 use Rattle.element.specs.declared.Target.{Target}
 use Rattle.element.specs.Element.{rreq, targetsOf}
@@ -49,6 +52,7 @@ use Rattle.rules.specs.declared.Arrival.{Arrival}
 use Rattle.rules.specs.Exit.{Frame, Lent, Effect, frameOctets, leastOutput, Exit, atExit, framesAt, elementIn, readFrame}
 use Rattle.rules.specs.Fresh.{makeFresh}
 use Rattle.rules.specs.Forget.{forget}
+use Rattle.rules.specs.Destinations.{answered}
 use Rattle.rules.specs.Errors.{broken}
 use Rattle.rules.specs.Receive.{isMismarked, isStaleFor}
 use Rattle.rules.specs.Calls.{Call, receives, decision, OperandsFit}
@@ -90,8 +94,8 @@ FurtherCasesHold = all (λ b. b) furtherCases ≡ true
 
 -- ---- unknown numbers
 
--- `unknown-just-steps`: If a point accepts a RREQ that names the point itself and marks its number unknown, the own number steps
--- by one. This holds whatever the own number is, and whatever else the RREQ names.
+-- `unknown-just-steps`: If a point accepts a RREQ that names the point itself and marks the requested number unknown, the own
+-- number steps by one. This holds whatever the own number is, and whatever else the RREQ names.
 abbrev pub UnknownJustSteps : Type 0
 UnknownJustSteps =
     (l : Lent) → Octets (l .table) → (room : ℕ) (a : Arrival) (s : List ℕ) → OperandsFit (receives a s)
@@ -99,6 +103,14 @@ UnknownJustSteps =
     → same (q .address) (own (l .table)) ≡ true → numberUnknown q ≡ true
     → (e : Effect) → decision l room (receives a s) ≡ accepted e
     → number (e .lent .table) ≡ nextNumber (number (l .table))
+
+-- `keeps-the-mark`: Each destination k that a point keeps of a destination q, to forward it, has the address, the number and the
+-- mark of q. This holds whatever the point knows of q, and whether DO is set on the way or not.
+abbrev pub KeepsTheMark : Type 0
+KeepsTheMark =
+    (t : List ℕ) (a : Arrival) (p : PathInfo) (n : SequenceNumber) (q : Target)
+    → All (λ (k : Target). (k .address ≡ q .address) × (k .number ≡ q .number) × (numberUnknown k ≡ numberUnknown q))
+    (answered t a p n q .kept)
 
 -- `only-0-is-unknown`: In all frames that any accepted call emits, only the number 0 is marked unknown. No point therefore
 -- refuses (10) a frame of another point because of the mark.
@@ -181,6 +193,7 @@ HopsAtMost = (s : List ℕ) (count c : ℕ) (from d : Address) (w : Walked) → 
 -- The calls may have any operands that C's types can hold. A receive brings any element sent so far, from its sender.
 -- Elements may therefore come late, repeatedly, in any order or never.
 -- Take any destination d and any window of 2^31 consecutive numbers, where 0 follows 4,294,967,295.
+-- A number that a RREQ marks unknown does not count among the numbers carried (`targetNumber` in `Premise.antt`).
 -- If, before the first call and after each call, all numbers held or carried for d lie in the window,
 -- then, after the last call, the walk along valid rows for d, from any start and with any number of hops, meets no point twice.
 --
