@@ -226,7 +226,7 @@ enum hwmp_element_id {
 #define HWMP_ITEM_RF 2
 
 /*
- * Flag of a RREQ's destination: the point that sent the RREQ knows no number for the destination.
+ * Flag of a RREQ's destination: the originator of the RREQ knows no number for the destination.
  * The number beside it is 0 and plays no part. hwmp_ask and hwmp_root_request set the flag; an
  * item may not have it. The other flags of a destination are those of an item.
  */
@@ -385,12 +385,12 @@ struct hwmp_outcome hwmp_break(uint8_t *table, size_t table_len, uint8_t *output
  *
  * Forwarding. A forwarded RREQ keeps all ones, each destination that the point did not reply
  * for, and each destination that it replied for from a row and that has RF (DO is then set, and
- * the other flags stay). If no destination is left, the point does not forward the RREQ. The RREQ goes to all ones, or if
- * unicast to the next hop of its destination. A RANN goes to all ones. A RREQ and a RANN need
- * TTL 2 or more to be forwarded. A RREP goes to the next hop of its source, unless the source
- * is this point. Where a next hop is needed and no row is active, nothing is sent. In a
- * forwarded RANN, RREQ or RREP the hop count is one higher, the TTL one lower, and the link
- * metric added to the metric.
+ * the other flags stay). If no destination is left, the point does not forward the RREQ. The
+ * RREQ goes to all ones, or if unicast to the next hop of its destination. A RANN goes to all
+ * ones. A RREQ and a RANN need TTL 2 or more to be forwarded. A RREP goes to the next hop of
+ * its source, unless the source is this point. Where a next hop is needed and no row is active,
+ * nothing is sent. In a forwarded RANN, RREQ or RREP the hop count is one higher, the TTL one
+ * lower, and the link metric added to the metric.
  *
  * Errors. A RERR invalidates each active row of known number that it names and whose next hop
  * is the transmitter. If the received number is newer than the row's number, the row takes the

@@ -286,7 +286,7 @@ shutOut =
 
 -- ---- further cases: unknown numbers
 
--- Returns a valid row for the originator of unknown number, which a point makes for its neighbour.
+-- Returns a valid row of unknown number for the originator, as a point makes it for its neighbour.
 abbrev unnumbered : Row
 unnumbered =
     record {
@@ -330,9 +330,9 @@ endsWithRequest n flags e =
 
 abbrev pub furtherCases : List Bool
 furtherCases =
-    -- U1: own number 3,000,000,000, asked for with an unknown number: reply 3,000,000,001.
+    -- U1: own number 3,000,000,000, asked for with a 0 marked unknown: reply 3,000,000,001.
     acceptedWith (repliesWith 3000000001) (askedAt3Billion (targetWith 4 point 0 ∷ []))
-    -- Asked for with a known 0, which is newer than 3,000,000,000: reply 1.
+    -- Asked for with a 0 that is not marked, which is newer than 3,000,000,000: reply 1.
     ∷ acceptedWith (repliesWith 1) (askedAt3Billion (targetWith 0 point 0 ∷ []))
     -- U2: 7 marked unknown: refused (10), for the own address, for all ones, and for the second of two destinations. A marked 0
     -- next to an unmarked 7 is accepted.
@@ -340,11 +340,11 @@ furtherCases =
     ∷ refusedWith 10 (askedAt3Billion (targetWith 7 allOnes 7 ∷ []))
     ∷ refusedWith 10 (askedAt3Billion (targetWith 4 (other 0) 0 ∷ targetWith 4 (other 1) 7 ∷ []))
     ∷ acceptedWith (λ e. true) (askedAt3Billion (targetWith 4 (other 0) 0 ∷ targetWith 0 (other 1) 7 ∷ []))
-    -- U3: a row of number 3,000,000,000, asked for with an unknown number: intermediate reply 3,000,000,000.
+    -- U3: a row of number 3,000,000,000, asked for with a 0 marked unknown: intermediate reply 3,000,000,000.
     ∷ acceptedWith (λ e. firstIsReply (other 0) 3000000000 (e .frames)) (askedBeside3Billion 4)
-    -- Asked for with a known 0, which is newer than 3,000,000,000: no reply, and the RREQ is forwarded.
+    -- Asked for with a 0 that is not marked, which is newer than 3,000,000,000: no reply, and the RREQ is forwarded.
     ∷ acceptedWith (endsWithRequest 1 0) (askedBeside3Billion 0)
-    -- U4: a destination that is forwarded keeps 'number unknown': after a reply with RF, when DO is set, and without a reply.
+    -- U4: a destination that is forwarded keeps 'number unknown': with DO set after a reply (RF), and without a reply.
     ∷ acceptedWith (endsWithRequest 2 7) (askedBeside3Billion 6)
     ∷ acceptedWith (endsWithRequest 1 5) (askedBeside3Billion 5)
     -- U5: an ask without a row, and with a row of unknown number: unknown. With a row of known number 0: known.

@@ -44,7 +44,8 @@ heldByAll d boxes = flatMap (λ (l : Lent). held d (l .table)) boxes
 abbrev pub pathNumber : Address → PathInfo → List SequenceNumber
 pathNumber d p = beside d (p .subject) (p .number)
 
--- Returns the number with a destination of a RREQ if the destination is d. A 0 that is marked unknown does not count.
+-- Returns the number with a destination of a RREQ if the destination is d. A number that is marked unknown does not count. Only
+-- 0 is ever marked (`only-0-is-unknown`).
 abbrev pub targetNumber : Address → Target → List SequenceNumber
 targetNumber d q = cond (numberUnknown q) [] (beside d (q .address) (q .number))
 

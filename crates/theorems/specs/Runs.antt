@@ -502,7 +502,7 @@ outside =
     (C requests-as-root 0
     ∷ D gets 0 over 1 at 0
     ∷ A gets 1 over 1 at 0
-    -- The RERR is element 3. It names D with number 0.
+    -- The RERR is element 3. It names C with number 2 and D with number 0.
     ∷ A loses D
     -- D sends 4 with number 2,147,483,650. A 2147483650/1 via D, and A forwards 5. B 2147483650/2 via A, and B forwards 6.
     -- C 2147483650/2 via A, and C forwards 7.

@@ -1,4 +1,4 @@
-//! Refusal 10 for a number other than 0 that is marked as unknown.
+//! Refusal 10 for a number other than 0 that is marked unknown.
 
 use hwmp_tests::answers::{ACCEPTED, BAD_ADDRESS, BAD_LIST};
 use hwmp_tests::stand_ins::both;

@@ -135,7 +135,7 @@ fn a_worse_link_is_not_taken() {
 }
 
 /// The error of a break has no mark for the 0 of an unknown number. The 0 is therefore carried for
-/// D, whose numbers are half the circle away from it.
+/// D, whose number is more than half the circle ahead of it, so that the 0 is newer.
 #[test]
 fn outside_the_premise_a_number_falls_back() {
     for by in both() {
