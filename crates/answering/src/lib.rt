@@ -1,4 +1,6 @@
 // Finds the row that answers for a destination of a received RREQ.
+#![tactic(auto)]
+
 ghost use Rattle.std.specs.Prelude.{◌≡◌};
 ghost use Rattle.rules.specs.Destinations.{answers_for};
 ghost use Rattle.answering.specs.Answering.{answering_row, answering_in};
@@ -11,7 +13,7 @@ use table::search;
 use table::search::Found;
 
 // The row from which the point makes an intermediate reply, or nobody if no row answers.
-#[derive(Drop)]
+#[derive(Clone, Copy)]
 pub enum Answering {
     By(Row),
     Nobody,

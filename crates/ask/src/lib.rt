@@ -1,4 +1,6 @@
 // Ask: the point sends a RREQ of its own for 1 to 20 destinations.
+#![tactic(auto)]
+
 ghost use Rattle.std.specs.Prelude.{◌≡◌, ◌+◌, ◌*◌, ◌/◌, ◌≤◌, length};
 ghost use mathlib.Core.List.{flat_map, map};
 ghost use Rattle.octets.specs.LittleEndian.{overwrite};

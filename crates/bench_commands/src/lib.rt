@@ -1,4 +1,6 @@
 // The octets of a command of the bench: how many there are, and whether some are still to come.
+#![tactic(auto)]
+
 ghost use Rattle.std.specs.Prelude.{◌≡◌};
 ghost use Rattle.bench_rules.specs.Interpreter.{is_cut, length_of};
 

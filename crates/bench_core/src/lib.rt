@@ -1,4 +1,6 @@
 // The bench: up to 16 points, the links between them and the frames that they have sent. Commands drive it.
+#![tactic(auto)]
+
 pub mod interpreter;
 mod operands;
 mod settle;

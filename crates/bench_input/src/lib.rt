@@ -1,4 +1,6 @@
 // Commands come in blocks of standard input. A block may end inside a command.
+#![tactic(auto)]
+
 ghost use Rattle.std.specs.Prelude.{◌≡◌, ◌&&◌, ◌||◌, false, eqb, ◌+◌, ◌-◌, ◌<◌, ◌≤◌, drop, length, take};
 ghost use Rattle.bench_rules.specs.Interpreter.{is_cut};
 ghost use Rattle.bench_input.specs.Reading.{Extends, Keeps, Unread, left, past};
@@ -7,7 +9,7 @@ use libc::STDIN_FILENO;
 
 // The unread octets are the octets of the buffer that are not obeyed yet: those from place `from` on and before place `filled`.
 // `last` says whether standard input has ended. `offset` is the offset of the first unread octet in the input.
-#[derive(Drop)]
+#[derive(Clone, Copy)]
 pub struct Cursor {
     pub from: usize,
     pub filled: usize,

@@ -1,4 +1,6 @@
 // The bench's link metrics: one for every pair of points, equal both ways.
+#![tactic(auto)]
+
 ghost use Rattle.std.specs.Prelude.{◌≡◌, ◌<◌};
 ghost use Rattle.bench_links.specs.Links.{linked, metric_of, no_links};
 

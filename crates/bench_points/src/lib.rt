@@ -1,4 +1,6 @@
 // The points of the bench and the links between them: the commands that emit no frames, and the result of a command.
+#![tactic(auto)]
+
 pub mod links;
 pub mod points;
 
@@ -6,7 +8,7 @@ ghost use Rattle.std.specs.Prelude.{◌≡◌};
 ghost use Rattle.bench_points.specs.InCode.{printed};
 
 // What the bench holds besides its memory: how many points and frames there are, and the clock.
-#[derive(Drop)]
+#[derive(Clone, Copy)]
 pub struct State {
     pub points: usize,
     pub frames: usize,
@@ -14,7 +16,7 @@ pub struct State {
 }
 
 // What a command prints after its own number, and what the bench holds after the command.
-#[derive(Drop)]
+#[derive(Clone, Copy)]
 pub struct Printed {
     pub answer: u32,
     pub third: u32,
@@ -24,7 +26,7 @@ pub struct Printed {
 }
 
 // The result of a command: a line, or a fault that ends the bench.
-#[derive(Drop)]
+#[derive(Clone, Copy)]
 pub enum Done {
     Line(Printed),
     Fault,

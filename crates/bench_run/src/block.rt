@@ -13,7 +13,7 @@ use libc::STDOUT_FILENO;
 
 // Holds how far the commands have come: octets of the block used, octets of the text written, whether the bench has ended, and
 // the numbers that the bench holds.
-#[derive(Drop)]
+#[derive(Clone, Copy)]
 pub struct Progress {
     pub used: usize,
     pub written: usize,

@@ -1,4 +1,6 @@
 // Runs the bench on standard input and output.
+#![tactic(auto)]
+
 mod block;
 mod turn;
 

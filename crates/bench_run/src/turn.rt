@@ -9,7 +9,7 @@ use bench_input::Cursor;
 use bench_points::State;
 
 // Holds whether the bench has ended, which octets are still to be obeyed, and the numbers that the bench holds.
-#[derive(Drop)]
+#[derive(Clone, Copy)]
 pub struct Turn {
     pub ended: bool,
     pub cursor: Cursor,

@@ -1,4 +1,6 @@
 // The frames that the points have sent, each kept in a slot with the number of its sender.
+#![tactic(auto)]
+
 ghost use Rattle.std.specs.Prelude.{◌≡◌, not, ◌∷◌, ◌+◌, ◌*◌, ◌<◌, ◌≤◌, get_or, length};
 ghost use Rattle.octets.specs.LittleEndian.{overwrite};
 ghost use Rattle.rules.specs.Decision.{◌above◌};

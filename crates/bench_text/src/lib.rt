@@ -1,4 +1,6 @@
 // The lines that the bench prints.
+#![tactic(auto)]
+
 ghost use Rattle.std.specs.Prelude.{◌≡◌, [], ◌∷◌, ◌++◌, ◌+◌, ◌<◌, ◌≤◌, length};
 ghost use Rattle.octets.specs.LittleEndian.{overwrite};
 ghost use Rattle.bench_rules.specs.Text.{decimal, fault_text, line_text};

@@ -15,7 +15,7 @@ use layout::address::Address;
 const MOST_LOST: usize = 25;
 
 // Holds the number of destinations reported, the place after them, and the number that fills the RERRs begun so far.
-#[derive(Drop)]
+#[derive(Clone, Copy)]
 pub struct Reported {
     pub lost: usize,
     pub place: usize,

@@ -1,4 +1,6 @@
 // Shared parts of the calls: their answers, the checks of a neighbour and a clock, and a received path extended by its link.
+#![tactic(auto)]
+
 pub mod clocked;
 pub mod here;
 
@@ -13,14 +15,14 @@ pub const LEAST_OUTPUT: usize = 1560;
 pub const INITIAL_TTL: u8 = 31;
 
 // The answer of a call that writes no frame, or of the check of a call that may write frames.
-#[derive(Drop)]
+#[derive(Clone, Copy)]
 pub enum Answer {
     Accepted,
     Refused(u32),
 }
 
 // How many frames and octets a call has written to the output.
-#[derive(Drop)]
+#[derive(Clone, Copy)]
 pub struct Emitted {
     pub frames: u32,
     pub octets: u32,
@@ -48,7 +50,7 @@ impl Emitted {
 }
 
 // The outcome of a call that may emit frames.
-#[derive(Drop)]
+#[derive(Clone, Copy)]
 pub enum Outcome {
     Accepted(Emitted),
     Refused(u32),

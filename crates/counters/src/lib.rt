@@ -1,19 +1,21 @@
 // Each of the four kinds of counter is a struct of one number, so that none can stand in for another.
+#![tactic(auto)]
+
 pub mod own;
 
 ghost use Rattle.std.specs.Prelude.{◌≡◌, ◌+◌, ◌%◌, ◌^◌};
 ghost use Rattle.counters.specs.Numbers.{newer, next_number, next_request, older};
 
-#[derive(Drop)]
+#[derive(Clone, Copy)]
 pub struct SequenceNumber(pub u32);
 
-#[derive(Drop)]
+#[derive(Clone, Copy)]
 pub struct RequestId(pub u32);
 
-#[derive(Drop)]
+#[derive(Clone, Copy)]
 pub struct Metric(pub u32);
 
-#[derive(Drop)]
+#[derive(Clone, Copy)]
 pub struct HopCount(pub u8);
 
 // Returns n + 1. After 4,294,967,295 comes 0.

@@ -5,7 +5,7 @@ ghost use Rattle.counters.specs.Numbering.{advanced_for};
 use crate::{RequestId, SequenceNumber};
 
 // Holds the counters with which a point numbers its elements.
-#[derive(Drop)]
+#[derive(Clone, Copy)]
 pub struct OwnCounters {
     pub number: SequenceNumber,
     pub request: RequestId,

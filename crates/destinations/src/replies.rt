@@ -22,7 +22,7 @@ use layout::row::{Head, Row};
 use rules::Arrival;
 
 // Holds the own number so far, the number of replies written, and the place after them in the output.
-#[derive(Drop)]
+#[derive(Clone, Copy)]
 pub struct Replied {
     pub number: SequenceNumber,
     pub frames: u32,

@@ -31,7 +31,7 @@ pub const LOST: usize = 10;
 pub const ITEM: usize = 7;
 
 // The kind of entries in a list: destinations of a RREQ, dependents of a RREP, destinations of a RERR, or items of an ask.
-#[derive(Drop)]
+#[derive(Clone, Copy)]
 pub enum ListKind {
     Targets,
     Dependents,

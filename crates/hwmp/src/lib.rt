@@ -1,4 +1,6 @@
 // The calls for C, on numbers and octet buffers. `include/hwmp.h` declares them.
+#![tactic(auto)]
+
 ghost use Rattle.std.specs.Prelude.{◌≡◌, ◌≤◌};
 ghost use Rattle.layout.specs.Address.{address_of};
 ghost use Rattle.rules.specs.Exit.{lend};
@@ -28,14 +30,14 @@ use table_calls::{forget, fresh, next_hop};
 use walk::Walked;
 
 #[repr(C)]
-#[derive(Drop)]
+#[derive(Clone, Copy)]
 pub struct HwmpHop {
     pub answer: u32,
     pub address: [u8; 6],
 }
 
 #[repr(C)]
-#[derive(Drop)]
+#[derive(Clone, Copy)]
 pub struct HwmpOutcome {
     pub answer: u32,
     pub frames: u32,

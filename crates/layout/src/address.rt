@@ -4,7 +4,7 @@ ghost use Rattle.layout.specs.Address.{address_of, individual, octets_of};
 ghost use Rattle.layout.specs.Marks.{mark};
 
 // Holds six octets as a little-endian number: the first octet is the lowest.
-#[derive(Drop)]
+#[derive(Clone, Copy)]
 pub struct Address(pub u64);
 
 pub fn read(s: &[u8; 6]) -> Address

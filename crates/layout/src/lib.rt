@@ -1,4 +1,6 @@
 // Addresses, and the head and the rows of a table, as values and in octets.
+#![tactic(auto)]
+
 pub mod address;
 pub mod row;
 pub mod well_formed;

@@ -22,7 +22,7 @@ const UNREACHABLE: u32 = 4294967295;
 
 // A head and a row have their fields in the order of the octets. In a table, `zero2`, `zero8` and `zero` are 0 (refusal 21). In
 // a row, `known` is 1 if the number is known, `hops` is the hop count, and `next` is the next hop.
-#[derive(Drop)]
+#[derive(Clone, Copy)]
 pub struct Head {
     pub own: Address,
     pub zero2: u16,
@@ -32,7 +32,7 @@ pub struct Head {
     pub zero8: u64,
 }
 
-#[derive(Drop)]
+#[derive(Clone, Copy)]
 pub struct Row {
     pub status: u8,
     pub known: u8,

@@ -1,4 +1,6 @@
 // Checks a received RANN, RREQ or RREP against the table, and learns from it. The checks are refusals 24, 25 and 27.
+#![tactic(auto)]
+
 mod room;
 mod stale;
 mod steps;

@@ -17,7 +17,7 @@ use rules::Arrival;
 use table::search;
 
 // The number next to a destination in the RERR, or nothing if the RERR does not name the destination.
-#[derive(Drop)]
+#[derive(Clone, Copy)]
 pub enum Beside {
     Number(SequenceNumber),
     Nothing,

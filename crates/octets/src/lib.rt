@@ -1,5 +1,7 @@
 // Reads and writes little-endian numbers in lent octets. The reads have the widths that layouts need. The writes also take any
 // width, for one number or for several side by side. Other functions read, copy and clear plain octets.
+#![tactic(auto)]
+
 ghost use Rattle.std.specs.Prelude.{◌≡◌, ◌+◌, ◌<◌, ◌≤◌, get_or, length};
 ghost use Rattle.octets.specs.LittleEndian.{Octets, number_at, overwrite, total, with_fields, with_number, zeros};
 

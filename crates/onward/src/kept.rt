@@ -11,7 +11,7 @@ use element::{Target, flags, list};
 use layout::row;
 
 // What becomes of a destination in the forwarded RREQ: it is kept in this form, or struck out.
-#[derive(Drop)]
+#[derive(Clone, Copy)]
 pub enum Kept {
     As(Target),
     Struck,

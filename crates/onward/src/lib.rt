@@ -1,4 +1,6 @@
 // Forwards a received RANN, RREQ or RREP. The table is the one after steps 1 and 2.
+#![tactic(auto)]
+
 pub mod announcement;
 mod kept;
 pub mod reply;

@@ -1,5 +1,7 @@
 // Entries through which tests and benchmarks reach elements: one reads an element as numbers, one writes an element again as a
 // frame, and one reports the faults of its list. They are no part of the library that C links.
+#![tactic(auto)]
+
 mod again;
 mod numbers;
 

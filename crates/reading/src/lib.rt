@@ -1,5 +1,7 @@
 // Reads elements: checks refusals 6, 7 and 8, and returns the fixed fields by value and the list part as a part of the caller's
 // octets.
+#![tactic(auto)]
+
 ghost use Rattle.std.specs.Prelude.{◌≡◌, [], ◌++◌, ◌∷◌, ◌+◌, ◌≤◌, get_or, length};
 ghost use Rattle.octets.specs.LittleEndian.{fields_at};
 ghost use Rattle.element.specs.Layout.{count_ok, fits, id_of, kind_with, length_with};
@@ -23,7 +25,7 @@ use element::{Kind, NumberedAddress, PathInfo, RerrFields, RrepFields, RreqField
 use layout::address::Address;
 
 // The fixed fields of an element, or a refusal. `list_part` returns the list part.
-#[derive(Drop)]
+#[derive(Clone, Copy)]
 pub enum Reading {
     Announcement(PathInfo),
     Request(RreqFields),

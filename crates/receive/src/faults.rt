@@ -15,7 +15,7 @@ use layout::address::Address;
 
 // Holds whether the element is at fault in its addresses (9), in its list or in how its addresses go together (10), and in its
 // TTL (14).
-#[derive(Drop)]
+#[derive(Clone, Copy)]
 pub struct Faults {
     pub address: bool,
     pub list: bool,

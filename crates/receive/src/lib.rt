@@ -1,4 +1,6 @@
 // Receives an element: checks its refusals in order, and then does what its type asks.
+#![tactic(auto)]
+
 mod announcement;
 mod error;
 mod faults;

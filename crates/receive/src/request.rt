@@ -28,7 +28,7 @@ use onward::request;
 use rules::Arrival;
 
 // Holds the own number after a RREQ was answered, and what was written.
-#[derive(Drop)]
+#[derive(Clone, Copy)]
 pub struct Sent {
     pub number: SequenceNumber,
     pub emitted: Emitted,

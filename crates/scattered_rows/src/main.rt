@@ -1,6 +1,8 @@
 // Fills a table of four rows, and frees two rows that are apart. One announcement that needs two rows takes both, and a
 // further announcement is refused with 27. The bench cannot show a full table: a point there has 16 rows but at most 15 other
 // points, and the bench has no command to forget.
+#![tactic(auto)]
+
 ghost use Rattle.std.specs.Prelude.{◌≡◌, ◌<◌, length};
 
 use calls::{LEAST_OUTPUT, Outcome};

@@ -9,7 +9,7 @@ use layout::row;
 use layout::row::{HEAD_OCTETS, ROW_OCTETS};
 
 // The place of a row in the table, or none.
-#[derive(Drop)]
+#[derive(Clone, Copy)]
 pub enum Found {
     At(usize),
     Nothing,
@@ -73,7 +73,7 @@ pub fn find_row(table: &[u8], d: Address) -> Found
 }
 
 // The next hop of a row, or none.
-#[derive(Drop)]
+#[derive(Clone, Copy)]
 pub enum NextHop {
     To(Address),
     Nobody,

@@ -13,7 +13,7 @@ use table::search::Found;
 use table::{legal, search};
 
 // The place of the row to free, or the refusal of lowest number.
-#[derive(Drop)]
+#[derive(Clone, Copy)]
 pub enum Check {
     Row(usize),
     Refused(u32),

@@ -9,7 +9,7 @@ use table::search::NextHop;
 use table::{legal, search};
 
 // The next hop of an active row, or a refusal.
-#[derive(Drop)]
+#[derive(Clone, Copy)]
 pub enum Hop {
     Via(Address),
     Refused(u32),

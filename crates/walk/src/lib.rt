@@ -1,4 +1,6 @@
 // Walks over tables side by side: finds out whether active rows lead from a start to a destination, and in how many hops.
+#![tactic(auto)]
+
 pub mod pieces;
 mod way;
 
@@ -22,7 +24,7 @@ const NO_ROUTE: u32 = 41;
 const TOO_LONG: u32 = 42;
 
 // How a walk ends: with the hops walked, or with a refusal.
-#[derive(Drop)]
+#[derive(Clone, Copy)]
 pub enum Ending {
     Arrived(HopCount),
     Stopped(HopCount),
@@ -32,7 +34,7 @@ pub enum Ending {
 
 // Holds the answer and the hops as numbers. C receives them, and the bench prints them.
 #[repr(C)]
-#[derive(Drop)]
+#[derive(Clone, Copy)]
 pub struct Walked {
     pub answer: u32,
     pub hops: u32,

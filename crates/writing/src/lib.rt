@@ -1,5 +1,7 @@
 // Writes frames into a lent output, each as a receiver address and an element. Every function that writes a whole frame, the
 // start of a frame or an entry returns the place after the octets that it wrote. The rest of the output stays unchanged.
+#![tactic(auto)]
+
 ghost use Rattle.std.specs.Prelude.{◌≡◌, ◌++◌, ◌+◌, ◌≤◌, length};
 ghost use Rattle.octets.specs.LittleEndian.{field_octets, number_octets, overwrite, total};
 ghost use Rattle.element.specs.declared.Kind.{Kind};
