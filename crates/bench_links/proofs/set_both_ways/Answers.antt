@@ -1,0 +1,7 @@
+use borrow.Author.Rules.{rules}
+use Rattle.bench_links.specs.Links.{linked}
+use Rattle.bench_links.proofs.set_both_ways.Goals as goal
+
+pub returns : goal.returns
+unfolding linked
+returns c = search rules

@@ -1,0 +1,8 @@
+-- `layout::row::destination_at` meets its contract, by unfolding the definition.
+use Rattle.octets.specs.LittleEndian.{fields_at}
+use Rattle.layout.specs.Layout.{row_at}
+use Rattle.layout.proofs.row.destination_at.Goals as goal
+
+pub returns : goal.returns
+unfolding row_at fields_at
+returns c = cc

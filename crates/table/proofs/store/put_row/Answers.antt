@@ -1,0 +1,12 @@
+-- `table::store::put_row` meets its contract: it writes the row to its place, or there is no place.
+use Rattle.table.proofs.Cases.{place_within, stored_row, stored_none}
+use Rattle.table.proofs.store.put_row.Goals as goal
+
+pub write_row-requires : goal.write_row-requires
+write_row-requires c = search place_within
+
+pub returns-in-At : goal.returns-in-At
+returns-in-At c = search stored_row
+
+pub returns-in-Nothing : goal.returns-in-Nothing
+returns-in-Nothing c = search stored_none
