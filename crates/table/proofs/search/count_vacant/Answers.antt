@@ -7,7 +7,11 @@ pub loop-i-init : goal.loop-i-init
 loop-i-init c = search (rules, count_none)
 
 pub loop-i-preserved : goal.loop-i-preserved
-loop-i-preserved c = ( search rules, counted_le _ _ _ c.is-vacant.result c.counted-found.ensures (search rules), count_more _ _ _ _ c.is-vacant.result c.is-vacant.ensures c.loop-i.invariant.2 c.counted-found.ensures, )
+loop-i-preserved c = (
+  search rules,
+  counted_le _ _ _ c.is_vacant.result c.counted-found.ensures (search rules),
+  count_more _ _ _ _ c.is_vacant.result c.is_vacant.ensures c.loop-i.invariant.2 c.counted-found.ensures,
+)
 
 pub returns : goal.returns
 returns c = search count_ended
