@@ -63,7 +63,8 @@ module _ {A : Type 0} (f : A → List ℕ) (long : ℕ) where
   pieces [] h = refl
   pieces (x ∷ l) h =
       let each_long : length (flat_map f (x ∷ l)) / length (x ∷ l) ≡ long = rw (lengths_added (x ∷ l) h) (mul-div_cancel long (omega arith)) in
-      rw each_long (pieces_from [] (x ∷ l) 0 (sym (mul-zero long)) h)
+      let P : ℕ → Type 0 = λ n. each (table_at (flat_map f (x ∷ l)) n) 0 (length (x ∷ l)) ≡ map f (x ∷ l) in
+      subst P (sym each_long) (pieces_from [] (x ∷ l) 0 (sym (mul-zero long)) h)
 
 -- ---- the tables of a mesh by address
 

@@ -1,0 +1,18 @@
+-- `onward::reply::send_to` meets its contract: it writes no frame or one, by the receiver.
+use Rattle.onward.proofs.Going.{reply_none, reply_unwritten, reply_room, reply_counted, reply_written}
+use Rattle.onward.proofs.reply.send_to.Goals as goal
+
+pub returns-in_default-clause-value : goal.returns-in_default-clause-value
+returns-in_default-clause-value c = search reply_none
+
+pub returns-in_default-clause-output_after : goal.returns-in_default-clause-output_after
+returns-in_default-clause-output_after c = search reply_unwritten
+
+pub one_frame-requires : goal.one_frame-requires
+one_frame-requires c = search reply_room
+
+pub returns-clause-value : goal.returns-clause-value
+returns-clause-value c = search reply_counted
+
+pub returns-clause-output_after : goal.returns-clause-output_after
+returns-clause-output_after c = search reply_written
