@@ -1,11 +1,11 @@
-// Commands come in blocks of standard input. A block may end inside a command.
+// Commands come in blocks of the bench's input. A block may end inside a command.
 #![tactic(auto)]
 
 ghost use Rattle.std.specs.Prelude.{◌≡◌, ◌&&◌, ◌||◌, false, eqb, ◌+◌, ◌-◌, ◌<◌, ◌≤◌, drop, length, take};
 ghost use Rattle.bench_rules.specs.Interpreter.{is_cut};
 ghost use Rattle.bench_input.specs.Reading.{Extends, Keeps, Unread, left, past};
 
-use libc::STDIN_FILENO;
+use std::io::Read;
 
 // The unread octets are the octets of the buffer that are not obeyed yet: those from place `from` on and before place `filled`.
 // `last` says whether standard input has ended. `offset` is the offset of the first unread octet in the input.
@@ -46,18 +46,20 @@ fn move_to_start(buffer: &mut [u8], from: usize, filled: usize) -> usize
 
 // Reads once into the buffer from place `at` on, and returns how many octets came: 0 at the end of the input or if the read
 // fails.
-fn read_from(buffer: &mut [u8], at: usize) -> usize
+fn read_from<R: Read>(input: &mut R, buffer: &mut [u8], at: usize) -> usize
     requires { at ≤ length buffer.old }
     ensures result_in_bounds { at + result ≤ length buffer.new }
     ensures keeps { Keeps at buffer.old buffer.new }
 {
     let part = &mut buffer[at..];
-    let got = libc::read(STDIN_FILENO, part);
-    io::count(got, part)
+    match input.read(part) {
+        Ok(got) => got,
+        Err(_) => 0,
+    }
 }
 
 // Moves the unread octets to the start of the buffer, and reads more octets after them. The input has ended if none come.
-fn read_more(buffer: &mut [u8], c: Cursor) -> Cursor
+fn read_more<R: Read>(input: &mut R, buffer: &mut [u8], c: Cursor) -> Cursor
     requires { Unread c buffer.old }
     ensures unread { Unread result buffer.new }
     ensures offset_value { result.offset ≡ c.offset }
@@ -65,7 +67,7 @@ fn read_more(buffer: &mut [u8], c: Cursor) -> Cursor
     ensures last_value { result.last ≡ eqb (result.filled - result.from) (c.filled - c.from) }
 {
     let left = move_to_start(buffer, c.from, c.filled);
-    let filled = left + read_from(buffer, left);
+    let filled = left + read_from(input, buffer, left);
     Cursor {
         from: 0,
         filled,
@@ -76,7 +78,7 @@ fn read_more(buffer: &mut [u8], c: Cursor) -> Cursor
 
 // Reads more octets only if the next command is cut. The bench therefore obeys a whole command before it waits for more input.
 // The input has ended if no octets come.
-pub fn refill(buffer: &mut [u8], c: Cursor) -> Cursor
+pub fn refill<R: Read>(input: &mut R, buffer: &mut [u8], c: Cursor) -> Cursor
     requires { Unread c buffer.old }
     ensures unread { Unread result buffer.new }
     ensures offset_value { result.offset ≡ c.offset }
@@ -92,7 +94,7 @@ pub fn refill(buffer: &mut [u8], c: Cursor) -> Cursor
     if !bench_commands::is_cut(&buffer[from..filled]) {
         return c;
     }
-    read_more(buffer, c)
+    read_more(input, buffer, c)
 }
 
 // Returns the cursor after the bench has obeyed `used` more octets.

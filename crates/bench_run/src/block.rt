@@ -9,7 +9,7 @@ ghost use Rattle.bench_run.specs.Blocks.{Stands, Uses, course_of, pauses_in, sta
 
 use bench_core::interpreter;
 use bench_points::{Done, Printed, State};
-use libc::STDOUT_FILENO;
+use std::io::Print;
 
 // Holds how far the commands have come: octets of the block used, octets of the text written, whether the bench has ended, and
 // the numbers that the bench holds.
@@ -152,9 +152,9 @@ pub fn obey_block(
     p
 }
 
-// Prints the first n octets of the text.
-pub fn print(text: &[u8], n: usize)
+// Prints the first n octets of the text. What becomes of a write that fails is not the bench's concern: it obeys on.
+pub fn print<R: Print>(rt: &R, text: &[u8], n: usize)
     requires { n ≤ length text.now }
 {
-    io::write_all(STDOUT_FILENO, &text[..n]);
+    let _ = rt.write_all(&text[..n]);
 }

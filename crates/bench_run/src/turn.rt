@@ -7,6 +7,7 @@ ghost use Rattle.bench_run.specs.Turns.{GoesOn, ReadAndTurned, Ready, Turned};
 use crate::block;
 use bench_input::Cursor;
 use bench_points::State;
+use std::io::{Print, Read};
 
 // Holds whether the bench has ended, which octets are still to be obeyed, and the numbers that the bench holds.
 #[derive(Clone, Copy)]
@@ -17,7 +18,8 @@ pub struct Turn {
 }
 
 // Obeys what has been read, and prints its lines at once. The bench ends at a fault, or with the last octet of the input.
-fn obey_unread(
+fn obey_unread<R: Print>(
+    rt: &R,
     c: Cursor,
     s: State,
     buffer: &[u8],
@@ -40,7 +42,7 @@ fn obey_unread(
     let long = filled - from;
     let block = &buffer[from..filled];
     let p = block::obey_block(block, last, c.offset, s, tables, slots, links, text);
-    block::print(text, p.written);
+    block::print(rt, text, p.written);
     let used = p.used;
     let cursor = bench_input::go_past(c, used);
     let state = State {
@@ -55,7 +57,9 @@ fn obey_unread(
     }
 }
 
-pub fn take_turn(
+pub fn take_turn<R: Print, I: Read>(
+    rt: &R,
+    input: &mut I,
     c: Cursor,
     s: State,
     buffer: &mut [u8],
@@ -72,6 +76,6 @@ pub fn take_turn(
         (standing s c.offset tables.old slots.old links.old)
         (left c buffer.old) buffer.new tables.new slots.new links.new }
 {
-    let unread = bench_input::refill(buffer, c);
-    obey_unread(unread, s, buffer, tables, slots, links, text)
+    let unread = bench_input::refill(input, buffer, c);
+    obey_unread(rt, unread, s, buffer, tables, slots, links, text)
 }
