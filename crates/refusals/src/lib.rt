@@ -1,7 +1,6 @@
 // Names the numbered refusals of docs/PROTOCOL.md, 'Refusals'. Definitions use the numbers, and code uses the names.
 #![tactic(auto)]
 
-
 // The table's length is not 32 + 32R with R from 1 to 128. Walk: the count is not 1 to 16, or the octets are not as many tables
 // as the count says, all of one length that a table may have.
 pub const TABLE_LENGTH: u32 = 1;

@@ -9,8 +9,8 @@ use calls::{LEAST_OUTPUT, Outcome};
 use counters::{Metric, SequenceNumber};
 use layout::address::Address;
 use layout::{address, row};
-use libc::STDOUT_FILENO;
 use rules::Arrival;
+use std::io::{self, Print};
 use table_calls::{forget, fresh};
 
 // Returns the address 2,0,0,0,0,i.
@@ -25,14 +25,12 @@ fn announcement(i: u8) -> [u8; 23] {
     ]
 }
 
-fn print_answer(call: &[u8], answer: u32) {
-    io::write_all(STDOUT_FILENO, call);
-    io::print_decimal(STDOUT_FILENO, answer as u64);
-    io::write_all(STDOUT_FILENO, b"\n");
+fn print_answer(rt: &impl Print, call: &str, answer: u32) -> io::Result<()> {
+    println!(rt; "{call} {answer}")
 }
 
 // Receives the announcement of the originator from the transmitter, and prints the answer.
-fn hear(table: &mut [u8], originator: u8, transmitter: u8) {
+fn hear(rt: &impl Print, table: &mut [u8], originator: u8, transmitter: u8) -> io::Result<()> {
     let mut output = [0u8; LEAST_OUTPUT];
     let arrival = Arrival {
         clock: 0,
@@ -40,78 +38,73 @@ fn hear(table: &mut [u8], originator: u8, transmitter: u8) {
         link: Metric(10),
     };
     match receive::receive(table, &mut output, arrival, &announcement(originator)) {
-        Outcome::Accepted(_) => print_answer(b"receive ", 0),
-        Outcome::Refused(n) => print_answer(b"receive ", n),
+        Outcome::Accepted(_) => print_answer(rt, "receive", 0),
+        Outcome::Refused(n) => print_answer(rt, "receive", n),
     }
 }
 
-fn forget_point(table: &mut [u8], i: u8) {
+fn forget_point(rt: &impl Print, table: &mut [u8], i: u8) -> io::Result<()> {
     print_answer(
-        b"forget ",
+        rt,
+        "forget",
         calls::number_of(forget::forget(table, point(i))),
-    );
+    )
 }
 
-// Prints the last octet of the destination in row i: 0 if the row is free.
-fn print_row(table: &[u8], i: usize)
+// Returns the last octet of the destination in row i: 0 if the row is free.
+fn last_octet(table: &[u8], i: usize) -> u8
     requires table_len { length table.now ≡ 160 }
     requires i_bound { i < 4 }
 {
-    io::write_all(STDOUT_FILENO, b" ");
-    io::print_decimal(
-        STDOUT_FILENO,
-        row::destination_at(table, i).octets()[5] as u64,
-    );
+    row::destination_at(table, i).octets()[5]
 }
 
-fn print_rows(table: &[u8])
+// Prints the last octet of the destination in each row.
+fn print_rows(rt: &impl Print, table: &[u8]) -> io::Result<()>
     requires { length table.now ≡ 160 }
 {
-    io::write_all(STDOUT_FILENO, b"rows");
-    print_row(table, 0);
-    print_row(table, 1);
-    print_row(table, 2);
-    print_row(table, 3);
-    io::write_all(STDOUT_FILENO, b"\n");
+    let first = last_octet(table, 0);
+    let second = last_octet(table, 1);
+    let third = last_octet(table, 2);
+    let fourth = last_octet(table, 3);
+    println!(rt; "rows {first} {second} {third} {fourth}")
 }
 
-fn fill(table: &mut [u8])
+fn fill(rt: &impl Print, table: &mut [u8]) -> io::Result<()>
     requires { length table.old ≡ 160 }
 {
-    print_answer(
-        b"fresh ",
-        calls::number_of(fresh::make_fresh(table, point(1), SequenceNumber(0))),
-    );
-    hear(table, 2, 2);
-    hear(table, 3, 3);
-    hear(table, 4, 4);
-    hear(table, 5, 5);
-    print_rows(table);
+    let answer = calls::number_of(fresh::make_fresh(table, point(1), SequenceNumber(0)));
+    print_answer(rt, "fresh", answer)?;
+    hear(rt, table, 2, 2)?;
+    hear(rt, table, 3, 3)?;
+    hear(rt, table, 4, 4)?;
+    hear(rt, table, 5, 5)?;
+    print_rows(rt, table)
 }
 
 // Frees rows 1 and 3.
-fn free_two(table: &mut [u8])
+fn free_two(rt: &impl Print, table: &mut [u8]) -> io::Result<()>
     requires { length table.old ≡ 160 }
 {
-    forget_point(table, 3);
-    forget_point(table, 5);
-    print_rows(table);
+    forget_point(rt, table, 3)?;
+    forget_point(rt, table, 5)?;
+    print_rows(rt, table)
 }
 
 // Receives an announcement whose originator takes row 1 and whose transmitter takes row 3. Then no row is free, and the next
 // announcement is refused.
-fn take_two(table: &mut [u8])
+fn take_two(rt: &impl Print, table: &mut [u8]) -> io::Result<()>
     requires { length table.old ≡ 160 }
 {
-    hear(table, 6, 7);
-    print_rows(table);
-    hear(table, 8, 8);
-    print_rows(table);
+    hear(rt, table, 6, 7)?;
+    print_rows(rt, table)?;
+    hear(rt, table, 8, 8)?;
+    print_rows(rt, table)
 }
 
-fn main() {
+fn main(rt: HostRuntime) -> io::Result<()> {
     let mut table = [0u8; 160];
-    fill(&mut table);
-    free_two(&mut table);
-    take_two(&mut table);
+    fill(&rt, &mut table)?;
+    free_two(&rt, &mut table)?;
+    take_two(&rt, &mut table)
 }
