@@ -15,7 +15,7 @@ use Rattle.layout.specs.declared.row.Head.{Head}
 use Rattle.layout.specs.declared.row.Row.{Row}
 use Rattle.layout.specs.Row.{head_with, invalidated, raised, is_through}
 use Rattle.layout.specs.Layout.{head_at, put_head, rows, place, row_at, put_row, row_octets, Sized, most_rows}
-use Rattle.table.specs.Table.{number, change_at, change_below, change_where}
+use Rattle.table.specs.Table.{change_at, change_below, change_where}
 use Rattle.table.proofs.Changes.{row_stays, row_changed, below_start, below_more, below_all}
 use Rattle.counters.specs.declared.SequenceNumber.{SequenceNumber}
 use Rattle.counters.specs.Numbers.{next_number}

@@ -8,7 +8,7 @@ use borrow.Author.Tests.{eqb-true, eq-eqb, leb-true, le-leb}
 use Rattle.counters.specs.declared.SequenceNumber.{SequenceNumber}
 use Rattle.layout.specs.declared.address.Address.{Address}
 use Rattle.layout.specs.declared.row.Row.{Row}
-use Rattle.layout.specs.Row.{unreachable, is_unnumbered, is_other, status_ok, bounds_ok, is_held, numbered, invalidated, raised}
+use Rattle.layout.specs.Row.{unreachable, is_unnumbered, is_other, status_ok, bounds_ok, is_held, invalidated, raised}
 use Rattle.layout.proofs.HeadAndRows.{FitRow}
 
 both : {a b : Bool} → (a && b) ≡ true → (a ≡ true) × (b ≡ true)

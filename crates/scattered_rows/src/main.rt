@@ -51,23 +51,24 @@ fn forget_point(rt: &impl Print, table: &mut [u8], i: u8) -> io::Result<()> {
     )
 }
 
-// Returns the last octet of the destination in row i: 0 if the row is free.
-fn last_octet(table: &[u8], i: usize) -> u8
+// Prints the last octet of the destination in row i: 0 if the row is free.
+fn print_row(rt: &impl Print, table: &[u8], i: usize) -> io::Result<()>
     requires table_len { length table.now ≡ 160 }
     requires i_bound { i < 4 }
 {
-    row::destination_at(table, i).octets()[5]
+    let last = row::destination_at(table, i).octets()[5];
+    print!(rt; " {last}")
 }
 
-// Prints the last octet of the destination in each row.
 fn print_rows(rt: &impl Print, table: &[u8]) -> io::Result<()>
     requires { length table.now ≡ 160 }
 {
-    let first = last_octet(table, 0);
-    let second = last_octet(table, 1);
-    let third = last_octet(table, 2);
-    let fourth = last_octet(table, 3);
-    println!(rt; "rows {first} {second} {third} {fourth}")
+    print!(rt; "rows")?;
+    print_row(rt, table, 0)?;
+    print_row(rt, table, 1)?;
+    print_row(rt, table, 2)?;
+    print_row(rt, table, 3)?;
+    println!(rt; "")
 }
 
 fn fill(rt: &impl Print, table: &mut [u8]) -> io::Result<()>

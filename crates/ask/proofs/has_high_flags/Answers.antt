@@ -1,4 +1,3 @@
-use Prim.Native.Nat.{◌-◌}
 use borrow.Author.Rules.{rules}
 use Rattle.rules.proofs.AnyOf.{any_start, any_ended}
 use Rattle.ask.proofs.Asked.{high_found, high_more}

@@ -1,4 +1,3 @@
-use Prim.Native.Nat.{◌-◌}
 use borrow.Author.Rules.{rules}
 use Rattle.writing.proofs.Written.{entries_ended}
 use Rattle.ask.proofs.Asked.{asked_start, asked_more}

@@ -1,4 +1,3 @@
-use Prim.Native.Nat.{◌-◌}
 use borrow.Author.Rules.{rules}
 use Rattle.bench_slots.proofs.Slots.{keep_start, holds_start, next_begins, next_ends, next_holds, keep_more, keep_ended}
 use Rattle.bench_slots.proofs.keep_frames.Goals as goal

@@ -1,4 +1,3 @@
-use Prim.Native.Nat.{◌-◌}
 use borrow.Author.Rules.{rules}
 use Rattle.bench_run.proofs.Stepping.{to_the_end}
 use Rattle.bench_run.proofs.Looping.{none_obeyed, first_stands, going_memory, cut_pauses, room_pauses, one_obeyed, block_over}

@@ -1,4 +1,3 @@
-use Prim.Native.Nat.{◌-◌}
 use native.Mathlib.Omega.{arith}
 use borrow.Author.Rules.{rules}
 use Rattle.destinations.proofs.Replying.{replying_start, replying_room, replying_few, replying_more, all_replied, replies_written}

@@ -1,4 +1,3 @@
-use Prim.Native.Nat.{◌-◌}
 use borrow.Author.Rules.{rules}
 use Rattle.element.proofs.Scans.{entry_there, contains_found, contains_more, contains_ended}
 use Rattle.element.proofs.list.contains_from.Goals as goal

@@ -1,4 +1,3 @@
-use Prim.Native.Nat.{◌-◌}
 use borrow.Author.Rules.{rules}
 use Rattle.element.proofs.Scans.{entry_there, forbidden_found, forbidden_more, forbidden_ended}
 use Rattle.element.proofs.list.has_forbidden.Goals as goal

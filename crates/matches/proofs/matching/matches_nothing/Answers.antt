@@ -1,4 +1,3 @@
-use Prim.Native.Nat.{◌-◌}
 use borrow.Author.Rules.{rules}
 use Rattle.rules.proofs.AnyOf.{any_start}
 use Rattle.matches.proofs.LostBy.{this_matches, this_does_not, none_matches}

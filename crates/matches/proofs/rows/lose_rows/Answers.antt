@@ -1,4 +1,3 @@
-use Prim.Native.Nat.{◌-◌}
 use borrow.Author.Rules.{rules}
 use Rattle.table.proofs.Changes.{below_start, below_more, below_ended}
 use Rattle.matches.proofs.rows.lose_rows.Goals as goal

@@ -1,4 +1,3 @@
-use Prim.Native.Nat.{◌-◌}
 use borrow.Author.Rules.{rules}
 use Rattle.matches.proofs.LostRows.{beside_start, beside_found, beside_more, beside_ended}
 use Rattle.matches.proofs.rows.number_beside.Goals as goal

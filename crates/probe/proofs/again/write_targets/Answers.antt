@@ -1,4 +1,3 @@
-use Prim.Native.Nat.{◌-◌}
 use borrow.Author.Rules.{rules}
 use Rattle.element.specs.Entries.{target_octets}
 use Rattle.writing.proofs.Written.{entries_start, entries_ended, target_length}

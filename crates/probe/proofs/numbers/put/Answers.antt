@@ -1,4 +1,3 @@
-use Prim.Native.Nat.{◌-◌}
 use borrow.Author.Rules.{rules}
 use Rattle.octets.proofs.OctetLists.{overwrite_start, overwrite_more, overwrite_ended}
 use Rattle.probe.proofs.numbers.put.Goals as goal

@@ -1,4 +1,3 @@
-use Prim.Native.Nat.{◌-◌}
 use borrow.Author.Rules.{rules}
 use Rattle.rules.proofs.AnyOf.{any_start, any_ended}
 use Rattle.receive.proofs.Faulty.{mismarked_found, mismarked_more}

@@ -1,4 +1,3 @@
-use Prim.Native.Nat.{◌-◌}
 use borrow.Author.Rules.{rules}
 use Rattle.element.proofs.Scans.{each_duplicate_found, each_duplicate_more, each_duplicate_ended}
 use Rattle.walk.proofs.Tables.{duplicate_start}

@@ -1,4 +1,3 @@
-use Prim.Native.Nat.{◌-◌}
 use borrow.Author.Rules.{rules}
 use Rattle.walk.proofs.Tables.{piece_within, piece_sized}
 use Rattle.walk.proofs.Ways.{row_start, row_found, row_more, row_ended}
