@@ -72,7 +72,11 @@ announce_self b p lifetime = called b p (makes (announces 0 lifetime))
 -- 6 deliver a frame. It arrives from its sender, over the link between the two points, whatever its receiver address is.
 abbrev pub arrival_from : (tables : List ℕ) → List (List ℕ) → (clock sender p : ℕ) → Arrival
 arrival_from tables links clock sender p =
-    record { clock = clock; transmitter = address_of (table_at tables 544 sender); link = record { 0 = metric_of links sender p } }
+    record {
+      clock = clock;
+      transmitter = address_of (table_at tables 544 sender);
+      link = record { 0 = metric_of links sender p };
+    }
 
 abbrev pub handed_over : Bench → List (List ℕ) → ℕ → Option KeptFrame → Done
 handed_over b links p none = fault

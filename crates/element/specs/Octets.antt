@@ -1,8 +1,8 @@
 -- Defines elements as octets: refusals 6, 7 and 8, reading and writing. PROTOCOL, 'Elements' and 'Refusals'. What is defined
 -- here:
 --   wrong_length, other_id, misfit          refusals 6, 7 and 8
---   kind_in, count_as, list_part             the type, N, and the octets of the list
---   read_element                           the element that octets hold
+--   kind_in, count_as, list_part            the type, N, and the octets of the list
+--   read_element                            the element that octets hold
 --   write_element, write_frame              the octets of an element, and of a frame
 --   fixed_octets, frame_start               the octets of an element, and of a frame, up to the list
 use Rattle.std.specs.Prelude.{ℕ, ◌+◌, Bool, ◌||◌, not, eqb, ltb, length, get_or, drop}
@@ -66,7 +66,10 @@ rreq_from xs = record { request = record { 0 = get_or xs 3 0 }; path = path_from
 
 abbrev pub rrep_from : List ℕ → RrepFields
 rrep_from xs =
-    record { path = path_from xs 3; source = record { address = record { 0 = get_or xs 7 0 }; number = record { 0 = get_or xs 8 0 } } }
+    record {
+      path = path_from xs 3;
+      source = record { address = record { 0 = get_or xs 7 0 }; number = record { 0 = get_or xs 8 0 } };
+    }
 
 abbrev pub rerr_from : List ℕ → RerrFields
 rerr_from xs = record { flags = get_or xs 0 0 }

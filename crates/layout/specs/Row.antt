@@ -1,8 +1,8 @@
 -- Defines the head and the rows of a table as values: which are legal, and the steps that change them. PROTOCOL, 'Table'. What is
 -- defined here:
---   fresh_head, head_with, head_ok           the head of a fresh table; a head with other counters and clock; a legal head
---   free_row, is_free, is_held, row_ok        a free row; a legal row that is free, that is held, that is either
---   active, is_through                     a valid row that has not expired; an active row with a given next hop
+--   fresh_head, head_with, head_ok        the head of a fresh table; a head with other counters and clock; a legal head
+--   free_row, is_free, is_held, row_ok    a free row; a legal row that is free, that is held, that is either
+--   active, is_through                    a valid row that has not expired; an active row with a given next hop
 --   renewed, numbered                     what steps 1 and 2 of receiving do to a row
 --   invalidated, raised                   what a RERR or a break does to a row
 use Rattle.std.specs.Prelude.{ℕ, ◌+◌, ◌-◌, ◌^◌, Bool, ◌&&◌, ◌||◌, not, eqb, leb, ltb}

@@ -69,7 +69,8 @@ written_again s to out at = unless_refused (reading s) out (written out at (writ
 -- ones and anything else, 8 if the given address is in the list
 
 abbrev pub faults : ListKind → Address → List Address → ℕ
-faults k a l = cond (any_forbidden k l) 1 0 + cond (has_duplicate l) 2 0 + cond (ones_beside_others l) 4 0 + cond (contains l a) 8 0
+faults k a l =
+    cond (any_forbidden k l) 1 0 + cond (has_duplicate l) 2 0 + cond (ones_beside_others l) 4 0 + cond (contains l a) 8 0
 
 abbrev pub faults_read : Reading → List ℕ → Address → ℕ
 faults_read (Announcement p) part a = faults Dependents a (addresses_in Dependents part)

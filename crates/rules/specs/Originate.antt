@@ -1,11 +1,11 @@
 -- Defines ask, announce and root request. Each sends one new element to all ones, with the next own number, hop count 0, metric 0
 -- and TTL 31. PROTOCOL, 'Originating'. What is defined here:
---   numbered_head, own_path                         the head with advanced counters, and the path of an element about the point
+--   numbered_head, own_path                       the head with advanced counters, and the path of an element about the point
 --   announced, requested                          the effect of an accepted announcement or request
---   item_checks, asked_for, asking, ask             ask: the checks of its items, one destination, the ruling and the decision
+--   item_checks, asked_for, asking, ask           ask: the checks of its items, one destination, the ruling and the decision
 --   originating                                   the ruling that announce and root request share
 --   announcing, announce                          announce: the ruling and the decision
---   requesting_as_root, root_request                 root request: the ruling and the decision
+--   requesting_as_root, root_request              root request: the ruling and the decision
 use Rattle.std.specs.Prelude.{ℕ, ◌%◌, Bool, true, false, not, ◌&&◌, ◌||◌, cond, List, [], ◌∷◌, map, eqb, leb, length}
 use Rattle.std.proofs.Math.Option.{Option, none, some}
 use Rattle.counters.specs.declared.SequenceNumber.{SequenceNumber}

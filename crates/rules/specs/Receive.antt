@@ -1,11 +1,11 @@
 -- Defines the call that receives an element. PROTOCOL, 'Refusals', 'Receiving' and 'Errors and breaks'. What is defined here:
---   arrival_checks, octet_checks, field_checks, row_checks   refusals 1 to 5, 6 to 8, 9 to 14, 24 to 27 (21 to 23 are `state_checks`)
---   has_bad_address, has_bad_list, is_low_ttl_reply             refusals 9, 10 and 14 for each type
+--   arrival_checks, octet_checks, field_checks, row_checks  refusals 1 to 5, 6 to 8, 9 to 14, 24 to 27 (21 to 23: `state_checks`)
+--   has_bad_address, has_bad_list, is_low_ttl_reply         refusals 9, 10 and 14 for each type
 --   is_stale, matches_nothing, rows_needed                  what refusals 25, 26 and 27 judge
 --   rann_received, rreq_received, rrep_received,            the effect of an accepted element of each type,
---   rerr_received, received                               and of any type
---   judging, reading_octets, receiving                    the rulings for an element, for its octets and for the whole call
---   receive                                              the decision
+--   rerr_received, received                                 and of any type
+--   judging, reading_octets, receiving                      the rulings for an element, for its octets and for the whole call
+--   receive                                                 the decision
 use Rattle.std.specs.Prelude.{ℕ, ◌+◌, Bool, false, not, ◌&&◌, ◌||◌, cond, List, ◌++◌, map, eqb, leb, ltb, length}
 use Rattle.std.proofs.Math.Option.{Option, none, some}
 use Rattle.counters.specs.Numbers.{older}

@@ -1,11 +1,12 @@
 -- Defines the walk over tables side by side, along rows that are active at a clock. PROTOCOL, 'Walk'. The walk of demand 3 is
 -- `met` in crate `theorems`, which follows valid rows, expired or not. What is defined here:
---   side_by_side, tables_in, points     whether octets are 1 to 16 tables of one length, the tables, and the addresses of the points
---   Walked                           an answer with the hops walked: arrived (0), stopped (41) or too_long (42)
+--   side_by_side, tables_in, points   whether octets are 1 to 16 tables of one length, the tables, and the points' addresses
+--   Walked                            an answer with the hops walked: arrived (0), stopped (41) or too_long (42)
 --   leads_to, follow                  where a next hop leads, and the walk from an address on
 --   table_checks, walking, walk       the checks of the tables, the ruling and the decision
---   walked_at_exit                     the numbers that the call returns
-use Rattle.std.specs.Prelude.{ℕ, zero, suc, ◌+◌, ◌*◌, ◌/◌, ◌%◌, Bool, not, ◌&&◌, ◌||◌, cond, List, [], ◌∷◌, map, eqb, leb, length, take, drop}
+--   walked_at_exit                    the numbers that the call returns
+use Rattle.std.specs.Prelude.{ℕ, zero, suc, ◌+◌, ◌*◌, ◌/◌, ◌%◌, Bool, not, ◌&&◌, ◌||◌, cond}
+use Rattle.std.specs.Prelude.{List, [], ◌∷◌, map, eqb, leb, length, take, drop}
 use Rattle.std.proofs.Math.Option.{Option, none, some}
 use Rattle.layout.specs.Row.{max_clock}
 use Rattle.layout.specs.declared.address.Address.{Address}

@@ -1,9 +1,9 @@
 -- Defines what makes octets a table, what can be read from a table, and what calls do to it. PROTOCOL, 'Table'. What is defined
 -- here:
 --   own, number, request_id, clock         the fields of the head
---   vacant, holds, find_row, row_for        rows by destination, and the row held for a destination
+--   vacant, holds, find_row, row_for       rows by destination, and the row held for a destination
 --   active_next                            the next hop of a row that is there and active
---   free_rows, first_free, new_rows          free rows, and how many new rows a destination needs
+--   free_rows, first_free, new_rows        free rows, and how many new rows a destination needs
 --   alone, passes, is_table                what refusal 21 asks
 --   fresh, store, freed, change_where      a fresh table; a row stored; a row freed; the rows that pass a test changed
 use Rattle.std.specs.Prelude.{ℕ, zero, suc, Bool, ◌&&◌, ◌||◌, not, cond, List, eqb}

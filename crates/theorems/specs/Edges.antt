@@ -1,6 +1,7 @@
--- Defines three lists of tests of the definitions: `edges` for P1 to P8, `shut_out` for the trainees' errors, and `further_cases`.
--- PROTOCOL, 'Edges'. Tables and elements are octets.
-use Rattle.std.specs.Prelude.{ℕ, ◌+◌, ◌-◌, ◌*◌, Bool, true, false, ◌&&◌, ◌||◌, not, List, [], ◌∷◌, ◌++◌, eqb, length, get_or, set, drop}
+-- Defines three lists of tests of the definitions: `edges` for P1 to P8, `shut_out` for the trainees' errors, and
+-- `further_cases` for U1 to U6. PROTOCOL, 'Edges'. Tables and elements are octets.
+use Rattle.std.specs.Prelude.{ℕ, ◌+◌, ◌-◌, ◌*◌, Bool, true, false, ◌&&◌, ◌||◌, not}
+use Rattle.std.specs.Prelude.{List, [], ◌∷◌, ◌++◌, eqb, length, get_or, set, drop}
 use Rattle.octets.specs.LittleEndian.{number_octets, zeros}
 use Rattle.counters.specs.Numbers.{newer, older}
 use Rattle.layout.specs.declared.address.Address.{Address}
@@ -130,7 +131,8 @@ error destinations = write_element (rerr own_error destinations)
 
 -- Returns the decision when this point, with table t, receives the element s over a link of this metric at clock c.
 abbrev heard_at : ℕ → List ℕ → ℕ → List ℕ → Decision Effect
-heard_at c t link s = receive (lend t) least_output (record { clock = c; transmitter = transmitter; link = record { 0 = link } }) s
+heard_at c t link s =
+    receive (lend t) least_output (record { clock = c; transmitter = transmitter; link = record { 0 = link } }) s
 
 -- Returns the decision at clock 0.
 abbrev heard : List ℕ → ℕ → List ℕ → Decision Effect
@@ -257,7 +259,8 @@ abbrev pub shut_out : List Bool
 shut_out =
     -- Comparing numbers unsigned, in refusal 25: 4,294,967,295 is refused after 0, and 0 is accepted after 4,294,967,295.
     refused_with 25 (heard (table_with 0 (row 1 originator 0 40 ∷ free_row ∷ [])) 1 (announcement 4294967295 5))
-    ∷ accepted_with (leaves_row 1 0 6) (heard (table_with 0 (row 1 originator 4294967295 40 ∷ free_row ∷ [])) 1 (announcement 0 5))
+    ∷ accepted_with (leaves_row 1 0 6)
+    (heard (table_with 0 (row 1 originator 4294967295 40 ∷ free_row ∷ [])) 1 (announcement 0 5))
     -- Comparing numbers unsigned, in a reply for the own address: own 4,294,967,295, requested 0: reply 1.
     ∷ accepted_with (replies_with 1) (heard (table_with 4294967295 (free_row ∷ free_row ∷ [])) 10 (request (target point 0 ∷ [])))
     -- Comparing numbers unsigned, in an intermediate reply: a row with number 0 answers if 4,294,967,295 is requested.
@@ -305,7 +308,8 @@ asked_at_3_billion targets = heard (table_with 3000000000 (free_row ∷ free_row
 -- these flags and number 0.
 abbrev asked_beside_3_billion : ℕ → Decision Effect
 asked_beside_3_billion flags =
-    heard (table_with 0 (row 1 (other 0) 3000000000 10 ∷ free_row ∷ free_row ∷ [])) 10 (request (target_with flags (other 0) 0 ∷ []))
+    heard (table_with 0 (row 1 (other 0) 3000000000 10 ∷ free_row ∷ free_row ∷ [])) 10
+    (request (target_with flags (other 0) 0 ∷ []))
 
 -- Returns the decision when this point, with this row, asks for the originator with flags 1.
 abbrev ask_for : Row → Decision Effect

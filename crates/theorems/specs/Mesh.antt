@@ -1,9 +1,9 @@
 -- Defines a mesh of points, the elements that the points have sent, and lists of their calls. PROTOCOL, 'Demands'. What is
 -- defined here:
---   Point, Sent, Mesh, start              a point; an element sent; what all points lend, with the log; the mesh at the start
---   Action, Event, call_of, walk_over       what a point does; one call of a list; the call that may write; a walk over all tables
+--   Point, Sent, Mesh, start                a point; an element sent; what all points lend, with the log; the mesh at the start
+--   Action, Event, call_of, walk_over       what a point does; one call of a list; the call that may write; a walk over all
 --   points_fit, event_fits                  what demand 3 asks of points and of operands
---   after_call, happen, run, throughout    the mesh after a call, an event and a list of events; a test passed all along
+--   after_call, happen, run, throughout     the mesh after a call, an event and a list of events; a test passed all along
 --   valid_next, next_at, met                the next hop of a valid row; the points that the walk along valid rows meets
 use Rattle.std.specs.Prelude.{ℕ, zero, suc, ◌+◌, ◌*◌, ◌^◌, Bool, true, ◌&&◌, not, cond, eqb, leb, ltb, length}
 use mathlib.Core.List.{List, [], ◌∷◌, ◌++◌, map, flat_map}
@@ -67,11 +67,11 @@ with_box a k (l ∷ boxes) = cond (same (own l.table) a) (k ∷ boxes) (l ∷ wi
 -- ---- calls
 
 -- What a point does:
---   delivers       It receives the element at a place of the log, counted from 0. The transmitter is the sender of the element.
---                  A list of calls may name places in any order, some places often and some never.
---   makes          It asks, announces, sends a root request or reports a broken neighbour.
---   finds_next_hop   It finds a next hop, which writes no table.
---   walks          It walks over the tables of all points as they are at that moment, which writes no table.
+--   delivers        It receives the element at a place of the log, counted from 0. The transmitter is the sender of the element.
+--                   A list of calls may name places in any order, some places often and some never.
+--   makes           It asks, announces, sends a root request or reports a broken neighbour.
+--   finds_next_hop  It finds a next hop, which writes no table.
+--   walks           It walks over the tables of all points as they are at that moment, which writes no table.
 pub data Action : Type 0 where
   delivers : (place clock : ℕ) → (link : Metric) → Action
   makes : OwnCall → Action

@@ -1,15 +1,15 @@
 -- Defines runs as data, and tests of them that compute. Three runs have everything that demand 3 asks for and find their way.
 -- Eight runs loop: five under wrong rules, two with a call that demand 3 leaves out, and one outside the premise of demand 3.
 -- What is defined here:
---   _gets_over_at_, _asks-for_lasting_, ..        events, in words
+--   ◌gets◌over◌at◌, ◌asks_for◌lasting◌, ..        events, in words
 --   Run                                           points, events and a destination
---   way, end_of, as_demanded, goes_round             the walk of a run; its last mesh; what demand 3 asks for; whether the run loops
+--   way, end_of, as_demanded, goes_round          the walk of a run; its last mesh; what demand 3 asks for; whether the run loops
 --   lines                                         the answers to the events of a run, as in the bench's lines
---   worked_case, worked; round_zero, went_round;     the three runs that find their way, each with its tests
+--   worked_case, worked; round_zero, went_round;  the three runs that find their way, each with its tests
 --   unheard_of, found_unheard_of
 --   Counterexample, loops, counterexamples        the runs that loop under wrong rules
---   WiderEvent, happen_wider, left_out              the runs with a forget or a second fresh table
---   outside, outside_loops                         the run outside the premise
+--   WiderEvent, happen_wider, left_out            the runs with a forget or a second fresh table
+--   outside, outside_loops                        the run outside the premise
 --
 -- Comments in the runs name elements by their place in the log: 'A forwards 1' says that the element that A forwards is element
 -- 1. 'A 1/5 via D' says that the row of A for D now has number 1, metric 5 and next hop D. 'largest' is the metric

@@ -13,8 +13,8 @@
 --   l ++ k              the list l followed by the list k
 --   all test l ≡ true   every entry of the list l passes the test
 --   All (λ x. P) l      P holds for every entry x of the list l
---   r.f                the field f of r
---   a.0                the plain number of an address, a sequence number or a metric
+--   r.f                 the field f of r
+--   a.0                 the plain number of an address, a sequence number or a metric
 --
 -- Words in the types:
 --   List ℕ                     a list of numbers, for octets
@@ -24,8 +24,8 @@
 --   OperandsFit call           C's types can hold the operands of the call
 --   decision l room call       what the rules decide on a call that is lent l and an output of `room` octets
 --   accepted e                 the call is accepted; its effect e is the `Lent` that it leaves and the frames that it emits
---   read_element s              the element that the octets s are read as; `rreq f targets` is a RREQ with these destinations
---   at_exit l output decision   answer, frames and octets reported, and all lent octets, when the call has ended
+--   read_element s             the element that the octets s are read as; `rreq f targets` is a RREQ with these destinations
+--   at_exit l output decision  answer, frames and octets reported, and all lent octets, when the call has ended
 use Rattle.std.specs.Prelude.{ℕ, ◌+◌, ◌^◌, ◌<◌, ◌≤◌, ◌≡◌, true, false, ◌⊎◌, length, take}
 use mathlib.Core.List.{List, ◌∷◌, ◌++◌, map, flat_map}
 use Rattle.octets.specs.LittleEndian.{Octets}
@@ -251,9 +251,9 @@ NotVacuous = all (λ b. b) (worked decision ++ went_round decision ++ found_unhe
 abbrev pub Sharp : Type 0
 Sharp = all loops counterexamples ≡ true
 
--- `else_the_rules`: `ruled_by`, `receiving_by` and `breaking_by` build the wrong rules: they replace the rules' test of refusal 25
--- or the rules' change of a row that breaks. Given the rules' own test and the rules' own change, they decide every call as the
--- rules do. Each wrong rule therefore differs from the rules only in the test or the change that it replaces.
+-- `else_the_rules`: `ruled_by`, `receiving_by` and `breaking_by` build the wrong rules: they replace the rules' test of
+-- refusal 25 or the rules' change of a row that breaks. Given the rules' own test and the rules' own change, they decide every
+-- call as the rules do. Each wrong rule therefore differs from the rules only in the test or the change that it replaces.
 abbrev pub ElseTheRules : Type 0
 ElseTheRules =
     (l : Lent) (room : ℕ) (call : Call)

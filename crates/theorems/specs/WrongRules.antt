@@ -38,7 +38,8 @@ unfoldable pub ruled_by :
 ruled_by receive break l room (receives a s) = decide (receive l room a s)
 ruled_by receive break l room (makes (asks lifetime items)) = decision l room (makes (asks lifetime items))
 ruled_by receive break l room (makes (announces flags lifetime)) = decision l room (makes (announces flags lifetime))
-ruled_by receive break l room (makes (requests_as_root flags lifetime)) = decision l room (makes (requests_as_root flags lifetime))
+ruled_by receive break l room (makes (requests_as_root flags lifetime)) =
+    decision l room (makes (requests_as_root flags lifetime))
 ruled_by receive break l room (makes (breaks c neighbour)) = decide (break l room c neighbour)
 
 -- Returns the ruling of receive in which refusal 25 uses another test of the element and the row.
