@@ -3,7 +3,7 @@
  * point asks for the last point once more, and the first point replies. A middle point that has
  * kept its rows refuses the reply (HWMP_STALE). A middle point that has forgotten the last
  * point, or has made a second fresh table, accepts the reply, and a loop appears.
- * Build: cc -std=c11 -Iinclude examples/forget.c target/staticlib/libhwmp.a -o forget
+ * Build: cc -std=c11 -Iinclude examples/forget.c crates/hwmp/out/libhwmp.a -o forget
  */
 #include <inttypes.h>
 #include <stdio.h>

@@ -1,7 +1,7 @@
 /*
  * A point that sends: it asks, announces itself, sends a root request and then loses a
  * neighbour. The program prints each frame as a receiver and the octets of an element.
- * Build: cc -std=c11 -Iinclude examples/frames.c target/staticlib/libhwmp.a -o frames
+ * Build: cc -std=c11 -Iinclude examples/frames.c crates/hwmp/out/libhwmp.a -o frames
  */
 #include <inttypes.h>
 #include <stdbool.h>

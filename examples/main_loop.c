@@ -2,7 +2,7 @@
  * The main loop of a box. It allocates nothing, never blocks and does a bounded amount of work
  * in each turn.
  * Build: cc -std=c11 -Iinclude examples/main_loop.c examples/main_loop_mesh.c \
- *            target/staticlib/libhwmp.a -o main_loop
+ *            crates/hwmp/out/libhwmp.a -o main_loop
  */
 #include "main_loop.h"
 

@@ -1,7 +1,7 @@
 /*
  * Three points in a line. The first asks for the last. The request and its reply give rows to
  * all three. The program keeps each frame with its sender and delivers it by hand.
- * Build: cc -std=c11 -Iinclude examples/receive.c target/staticlib/libhwmp.a -o receive
+ * Build: cc -std=c11 -Iinclude examples/receive.c crates/hwmp/out/libhwmp.a -o receive
  */
 #include <inttypes.h>
 #include <stdio.h>

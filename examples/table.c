@@ -1,6 +1,6 @@
 /*
  * A first program: makes a table of 4 rows, finds a next hop in it and forgets a destination.
- * Build: cc -std=c11 -Iinclude examples/table.c target/staticlib/libhwmp.a -o table
+ * Build: cc -std=c11 -Iinclude examples/table.c crates/hwmp/out/libhwmp.a -o table
  */
 #include <inttypes.h>
 #include <stdio.h>

@@ -1,7 +1,7 @@
 /*
  * Walks over the tables of three points in a line. The first two learn of the last one from its
  * announcement. Then the link between the last two breaks.
- * Build: cc -std=c11 -Iinclude examples/walk.c target/staticlib/libhwmp.a -o walk
+ * Build: cc -std=c11 -Iinclude examples/walk.c crates/hwmp/out/libhwmp.a -o walk
  */
 #include <inttypes.h>
 #include <stdio.h>

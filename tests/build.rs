@@ -1,25 +1,24 @@
-//! Links the library's archive, `../target/staticlib/libhwmp.a`, and `libprobe.a`, through which
-//! the tests reach functions that the library does not open to C. To test another build, name the
-//! directory that holds both archives in HWMP_LIB_DIR.
+//! Links the library's archive, `../crates/hwmp/out/libhwmp.a`, and `../crates/probe/out/libprobe.a`,
+//! through which the tests reach functions that the library does not open to C. To test another
+//! build, name the directory that holds both archives in HWMP_LIB_DIR.
 
 use std::env;
 use std::path::{Path, PathBuf};
 
 fn main() {
-    let directory = archive_directory();
     println!("cargo::rerun-if-env-changed=HWMP_LIB_DIR");
-    println!("cargo::rustc-link-search=native={}", directory.display());
     for name in ["hwmp", "probe"] {
-        link(&directory, name);
+        link(&archive_directory(name), name);
     }
 }
 
 fn link(directory: &Path, name: &str) {
+    println!("cargo::rustc-link-search=native={}", directory.display());
     let archive = directory.join(format!("lib{name}.a"));
     println!("cargo::rerun-if-changed={}", archive.display());
     if !archive.exists() {
         println!(
-            "cargo::error={} is missing: `rt staticlib {name}` builds it",
+            "cargo::error={} is missing: `rt lib` in crates/{name} builds it",
             archive.display()
         );
     }
@@ -28,10 +27,10 @@ fn link(directory: &Path, name: &str) {
     println!("cargo::rustc-link-lib=static:-bundle={name}");
 }
 
-fn archive_directory() -> PathBuf {
+fn archive_directory(name: &str) -> PathBuf {
     if let Some(directory) = env::var_os("HWMP_LIB_DIR") {
         return PathBuf::from(directory);
     }
     let package = env::var_os("CARGO_MANIFEST_DIR").expect("set by cargo");
-    Path::new(&package).join("../target/staticlib")
+    Path::new(&package).join(format!("../crates/{name}/out"))
 }

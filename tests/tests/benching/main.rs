@@ -1,6 +1,6 @@
 //! Compares the bench program with the separately written one: whole outputs for random streams of
 //! commands, and streams worked out by hand from docs/PROTOCOL.md, 'Bench'. The program under test
-//! is `../target/bin/bench`, or the one that HWMP_BENCH names.
+//! is `../crates/bench/out/bench`, or the one that HWMP_BENCH names.
 
 mod agreement;
 mod cases;

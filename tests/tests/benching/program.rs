@@ -24,7 +24,7 @@ impl Program {
         let package = Path::new(env!("CARGO_MANIFEST_DIR"));
         let path = match env::var_os("HWMP_BENCH") {
             Some(path) => PathBuf::from(path),
-            None => package.join("../target/bin/bench"),
+            None => package.join("../crates/bench/out/bench"),
         };
         let shown = path.display();
         assert!(
