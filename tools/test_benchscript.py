@@ -1,8 +1,8 @@
 """Tests of benchscript and of the scripts in examples/bench.
 
 Run from anywhere: python3 tools/test_benchscript.py
-The bench program is target/bin/bench, or the one that HWMP_BENCH names. Without one, the tests
-that need it fail. HWMP_SEED repeats the random octets of an earlier run, which printed its seed.
+The bench program is crates/bench/out/bench, or the one that HWMP_BENCH names. Without one, the
+tests that need it fail. HWMP_SEED repeats the random octets of an earlier run, which printed its seed.
 One test runs 'rt try', which needs rt, but nothing proved and no program built.
 """
 
@@ -23,7 +23,7 @@ from loading import load_tool
 
 ROOT = Path(__file__).resolve().parent.parent
 TOOL = ROOT / "tools" / "benchscript"
-BENCH = Path(os.environ.get("HWMP_BENCH", ROOT / "target" / "bin" / "bench"))
+BENCH = Path(os.environ.get("HWMP_BENCH", ROOT / "crates" / "bench" / "out" / "bench"))
 EXAMPLES = ROOT / "examples" / "bench"
 SCRIPTS = sorted(EXAMPLES.glob("*.bench"))
 SEED = int(os.environ.get("HWMP_SEED", random.randrange(2**32)))
@@ -578,7 +578,8 @@ class FakeBench(WithFakeBench):
         self.assertEqual(given, bytes.fromhex("0201000000 080000"))
 
     def test_missing(self) -> None:
-        help_on_it = "'rt check bench' proves and builds it, and 'benchscript try' needs none"
+        proves = "'(cd crates/bench && rt run <stdin)' proves and builds it"
+        help_on_it = f"{proves}, and 'benchscript try' needs none"
         self.assert_complaint(f"there is no bench at {self.bench}; {help_on_it}")
 
     def test_not_to_be_run(self) -> None:
@@ -977,7 +978,7 @@ class Trying(unittest.TestCase):
     def try_with(self, output: bytes, *scripts: str) -> tuple[int, list[str]]:
         """Tries scripts if each run prints this. Answers the status and the lines printed."""
         with (
-            patch.object(benchscript, "bench_output_in", lambda copy, octets: output),
+            patch.object(benchscript, "bench_output_in", lambda root, octets: output),
             patch("sys.stdout", io.StringIO()) as printed,
         ):
             read_scripts = [benchscript.read_script(f"{n}", s) for n, s in enumerate(scripts)]
@@ -1004,7 +1005,7 @@ class Trying(unittest.TestCase):
 
 
 def closing_line(scripts: object) -> str:
-    proved = f"rt check bench && tools/benchscript run {scripts}"
+    proved = f"(cd crates/bench && rt run <stdin) && tools/benchscript run {scripts}"
     return f"This ran the code and proved nothing. To run the proved bench: {proved}"
 
 

@@ -285,7 +285,7 @@ class Runs(unittest.TestCase):
             tried(*operands)
         self.assertEqual((raised.exception.status, str(raised.exception)), (1, complaint))
 
-    def test_what_differs_beyond_the_octets_that_rt_tells_at_once(self) -> None:
+    def test_what_differs_late_in_a_run(self) -> None:
         training = (ROOT / "examples" / "training" / "error_by_destination.bench").read_text()
         with tempfile.NamedTemporaryFile("w", suffix=".bench") as script:
             script.write(f"repeat 40 advance 0\n{training}")
@@ -309,17 +309,13 @@ class Runs(unittest.TestCase):
         self.assertRegex(second, where + r"error\[unknown-name\]: .*`fund`")
         self.assertEqual(raised.exception.status, 1)
 
-    def test_compiler_that_does_not_end(self) -> None:
-        late = subprocess.TimeoutExpired("rt", 1)
-        with patch.object(trying, "run_rt", side_effect=late):
-            self.assertEqual(trying.compiler_message(ROOT, "bench"), trying.REJECTED)
-
     def test_run_that_does_not_end_well(self) -> None:
         edit = "crates/counters/must-fail/step_does_not_wrap.edit"
         status, output, complaint = call(edit, "examples/training/plain_numbers.bench")
         self.assertEqual((status, output), (1, ""))
         self.assertIn("bench was not run to its end:\n", complaint)
-        self.assertIn("attempt to add with overflow in `u32`, in `counters::one_more`", complaint)
+        overflow = "the result of an operation does not fit its type, called from "
+        self.assertIn(f"fault kind=overflow in=counters::one_more: {overflow}", complaint)
 
     def test_run_that_shows_nothing(self) -> None:
         complaint = (
@@ -331,41 +327,59 @@ class Runs(unittest.TestCase):
             run = try_edit.ProgramRun("scattered_rows")
             self.assert_complaint(complaint, try_edit.run_shown, None, run)
 
-    def test_words_of_rt_that_are_not_understood(self) -> None:
-        fails = "FAIL: the interpreter ended, but did not write what is expected\n"
-        for said in (
-            "",
-            "rt: no",
-            f'{fails}on standard output, at byte 1, expected "", found "a"',  # 0 are known
-            f'{fails}on standard output, at byte 0, expected "b", found "a"',
-            f'{fails}on standard output, at byte 0, expected "", found "\\u{{7f}}"',
+    def test_other_ends_of_a_run_are_told_as_rt_tells_them(self) -> None:
+        for status, said in (
+            (0, ""),
+            (2, "rt: no"),
+            (2, "run=none proved=no"),  # not refused by the compiler, which ends with status 1
+            (1, "run=ended status=1 runners=2 proved=no"),
+            (4, "run=fault proved=no"),
+            (6, "checked: no-answer: the program wrote more than\nrun=no-answer proved=no"),
+            (0, "run=ended status=0 runners=2 proved=no\nrt: no"),  # not at the end
         ):
-            with (
-                self.subTest(said),
-                tempfile.TemporaryDirectory() as copy,
-                patch.object(trying, "try_program", return_value=(1, f"{said}\n")),
-            ):
-                (Path(copy) / "crates" / "some").mkdir(parents=True)
+            tried = status, b"some output", f"{said}\n"
+            with self.subTest(said), patch.object(trying, "try_program", return_value=tried):
                 complaint = f"some was not run to its end:\n{said}"
-                self.assert_complaint(complaint, trying.output_in, Path(copy), "some")
+                self.assert_complaint(complaint, trying.written_by, ROOT, "some", b"")
 
-    def test_program_that_writes_too_much(self) -> None:
-        fails = "FAIL: the interpreter ended, but did not write what is expected\n"
+    def test_compiler_messages_have_paths_from_the_root(self) -> None:
+        said = "src/main.rt:1:2: error: one\n/copy/crates/other/src/lib.rt:3:4: error: two\n"
+        message = "crates/some/src/main.rt:1:2: error: one\ncrates/other/src/lib.rt:3:4: error: two"
+        tried = 1, b"", f"{said}run=none proved=no\n"
+        with patch.object(trying, "try_program", return_value=tried):
+            complaint = f"the code does not compile:\n{message}"
+            self.assert_complaint(complaint, trying.written_by, Path("/copy"), "some", b"")
 
-        def one_more(copy: Path, program: str) -> tuple[int, str]:
-            known = len((copy / "crates" / program / "stdout").read_text())
-            found = f'on standard output, at byte {known}, expected "", found "a" and more\n'
-            return 1, fails + found
+    def test_each_program_gets_its_own_input(self) -> None:
+        given = {}
 
-        with tempfile.TemporaryDirectory() as copy, patch.object(trying, "try_program", one_more):
-            (Path(copy) / "crates" / "some").mkdir(parents=True)
-            complaint = "some writes more than 20 runs of 'rt try' show"
-            self.assert_complaint(complaint, trying.output_in, Path(copy), "some")
+        def keep(root: Path, program: str, octets: bytes) -> tuple[int, bytes, str]:
+            given[program] = octets
+            return 0, octets, "run=ended status=0 runners=2 proved=no\n"
+
+        with tempfile.TemporaryDirectory() as root, patch.object(trying, "try_program", keep):
+            for program in ("with_input", "without"):
+                (Path(root) / "crates" / program).mkdir(parents=True)
+            (Path(root) / "crates" / "with_input" / "stdin").write_bytes(b"its own")
+            self.assertEqual(trying.output_in(Path(root), "with_input"), "its own")
+            self.assertEqual(trying.output_in(Path(root), "without"), "")
+            self.assertEqual(trying.bench_output_in(Path(root), b"of a script"), b"of a script")
+        expected = {"with_input": b"its own", "without": b"", "bench": b"of a script"}
+        self.assertEqual(given, expected)
+
+    def test_a_copy_has_the_code_alone(self) -> None:
+        with trying.copied_code() as copy:
+            parts = {path.relative_to(copy / "crates").parts[1] for path in copy.rglob("*/*.rt")}
+            others = {path.name for path in copy.glob("crates/*/*")} - {"src", "stdin", "stdout"}
+            programs = sorted(path.parts[-3] for path in copy.glob("crates/*/src/main.rt"))
+        self.assertEqual((parts, others), ({"src"}, set()))
+        self.assertEqual(programs, ["bench", "scattered_rows"])
+        self.assertFalse(copy.exists())
 
     def test_no_rt(self) -> None:
         with patch.dict("os.environ", PATH="/nowhere"):
             complaint = "rt cannot be run: No such file or directory"
-            self.assert_complaint(complaint, trying.try_program, ROOT, "bench")
+            self.assert_complaint(complaint, trying.try_program, ROOT, "bench", b"")
 
     def test_no_such_run(self) -> None:
         edit = "crates/table/must-fail/free_rows_side_by_side.edit"
