@@ -24,6 +24,15 @@ CITATION = re.compile(r"PROTOCOL(?:\.md)?`?,? ('[^']+'(?:(?:,| and|, and|;) '[^'
 PATH = re.compile(r"\b(?:crates|docs|examples|include|tests|tools|benchmarks)/[\w./*-]*[\w*]")
 ANY_NAME = re.compile(r"\b(?:CRATE|NAME|mine)\b")
 
+# What rt writes into the folder of a crate, which need not be there.
+WRITTEN_BY_RT = re.compile(r"(?<=\w)/out/.*")
+
+# A theorem, which a comment beside its statement names.
+THEOREM = re.compile(r"^-- `(\w+)`:", re.MULTILINE)
+
+# What specs define: no field of a record, which an indented 'pub' begins.
+DEFINITION = re.compile(r"^(?! +pub ) *(?:\w+ )*(\w+) :", re.MULTILINE)
+
 
 def unwrapped(text: str) -> str:
     """Returns the text with each comment or paragraph on one line, without comment marks."""
@@ -56,13 +65,26 @@ def quoted(text: str) -> list[str]:
     return re.findall("`([^`]+)`", text)
 
 
+def text_of(pattern: str) -> str:
+    """Returns the text of all files of the crates whose paths match."""
+    return "\n".join(path.read_text() for path in ROOT.glob(f"crates/{pattern}"))
+
+
+def definitions() -> set[str]:
+    """Returns the names that are no laws: of definitions, of functions and of entries for C."""
+    functions = re.findall(r"\bfn (\w+)", text_of("*/src/**/*.rt"))
+    entries = re.findall(r"\b(hwmp_\w+)\(", HEADER)
+    return {*DEFINITION.findall(text_of("*/specs/**/*.antt")), *functions, *entries}
+
+
 class Names(unittest.TestCase):
     def test_each_path_is_there(self) -> None:
         named = {path for page in PAGES.values() for path in PATH.findall(page)}
         self.assertGreater(len(named), 100)
         for path in sorted(named):
             with self.subTest(path):
-                self.assertTrue(any(ROOT.glob(ANY_NAME.sub("*", path))))
+                there = WRITTEN_BY_RT.sub("", ANY_NAME.sub("*", path))
+                self.assertTrue(any(ROOT.glob(there)))
 
     def test_each_section_of_the_protocol_is_there(self) -> None:
         sections = set(headings("PROTOCOL.md"))
@@ -73,10 +95,13 @@ class Names(unittest.TestCase):
                 self.assertIn(title, sections)
 
     def test_each_law_and_theorem_is_there(self) -> None:
-        names = quoted(PAGES["PROMISES.md"])
-        laws = {name for name in names if re.fullmatch("[a-z0-9]+(-[a-z0-9]+)+", name)}
-        self.assertGreater(len(laws), 30)
-        proved = "\n".join(path.read_text() for path in ROOT.glob("crates/*/proofs/*.antt"))
+        quotes = quoted(PAGES["PROMISES.md"])
+        names = {name for name in quotes if re.fullmatch("[a-z0-9]+(_[a-z0-9]+)+", name)}
+        theorems = set(THEOREM.findall(text_of("theorems/specs/Statements.antt")))
+        self.assertGreater(len(names & theorems), 20)
+        laws = names - definitions() | theorems
+        self.assertGreater(len(laws), 50)
+        proved = text_of("*/proofs/*.antt")
         for law in sorted(laws):
             with self.subTest(law):
                 self.assertRegex(proved, rf"(?m)^\s*(?:pub )?{law} :")
