@@ -1,6 +1,6 @@
-//! Links the library's archive, `../crates/hwmp/out/libhwmp.a`, and `../crates/probe/out/libprobe.a`,
-//! through which the tests reach functions that the library does not open to C. To test another
-//! build, name the directory that holds both archives in HWMP_LIB_DIR.
+//! Links the library's archive, `../crates/hwmp/out/libhwmp.a`, and `libprobe.a` of
+//! `../crates/probe/out`, through which the tests reach functions that the library does not open to
+//! C. To test another build, name the directory that holds both archives in HWMP_LIB_DIR.
 
 use std::env;
 use std::path::{Path, PathBuf};

@@ -2,7 +2,8 @@
 
 Run from anywhere: python3 tools/test_benchscript.py
 The bench program is crates/bench/out/bench, or the one that HWMP_BENCH names. Without one, the
-tests that need it fail. HWMP_SEED repeats the random octets of an earlier run, which printed its seed.
+tests that need it fail. HWMP_SEED repeats the random octets of an earlier run, which printed its
+seed.
 One test runs 'rt try', which needs rt, but nothing proved and no program built.
 """
 

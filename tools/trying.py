@@ -28,7 +28,7 @@ class DoesNotCompile(Complaint):
 
 
 def copy_code(copy: Path) -> None:
-    """Copies what 'rt try' needs: code and inputs, without definitions, proofs and what rt wrote."""
+    """Copies what 'rt try' needs: code and inputs, without definitions, proofs and rt's output."""
     no_code = shutil.ignore_patterns("specs", "proofs", "must-fail", "out")
     shutil.copytree(ROOT / "crates", copy / "crates", ignore=no_code)
     shutil.copy(ROOT / "crates.txt", copy)
