@@ -327,20 +327,33 @@ class Runs(unittest.TestCase):
             run = try_edit.ProgramRun("scattered_rows")
             self.assert_complaint(complaint, try_edit.run_shown, None, run)
 
-    def test_other_ends_of_a_run_are_told_as_rt_tells_them(self) -> None:
+    def test_words_of_rt_that_are_not_understood(self) -> None:
         for status, said in (
             (0, ""),
             (2, "rt: no"),
             (2, "run=none proved=no"),  # not refused by the compiler, which ends with status 1
             (1, "run=ended status=1 runners=2 proved=no"),
             (4, "run=fault proved=no"),
-            (6, "checked: no-answer: the program wrote more than\nrun=no-answer proved=no"),
             (0, "run=ended status=0 runners=2 proved=no\nrt: no"),  # not at the end
         ):
-            tried = status, b"some output", f"{said}\n"
-            with self.subTest(said), patch.object(trying, "try_program", return_value=tried):
-                complaint = f"some was not run to its end:\n{said}"
-                self.assert_complaint(complaint, trying.written_by, ROOT, "some", b"")
+            with self.subTest(said):
+                self.assert_not_run_to_its_end(status, said)
+
+    def test_program_that_writes_too_much(self) -> None:
+        said = "checked: no-answer: the program wrote more than\nrun=no-answer proved=no"
+        self.assert_not_run_to_its_end(6, said)
+
+    def assert_not_run_to_its_end(self, status: int, said: str) -> None:
+        tried = status, b"some output", f"{said}\n"
+        with patch.object(trying, "try_program", return_value=tried):
+            complaint = f"some was not run to its end:\n{said}"
+            self.assert_complaint(complaint, trying.written_by, ROOT, "some", b"")
+
+    def test_compiler_that_does_not_end(self) -> None:
+        late = subprocess.TimeoutExpired("rt", 1)
+        with patch.object(subprocess, "run", side_effect=late):
+            complaint = "'rt try' did not end within 600 seconds"
+            self.assert_complaint(complaint, trying.try_program, ROOT, "bench", b"")
 
     def test_compiler_messages_have_paths_from_the_root(self) -> None:
         said = "src/main.rt:1:2: error: one\n/copy/crates/other/src/lib.rt:3:4: error: two\n"

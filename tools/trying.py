@@ -19,6 +19,9 @@ ENDED = re.compile(r"^run=ended status=0 .*\n\Z", re.MULTILINE)
 REJECTED = 1
 NOT_RUN = "run=none proved=no\n"
 
+# In seconds. 'rt try' bounds the time of the program, and not that of the compiler.
+TIME_LIMIT = 600
+
 
 class DoesNotCompile(Complaint):
     """A complaint with the compiler's message about the code."""
@@ -44,7 +47,7 @@ def copied_code() -> Iterator[Path]:
 
 
 def try_program(root: Path, program: str, octets: bytes) -> tuple[int, bytes, str]:
-    """Runs a program with 'rt try', which bounds its time and its output.
+    """Runs a program with 'rt try', which bounds the program's time and its output.
 
     Returns the exit status of rt, what the program writes when it reads these octets, and what rt
     says.
@@ -52,8 +55,15 @@ def try_program(root: Path, program: str, octets: bytes) -> tuple[int, bytes, st
     folder = root / "crates" / program
     try:
         done = subprocess.run(
-            ["rt", "try"], cwd=folder, input=octets, capture_output=True, check=False
+            ["rt", "try"],
+            cwd=folder,
+            input=octets,
+            capture_output=True,
+            timeout=TIME_LIMIT,
+            check=False,
         )
+    except subprocess.TimeoutExpired:
+        raise Complaint(1, f"'rt try' did not end within {TIME_LIMIT} seconds") from None
     except OSError as error:
         raise Complaint(1, f"rt cannot be run: {error.strerror}") from None
     return done.returncode, done.stdout, done.stderr.decode("utf-8", "replace")
