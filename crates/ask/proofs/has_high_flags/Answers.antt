@@ -1,4 +1,4 @@
-use borrow.Author.Rules.{rules}
+use Rattle.std.proofs.Common.{rules}
 use Rattle.rules.proofs.AnyOf.{any_start, any_ended}
 use Rattle.ask.proofs.Asked.{high_found, high_more}
 use Rattle.ask.proofs.has_high_flags.Goals as goal

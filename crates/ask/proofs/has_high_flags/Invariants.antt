@@ -1,6 +1,5 @@
 -- `ask::has_high_flags` meets its contract. Invariant: the items from i on give the answer for all items.
-use Prim.Native.Nat.{◌-◌}
-use mathlib.Core.Path.{◌≡◌}
+use Rattle.std.proofs.Common.{◌-◌, ◌≡◌}
 use Rattle.element.specs.Entries.{each, item_at}
 use Rattle.rules.specs.Lists.{any}
 use Rattle.rules.specs.Originate.{has_high_flags}
@@ -11,5 +10,4 @@ invariant-loop-i l =
     any has_high_flags (each (item_at l.items) l.i (l.n - l.i)) ≡ any has_high_flags (each (item_at l.items) 0 l.n)
 
 abbrev pub decreases-loop-i : goal.decreases-loop-i
-decreases-loop-i l =
-    l.n - l.i
+decreases-loop-i l = l.n - l.i

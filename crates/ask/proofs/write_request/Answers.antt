@@ -1,5 +1,5 @@
 -- `ask::write_request` meets its contract: it writes the start, and then the destinations.
-use borrow.Author.Rules.{rules}
+use Rattle.std.proofs.Common.{rules}
 use Rattle.ask.proofs.Asked.{asked_written}
 use Rattle.ask.proofs.write_request.Goals as goal
 

@@ -1,4 +1,4 @@
-use borrow.Author.Rules.{rules}
+use Rattle.std.proofs.Common.{rules}
 use Rattle.writing.proofs.Written.{entries_ended}
 use Rattle.ask.proofs.Asked.{asked_start, asked_more}
 use Rattle.ask.proofs.write_targets.Goals as goal

@@ -1,8 +1,5 @@
 -- `ask::write_targets` meets its contract. Invariant: the output so far and what is left to write make the whole.
-use Prim.Native.Nat.{◌+◌, ◌-◌, ◌*◌, ◌≤◌}
-use mathlib.Core.Path.{◌≡◌}
-use mathlib.Core.List.{flat_map, map}
-use lib.ListN.{length}
+use Rattle.std.proofs.Common.{◌+◌, ◌-◌, ◌*◌, ◌≤◌, ◌≡◌, flat_map, map, length}
 use Rattle.octets.specs.LittleEndian.{overwrite}
 use Rattle.element.specs.Entries.{each, item_at, target_octets}
 use Rattle.rules.specs.Originate.{asked_for}
@@ -16,5 +13,4 @@ invariant-loop-i l =
     ≡ overwrite l.initial.output l.at (flat_map target_octets (map (asked_for l.table) (each (item_at l.items) 0 l.n))))
 
 abbrev pub decreases-loop-i : goal.decreases-loop-i
-decreases-loop-i l =
-    l.n - l.i
+decreases-loop-i l = l.n - l.i

@@ -1,4 +1,4 @@
-use borrow.Author.Rules.{rules}
+use Rattle.std.proofs.Common.{rules}
 use Rattle.bench_input.proofs.Refilling.{moved_none, moved_more, moved_all}
 use Rattle.bench_input.proofs.move_to_start.Goals as goal
 

@@ -1,4 +1,4 @@
-use borrow.Author.Rules.{rules}
+use Rattle.std.proofs.Common.{rules}
 use Rattle.bench_links.specs.Links.{linked}
 use Rattle.bench_links.proofs.set_both_ways.Goals as goal
 

@@ -1,4 +1,4 @@
-use borrow.Author.Rules.{rules}
+use Rattle.std.proofs.Common.{rules}
 use Rattle.bench_run.proofs.Turning.{first_ready, first_offset, still_ready}
 use Rattle.bench_run.proofs.run.Goals as goal
 

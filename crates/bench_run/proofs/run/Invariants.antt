@@ -1,8 +1,6 @@
 -- `bench_run::run` meets its contract: it begins at the start, each turn finds the bench where its input has led it, and the
 -- turns end.
-use Prim.Native.Nat.{◌+◌, ◌*◌, ◌≤◌}
-use mathlib.Core.Path.{◌≡◌}
-use lib.ListN.{length}
+use Rattle.std.proofs.Common.{◌+◌, ◌*◌, ◌≤◌, ◌≡◌, length}
 use Rattle.bench_run.specs.Turns.{Ready}
 use Rattle.bench_run.proofs.run.Given as goal
 

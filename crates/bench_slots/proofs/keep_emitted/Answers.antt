@@ -1,5 +1,5 @@
 -- `bench_slots::keep_emitted` meets its contract: it keeps the frames, or there are too many.
-use borrow.Author.Rules.{rules}
+use Rattle.std.proofs.Common.{rules}
 use Rattle.bench_slots.proofs.Slots.{too_many_told, too_many_kept, few_told, few_kept}
 use Rattle.bench_slots.proofs.keep_emitted.Goals as goal
 

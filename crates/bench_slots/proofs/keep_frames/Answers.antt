@@ -1,4 +1,4 @@
-use borrow.Author.Rules.{rules}
+use Rattle.std.proofs.Common.{rules}
 use Rattle.bench_slots.proofs.Slots.{keep_start, holds_start, next_begins, next_ends, next_holds, keep_more, keep_ended}
 use Rattle.bench_slots.proofs.keep_frames.Goals as goal
 

@@ -1,7 +1,5 @@
 -- `bench_slots::keep_frames` meets its contract. Invariant: keeping the remaining frames would give the slots of the contract.
-use Prim.Native.Nat.{◌+◌, ◌-◌, ◌≤◌}
-use mathlib.Core.Path.{◌≡◌}
-use lib.ListN.{length, drop}
+use Rattle.std.proofs.Common.{◌+◌, ◌-◌, ◌≤◌, ◌≡◌, length, drop}
 use Rattle.rules.specs.Exit.{frames_in}
 use Rattle.bench_slots.specs.Slots.{put_frames, Holds}
 use Rattle.bench_slots.proofs.keep_frames.Given as goal
@@ -12,5 +10,4 @@ invariant-loop-i l =
     × Holds (l.n - l.i) (drop l.at l.output) × (l.at ≤ length l.output) × (length l.slots ≡ length l.initial.slots)
 
 abbrev pub decreases-loop-i : goal.decreases-loop-i
-decreases-loop-i l =
-    l.n - l.i
+decreases-loop-i l = l.n - l.i

@@ -1,5 +1,5 @@
 -- `bench_text::put_decimal` meets its contract: it writes the digits of the number, at most 20.
-use borrow.Author.Rules.{rules}
+use Rattle.std.proofs.Common.{rules}
 use Rattle.bench_text.proofs.Printing.{digits_length, digits_end, digits_room, digits_fit, digits_put}
 use Rattle.bench_text.proofs.put_decimal.Goals as goal
 

@@ -1,5 +1,5 @@
 -- `bench_text::put_fault` meets its contract: it writes E, a space, the offset and the end of the line.
-use borrow.Author.Rules.{rules}
+use Rattle.std.proofs.Common.{rules}
 use Rattle.bench_text.proofs.Printing.{fault_end, fault_put}
 use Rattle.bench_text.proofs.put_fault.Goals as goal
 

@@ -1,5 +1,5 @@
 -- `bench_text::put_line` meets its contract: it writes three numbers, each with the octet after it.
-use borrow.Author.Rules.{rules}
+use Rattle.std.proofs.Common.{rules}
 use Rattle.bench_text.proofs.Printing.{line_end, line_put}
 use Rattle.bench_text.proofs.put_line.Goals as goal
 

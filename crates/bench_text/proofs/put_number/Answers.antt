@@ -1,5 +1,5 @@
 -- `bench_text::put_number` meets its contract: it writes the digits, and the octet after them.
-use borrow.Author.Rules.{rules}
+use Rattle.std.proofs.Common.{rules}
 use Rattle.bench_text.proofs.Printing.{then_end, then_put}
 use Rattle.bench_text.proofs.put_number.Goals as goal
 

@@ -1,4 +1,4 @@
-use borrow.Author.Rules.{rules}
+use Rattle.std.proofs.Common.{rules}
 use Rattle.octets.proofs.Laws.{cleared_none, cleared_more, cleared_ended}
 use Rattle.octets.proofs.clear.Goals as goal
 

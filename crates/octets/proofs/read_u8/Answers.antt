@@ -1,4 +1,4 @@
-use borrow.Author.Rules.{rules}
+use Rattle.std.proofs.Common.{rules}
 use Rattle.octets.specs.LittleEndian.{number_at}
 use Rattle.octets.proofs.read_u8.Goals as goal
 

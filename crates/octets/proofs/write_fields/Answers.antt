@@ -1,5 +1,4 @@
-use native.Mathlib.Omega.{arith}
-use borrow.Author.Rules.{rules}
+use Rattle.std.proofs.Common.{arith, rules}
 use Rattle.octets.proofs.Laws.{total_more, fields_more, fields_ended}
 use Rattle.octets.proofs.write_fields.Goals as goal
 

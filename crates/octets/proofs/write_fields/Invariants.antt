@@ -1,7 +1,5 @@
 -- `octets::write_fields` meets its contract. Invariant: writing the fields that are left gives the whole result.
-use Prim.Native.Nat.{◌+◌, ◌-◌, ◌≤◌}
-use mathlib.Core.Path.{◌≡◌}
-use lib.ListN.{length, drop}
+use Rattle.std.proofs.Common.{◌+◌, ◌-◌, ◌≤◌, ◌≡◌, length, drop}
 use Rattle.octets.specs.LittleEndian.{total, with_fields}
 use Rattle.octets.proofs.write_fields.Given as goal
 
@@ -11,5 +9,4 @@ invariant-loop-i l =
     × (with_fields (drop l.i l.widths) l.s l.at l.o (drop l.i l.values) ≡ with_fields l.widths l.initial.s l.at 0 l.values)
 
 abbrev pub decreases-loop-i : goal.decreases-loop-i
-decreases-loop-i l =
-    length l.widths - l.i
+decreases-loop-i l = length l.widths - l.i

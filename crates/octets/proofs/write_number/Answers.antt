@@ -1,4 +1,4 @@
-use borrow.Author.Rules.{rules}
+use Rattle.std.proofs.Common.{rules}
 use Rattle.octets.proofs.Laws.{number_start, number_more, number_ended}
 use Rattle.octets.proofs.write_number.Goals as goal
 

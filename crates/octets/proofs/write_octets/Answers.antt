@@ -1,4 +1,4 @@
-use borrow.Author.Rules.{rules}
+use Rattle.std.proofs.Common.{rules}
 use Rattle.octets.proofs.OctetLists.{overwrite_start, overwrite_more, overwrite_ended, seen_none, seen_more, seen_all}
 use Rattle.octets.proofs.write_octets.Goals as goal
 

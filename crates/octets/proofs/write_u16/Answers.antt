@@ -1,5 +1,5 @@
 -- `octets::write_u16` meets its contract: the two octets make the number.
-use borrow.Author.Rules.{rules}
+use Rattle.std.proofs.Common.{rules}
 use Rattle.octets.proofs.Laws.{second_in, written_2}
 use Rattle.octets.proofs.write_u16.Goals as goal
 

@@ -1,5 +1,5 @@
 -- `octets::write_u8` meets its contract: an octet is a number of one octet.
-use borrow.Author.Rules.{rules}
+use Rattle.std.proofs.Common.{rules}
 use Rattle.octets.proofs.Laws.{written_1}
 use Rattle.octets.proofs.write_u8.Goals as goal
 

@@ -1,5 +1,5 @@
 -- `probe::probe_read` meets its contract, for each result of the reader.
-use borrow.Author.Rules.{rules}
+use Rattle.std.proofs.Common.{rules}
 use Rattle.reading.proofs.Readings.{announcement_element, request_part, request_element, reply_part, reply_element, error_part, error_element}
 use Rattle.probe.proofs.Elements.{read_element_lem, read_refused}
 use Rattle.probe.proofs.probe_read.Goals as goal

@@ -1,5 +1,5 @@
 -- `reading::read_fixed_fields` meets its contract, type by type.
-use borrow.Author.Rules.{rules}
+use Rattle.std.proofs.Common.{rules}
 use Rattle.reading.proofs.Cases.{rann_there, rreq_there, rrep_there, rerr_there, rann_fields, rreq_fields, rrep_fields, rerr_fields}
 use Rattle.reading.proofs.read_fixed_fields.Goals as goal
 

@@ -1,5 +1,5 @@
 -- `writing::start_rerr` meets its contract: it writes its numbers one after another.
-use borrow.Author.Rules.{rules}
+use Rattle.std.proofs.Common.{rules}
 use Rattle.writing.proofs.Written.{rerr_started}
 use Rattle.octets.specs.LittleEndian.{total}
 use Rattle.writing.proofs.start_rerr.Goals as goal

@@ -1,5 +1,5 @@
 -- `writing::write_lost` meets its contract: it writes its numbers one after another.
-use borrow.Author.Rules.{rules}
+use Rattle.std.proofs.Common.{rules}
 use Rattle.writing.proofs.Written.{lost_written}
 use Rattle.octets.specs.LittleEndian.{total}
 use Rattle.writing.proofs.write_lost.Goals as goal

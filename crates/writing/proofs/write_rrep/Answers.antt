@@ -1,5 +1,5 @@
 -- `writing::write_rrep` meets its contract: it writes the start, and then the list part after it.
-use borrow.Author.Rules.{rules}
+use Rattle.std.proofs.Common.{rules}
 use Rattle.writing.proofs.Written.{rrep_written}
 use Rattle.writing.proofs.write_rrep.Goals as goal
 

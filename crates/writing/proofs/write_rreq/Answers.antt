@@ -1,5 +1,5 @@
 -- `writing::write_rreq` meets its contract: it writes the start, and then the list part after it.
-use borrow.Author.Rules.{rules}
+use Rattle.std.proofs.Common.{rules}
 use Rattle.writing.proofs.Written.{rreq_written}
 use Rattle.writing.proofs.write_rreq.Goals as goal
 

@@ -1,5 +1,5 @@
 -- `bench_core::settle::settle` meets its contract, by cases of the outcome.
-use borrow.Author.Rules.{rules}
+use Rattle.std.proofs.Common.{rules}
 use Rattle.bench_core.proofs.Settling.{accepted_holds, accepted_prints, accepted_keeps, refused_prints, refused_keeps}
 use Rattle.bench_core.proofs.settle.settle.Goals as goal
 

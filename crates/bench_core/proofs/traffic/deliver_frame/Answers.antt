@@ -1,5 +1,5 @@
 -- `bench_core::traffic::deliver_frame` meets its contract: there is no frame k, no point p, or the point receives the frame.
-use borrow.Author.Rules.{rules}
+use Rattle.std.proofs.Common.{rules}
 use Rattle.bench_core.proofs.Calling.{frame_fault, receiver_fault, sender_point, transmitter_fits, delivered}
 use Rattle.bench_core.proofs.traffic.deliver_frame.Goals as goal
 

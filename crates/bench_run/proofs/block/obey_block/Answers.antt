@@ -1,4 +1,4 @@
-use borrow.Author.Rules.{rules}
+use Rattle.std.proofs.Common.{rules}
 use Rattle.bench_run.proofs.Stepping.{to_the_end}
 use Rattle.bench_run.proofs.Looping.{none_obeyed, first_stands, going_memory, cut_pauses, room_pauses, one_obeyed, block_over}
 use Rattle.bench_run.proofs.block.obey_block.Goals as goal

@@ -1,9 +1,6 @@
 -- `bench_run::block::obey_block` meets its contract. Each command leaves less of the block. Invariant: the course so far and
 -- what is left make the whole.
-use Prim.Native.Nat.{◌-◌}
-use mathlib.Core.Path.{◌≡◌}
-use mathlib.Core.List.{[]}
-use lib.ListN.{length}
+use Rattle.std.proofs.Common.{◌-◌, ◌≡◌, [], length}
 use Rattle.bench_rules.specs.Run.{going, obey_until}
 use Rattle.bench_run.specs.Blocks.{state_of, standing, pauses_in, Stands}
 use Rattle.bench_run.proofs.Looping.{Remaining}
@@ -18,5 +15,4 @@ invariant-loop-p l =
     × (length l.tables ≡ length l.initial.tables) × (length l.slots ≡ length l.initial.slots) × (length l.text ≡ length l.initial.text)
 
 abbrev pub decreases-loop-p : goal.decreases-loop-p
-decreases-loop-p l =
-    l.n - l.p.used
+decreases-loop-p l = l.n - l.p.used

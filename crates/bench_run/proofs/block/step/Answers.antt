@@ -1,5 +1,5 @@
 -- `bench_run::block::step` meets its contract: a line leaves the octets after the command, and a fault ends the bench.
-use borrow.Author.Rules.{rules}
+use Rattle.std.proofs.Common.{rules}
 use Rattle.bench_run.proofs.Stepping.{all_octets, line_course, line_stands, line_uses, fault_course, fault_stands, fault_uses, to_the_end}
 use Rattle.bench_run.proofs.block.step.Goals as goal
 

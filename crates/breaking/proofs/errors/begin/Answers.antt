@@ -1,5 +1,5 @@
 -- `breaking::errors::begin` meets its contract, by the contract of the writer.
-use borrow.Author.Rules.{rules}
+use Rattle.std.proofs.Common.{rules}
 use Rattle.breaking.proofs.Reported.{begin_writes}
 use Rattle.breaking.proofs.errors.begin.Goals as goal
 

@@ -1,4 +1,4 @@
-use borrow.Author.Rules.{rules}
+use Rattle.std.proofs.Common.{rules}
 use Rattle.breaking.proofs.Broken.{reporting_start, reporting_row, reporting_few, reporting_filled, reporting_room, reporting_more, all_counted, all_written}
 use Rattle.breaking.proofs.report.report_rows.Goals as goal
 

@@ -1,4 +1,4 @@
-use borrow.Author.Rules.{rules}
+use Rattle.std.proofs.Common.{rules}
 use Rattle.table.proofs.Changes.{below_start, below_more, below_ended}
 use Rattle.breaking.proofs.rows.break_rows.Goals as goal
 

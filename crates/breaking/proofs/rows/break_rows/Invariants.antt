@@ -1,7 +1,5 @@
 -- `breaking::rows::break_rows` meets its contract. Invariant: the rows below i are broken where they must be.
-use Prim.Native.Nat.{◌-◌, ◌≤◌}
-use mathlib.Core.Path.{◌≡◌}
-use lib.ListN.{length}
+use Rattle.std.proofs.Common.{◌-◌, ◌≤◌, ◌≡◌, length}
 use Rattle.layout.specs.Row.{is_through}
 use Rattle.table.specs.Table.{change_below}
 use Rattle.rules.specs.Errors.{broken}
@@ -12,5 +10,4 @@ invariant-loop-i l =
     (length l.table ≡ length l.initial.table) × (l.i ≤ l.n) × (l.table ≡ change_below (is_through l.clock l.neighbour) broken l.i l.initial.table)
 
 abbrev pub decreases-loop-i : goal.decreases-loop-i
-decreases-loop-i l =
-    l.n - l.i
+decreases-loop-i l = l.n - l.i

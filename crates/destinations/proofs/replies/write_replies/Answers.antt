@@ -1,5 +1,4 @@
-use native.Mathlib.Omega.{arith}
-use borrow.Author.Rules.{rules}
+use Rattle.std.proofs.Common.{arith, rules}
 use Rattle.destinations.proofs.Replying.{replying_start, replying_room, replying_few, replying_more, all_replied, replies_written}
 use Rattle.destinations.proofs.replies.write_replies.Goals as goal
 

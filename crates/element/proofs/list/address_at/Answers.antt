@@ -1,5 +1,5 @@
 -- `element::list::address_at` meets its contract: the address stands at its place in the entry.
-use borrow.Author.Rules.{rules}
+use Rattle.std.proofs.Common.{rules}
 use Rattle.element.proofs.Scans.{entry_place_fits, address_place_fits, address_within, address_read}
 use Rattle.element.proofs.list.address_at.Goals as goal
 

@@ -1,4 +1,4 @@
-use borrow.Author.Rules.{rules}
+use Rattle.std.proofs.Common.{rules}
 use Rattle.element.proofs.Scans.{entry_there, contains_found, contains_more, contains_ended}
 use Rattle.element.proofs.list.contains_from.Goals as goal
 

@@ -1,5 +1,5 @@
 -- `element::list::entries_in` meets its contract: it divides by the size of an entry.
-use borrow.Author.Rules.{rules}
+use Rattle.std.proofs.Common.{rules}
 use Rattle.element.proofs.Scans.{some_size, entries_many}
 use Rattle.element.proofs.list.entries_in.Goals as goal
 

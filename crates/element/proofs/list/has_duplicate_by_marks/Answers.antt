@@ -1,4 +1,4 @@
-use borrow.Author.Rules.{rules}
+use Rattle.std.proofs.Common.{rules}
 use Rattle.layout.proofs.Marks.{mark_in}
 use Rattle.element.proofs.Marking.{no_duplicate, none_marked, before_within, again_found, before_marked, still_once, all_once}
 use Rattle.element.proofs.list.has_duplicate_by_marks.Goals as goal

@@ -1,9 +1,6 @@
 -- `element::list::has_duplicate_by_marks` meets its contract. Invariant: the entries from `from` on have no address twice, and
 -- are marked.
-use Prim.Native.Nat.{◌+◌, ◌≤◌}
-use mathlib.Core.Path.{◌≡◌}
-use mathlib.Core.Bool.{false}
-use lib.ListN.{length}
+use Rattle.std.proofs.Common.{◌+◌, ◌≤◌, ◌≡◌, false, length}
 use Rattle.layout.proofs.Marks.{Marked}
 use Rattle.element.specs.Entries.{entries_in}
 use Rattle.element.specs.Lists.{address_in, addresses_from, has_duplicate}
@@ -15,5 +12,4 @@ invariant-loop-from l =
     × (has_duplicate (addresses_from l.kind l.part l.from) ≡ false)
 
 abbrev pub decreases-loop-from : goal.decreases-loop-from
-decreases-loop-from l =
-    l.from
+decreases-loop-from l = l.from

@@ -1,4 +1,4 @@
-use borrow.Author.Rules.{rules}
+use Rattle.std.proofs.Common.{rules}
 use Rattle.element.proofs.Scans.{entry_there, forbidden_found, forbidden_more, forbidden_ended}
 use Rattle.element.proofs.list.has_forbidden.Goals as goal
 

@@ -1,6 +1,5 @@
 -- `element::list::has_forbidden` meets its contract. Invariant: all entries that the loop has passed are allowed.
-use Prim.Native.Nat.{◌-◌}
-use mathlib.Core.Path.{◌≡◌}
+use Rattle.std.proofs.Common.{◌-◌, ◌≡◌}
 use Rattle.element.specs.Lists.{addresses_from, any_forbidden}
 use Rattle.element.proofs.list.has_forbidden.Given as goal
 
@@ -9,5 +8,4 @@ invariant-loop-i l =
     any_forbidden l.kind (addresses_from l.kind l.part l.i) ≡ any_forbidden l.kind (addresses_from l.kind l.part 0)
 
 abbrev pub decreases-loop-i : goal.decreases-loop-i
-decreases-loop-i l =
-    l.n - l.i
+decreases-loop-i l = l.n - l.i

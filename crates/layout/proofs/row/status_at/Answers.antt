@@ -1,5 +1,5 @@
 -- `layout::row::status_at` meets its contract, by unfolding the definition.
-use native.Mathlib.Nat.{add-zero}
+use Rattle.std.proofs.Common.{add-zero}
 use Rattle.octets.specs.LittleEndian.{fields_at}
 use Rattle.layout.specs.Layout.{row_at}
 use Rattle.layout.proofs.row.status_at.Goals as goal

@@ -1,7 +1,7 @@
 -- `layout::row::write_head` meets its contract: its numbers are written side by side.
+use Rattle.std.proofs.Common.{rules}
 use Rattle.octets.specs.LittleEndian.{total}
 use Rattle.layout.specs.Layout.{put_head}
-use borrow.Author.Rules.{rules}
 use Rattle.layout.proofs.row.write_head.Goals as goal
 
 pub returns : goal.returns

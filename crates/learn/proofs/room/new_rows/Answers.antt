@@ -1,5 +1,5 @@
 -- `learn::room::new_rows` meets its contract: the row was found, or there is none.
-use native.Mathlib.Omega.{arith}
+use Rattle.std.proofs.Common.{arith}
 use Rattle.learn.proofs.NewRows.{row_there, row_absent}
 use Rattle.learn.proofs.room.new_rows.Goals as goal
 

@@ -1,4 +1,4 @@
-use borrow.Author.Rules.{rules}
+use Rattle.std.proofs.Common.{rules}
 use Rattle.rules.proofs.AnyOf.{any_start}
 use Rattle.matches.proofs.LostBy.{this_matches, this_does_not, none_matches}
 use Rattle.matches.proofs.matching.matches_nothing.Goals as goal

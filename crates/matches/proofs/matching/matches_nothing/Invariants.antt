@@ -1,6 +1,5 @@
 -- `matches::matching::matches_nothing` meets its contract. Invariant: no entry before the current one is a match.
-use Prim.Native.Nat.{◌-◌}
-use mathlib.Core.Path.{◌≡◌}
+use Rattle.std.proofs.Common.{◌-◌, ◌≡◌}
 use Rattle.element.specs.Entries.{each, lost_at}
 use Rattle.rules.specs.Errors.{matches}
 use Rattle.rules.specs.Lists.{any}
@@ -12,5 +11,4 @@ invariant-loop-i l =
     ≡ any (matches l.table l.a.clock l.a.transmitter) (each (lost_at l.part) 0 l.n)
 
 abbrev pub decreases-loop-i : goal.decreases-loop-i
-decreases-loop-i l =
-    l.n - l.i
+decreases-loop-i l = l.n - l.i

@@ -1,5 +1,4 @@
-use native.Mathlib.Omega.{arith}
-use borrow.Author.Rules.{rules}
+use Rattle.std.proofs.Common.{arith, rules}
 use Rattle.writing.proofs.Listing.{listing_start, listing_room, listing_counted, listing_written}
 use Rattle.matches.proofs.Listed.{reporting_more, matches_octets}
 use Rattle.matches.proofs.report.write_matches.Goals as goal

@@ -1,7 +1,5 @@
 -- `matches::rows::lose_rows` meets its contract. Invariant: every row before the current one is done.
-use Prim.Native.Nat.{◌-◌, ◌≤◌}
-use mathlib.Core.Path.{◌≡◌}
-use lib.ListN.{length}
+use Rattle.std.proofs.Common.{◌-◌, ◌≤◌, ◌≡◌, length}
 use Rattle.table.specs.Table.{change_below}
 use Rattle.element.specs.Entries.{lost_in}
 use Rattle.rules.specs.Errors.{is_match, erred}
@@ -13,5 +11,4 @@ invariant-loop-i l =
     × (l.table ≡ change_below (is_match l.a.clock l.a.transmitter (lost_in l.part)) (erred (lost_in l.part)) l.i l.initial.table)
 
 abbrev pub decreases-loop-i : goal.decreases-loop-i
-decreases-loop-i l =
-    l.n - l.i
+decreases-loop-i l = l.n - l.i

@@ -1,4 +1,4 @@
-use borrow.Author.Rules.{rules}
+use Rattle.std.proofs.Common.{rules}
 use Rattle.matches.proofs.LostRows.{beside_start, beside_found, beside_more, beside_ended}
 use Rattle.matches.proofs.rows.number_beside.Goals as goal
 

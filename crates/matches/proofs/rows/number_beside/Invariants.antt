@@ -1,6 +1,5 @@
 -- `matches::rows::number_beside` meets its contract. Invariant: the entries before the current one have other addresses.
-use Prim.Native.Nat.{◌-◌}
-use mathlib.Core.Path.{◌≡◌}
+use Rattle.std.proofs.Common.{◌-◌, ◌≡◌}
 use Rattle.element.specs.Entries.{each, lost_at}
 use Rattle.rules.specs.Errors.{number_beside}
 use Rattle.matches.proofs.rows.number_beside.Given as goal
@@ -10,5 +9,4 @@ invariant-loop-i l =
     number_beside l.d (each (lost_at l.part) l.i (l.n - l.i)) ≡ number_beside l.d (each (lost_at l.part) 0 l.n)
 
 abbrev pub decreases-loop-i : goal.decreases-loop-i
-decreases-loop-i l =
-    l.n - l.i
+decreases-loop-i l = l.n - l.i

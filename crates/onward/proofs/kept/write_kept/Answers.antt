@@ -1,5 +1,4 @@
-use native.Mathlib.Omega.{arith}
-use borrow.Author.Rules.{rules}
+use Rattle.std.proofs.Common.{arith, rules}
 use Rattle.writing.proofs.Listing.{listing_start, listing_room, listing_written}
 use Rattle.onward.proofs.KeptOnes.{keeping_more, kept_octets_among, all_counted}
 use Rattle.onward.proofs.kept.write_kept.Goals as goal

@@ -1,7 +1,5 @@
 -- `onward::kept::write_kept` meets its contract. Invariant: what is written and what is left make the whole.
-use Prim.Native.Nat.{◌-◌}
-use mathlib.Core.Path.{◌≡◌}
-use lib.ListN.{length}
+use Rattle.std.proofs.Common.{◌-◌, ◌≡◌, length}
 use Rattle.onward.proofs.KeptOnes.{Keeping}
 use Rattle.onward.proofs.kept.write_kept.Given as goal
 
@@ -10,5 +8,4 @@ invariant-loop-i l =
     (length l.output ≡ length l.initial.output) × Keeping l.table l.clock l.part l.initial.output l.at l.n l.i l.place l.output
 
 abbrev pub decreases-loop-i : goal.decreases-loop-i
-decreases-loop-i l =
-    l.n - l.i
+decreases-loop-i l = l.n - l.i

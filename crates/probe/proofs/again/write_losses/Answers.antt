@@ -1,4 +1,4 @@
-use borrow.Author.Rules.{rules}
+use Rattle.std.proofs.Common.{rules}
 use Rattle.element.specs.Entries.{lost_octets}
 use Rattle.writing.proofs.Written.{entries_start, entries_ended, lost_length}
 use Rattle.probe.proofs.Entries.{entry_more}

@@ -1,5 +1,5 @@
 -- `probe::again::write_rann` meets its contract: it writes the frame if it fits.
-use borrow.Author.Rules.{rules}
+use Rattle.std.proofs.Common.{rules}
 use Rattle.probe.proofs.Frames.{room_there, no_room, wrote, rann_size}
 use Rattle.probe.proofs.again.write_rann.Goals as goal
 

@@ -1,5 +1,5 @@
 -- `probe::again::write_rerr` meets its contract: it writes the frame if it fits, the start and then the list.
-use borrow.Author.Rules.{rules}
+use Rattle.std.proofs.Common.{rules}
 use Rattle.writing.proofs.Written.{rerr_listed}
 use Rattle.probe.proofs.Frames.{start_room, list_room, no_room, wrote, rerr_size}
 use Rattle.probe.proofs.again.write_rerr.Goals as goal

@@ -1,5 +1,5 @@
 -- `probe::again::write_rrep` meets its contract: it writes the frame if it fits.
-use borrow.Author.Rules.{rules}
+use Rattle.std.proofs.Common.{rules}
 use Rattle.probe.proofs.Frames.{whole_room, no_room, wrote, rrep_size}
 use Rattle.probe.proofs.again.write_rrep.Goals as goal
 

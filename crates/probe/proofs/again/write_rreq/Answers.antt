@@ -1,5 +1,5 @@
 -- `probe::again::write_rreq` meets its contract: it writes the frame if it fits, and both ways write the same octets.
-use borrow.Author.Rules.{rules}
+use Rattle.std.proofs.Common.{rules}
 use Rattle.writing.proofs.Written.{rreq_listed}
 use Rattle.probe.proofs.Frames.{whole_room, start_room, list_room, no_room, wrote, rreq_size}
 use Rattle.probe.proofs.again.write_rreq.Goals as goal

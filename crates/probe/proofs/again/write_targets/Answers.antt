@@ -1,4 +1,4 @@
-use borrow.Author.Rules.{rules}
+use Rattle.std.proofs.Common.{rules}
 use Rattle.element.specs.Entries.{target_octets}
 use Rattle.writing.proofs.Written.{entries_start, entries_ended, target_length}
 use Rattle.probe.proofs.Entries.{entry_more}

@@ -1,5 +1,5 @@
 -- `probe::again::write_targets` meets its contract. Invariant: writing the rest would complete the list.
-use Prim.Native.Nat.{◌-◌}
+use Rattle.std.proofs.Common.{◌-◌}
 use Rattle.element.specs.Entries.{target_at, target_octets}
 use Rattle.probe.proofs.Entries.{Left}
 use Rattle.probe.proofs.again.write_targets.Given as goal
@@ -9,5 +9,4 @@ invariant-loop-i l =
     Left target_octets 11 (target_at l.part) l.n l.at l.initial.out l.out l.place l.i
 
 abbrev pub decreases-loop-i : goal.decreases-loop-i
-decreases-loop-i l =
-    l.n - l.i
+decreases-loop-i l = l.n - l.i

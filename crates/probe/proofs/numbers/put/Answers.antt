@@ -1,4 +1,4 @@
-use borrow.Author.Rules.{rules}
+use Rattle.std.proofs.Common.{rules}
 use Rattle.octets.proofs.OctetLists.{overwrite_start, overwrite_more, overwrite_ended}
 use Rattle.probe.proofs.numbers.put.Goals as goal
 

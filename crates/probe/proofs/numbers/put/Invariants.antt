@@ -1,7 +1,5 @@
 -- `probe::numbers::put` meets its contract. Invariant: writing the rest would complete the values.
-use Prim.Native.Nat.{◌+◌, ◌-◌, ◌≤◌}
-use mathlib.Core.Path.{◌≡◌}
-use lib.ListN.{length, drop}
+use Rattle.std.proofs.Common.{◌+◌, ◌-◌, ◌≤◌, ◌≡◌, length, drop}
 use Rattle.octets.specs.LittleEndian.{overwrite}
 use Rattle.probe.proofs.numbers.put.Given as goal
 
@@ -10,5 +8,4 @@ invariant-loop-j l =
     (l.j ≤ length l.values) × (length l.numbers ≡ length l.initial.numbers) × (overwrite l.numbers (l.at + l.j) (drop l.j l.values) ≡ overwrite l.initial.numbers l.at l.values)
 
 abbrev pub decreases-loop-j : goal.decreases-loop-j
-decreases-loop-j l =
-    length l.values - l.j
+decreases-loop-j l = length l.values - l.j

@@ -1,5 +1,5 @@
 -- `probe::numbers::put_numbered` meets its contract. Invariant: writing the rest would complete the list.
-use Prim.Native.Nat.{◌-◌}
+use Rattle.std.proofs.Common.{◌-◌}
 use Rattle.element.specs.Element.{numbered_numbers}
 use Rattle.element.specs.Entries.{numbered_at}
 use Rattle.probe.proofs.Entries.{Left}
@@ -10,5 +10,4 @@ invariant-loop-i l =
     Left numbered_numbers 2 (numbered_at l.part) l.n l.at l.initial.numbers l.numbers l.place l.i
 
 abbrev pub decreases-loop-i : goal.decreases-loop-i
-decreases-loop-i l =
-    l.n - l.i
+decreases-loop-i l = l.n - l.i

@@ -1,5 +1,5 @@
 -- `probe::numbers::put_rann` meets its contract: it writes the numbers of the fixed part, and a RANN has no others.
-use borrow.Author.Rules.{rules}
+use Rattle.std.proofs.Common.{rules}
 use Rattle.probe.proofs.Elements.{rann_put}
 use Rattle.probe.proofs.numbers.put_rann.Goals as goal
 

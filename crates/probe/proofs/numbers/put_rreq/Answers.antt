@@ -1,5 +1,5 @@
 -- `probe::numbers::put_rreq` meets its contract: it writes the numbers of the fixed part, and then those of the entries.
-use borrow.Author.Rules.{rules}
+use Rattle.std.proofs.Common.{rules}
 use Rattle.probe.proofs.Elements.{rreq_put}
 use Rattle.probe.proofs.numbers.put_rreq.Goals as goal
 

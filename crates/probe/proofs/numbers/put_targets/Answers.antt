@@ -1,5 +1,4 @@
-use mathlib.Core.Path.{refl}
-use borrow.Author.Rules.{rules}
+use Rattle.std.proofs.Common.{refl, rules}
 use Rattle.element.specs.Element.{target_numbers}
 use Rattle.writing.proofs.Written.{entries_start, entries_ended}
 use Rattle.probe.proofs.Entries.{entry_more}

@@ -1,5 +1,5 @@
 -- `receive::announcement::check_and_learn` meets its contract, by the faults and the path.
-use borrow.Author.Rules.{rules}
+use Rattle.std.proofs.Common.{rules}
 use Rattle.rules.specs.Receive.{matches_nothing}
 use Rattle.receive.proofs.Judging.{fields_refused, fields_passed, fields_extend}
 use Rattle.receive.proofs.Learnt.{nothing_learnt, both_steps}

@@ -1,4 +1,4 @@
-use borrow.Author.Rules.{rules}
+use Rattle.std.proofs.Common.{rules}
 use Rattle.rules.proofs.AnyOf.{any_start, any_ended}
 use Rattle.receive.proofs.Faulty.{mismarked_found, mismarked_more}
 use Rattle.receive.proofs.faults.has_mismarked.Goals as goal

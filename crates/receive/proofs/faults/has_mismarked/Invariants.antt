@@ -1,6 +1,5 @@
 -- `receive::faults::has_mismarked` meets its contract. Invariant: the destinations from i on give the answer for all destinations.
-use Prim.Native.Nat.{◌-◌}
-use mathlib.Core.Path.{◌≡◌}
+use Rattle.std.proofs.Common.{◌-◌, ◌≡◌}
 use Rattle.element.specs.Entries.{each, target_at}
 use Rattle.rules.specs.Lists.{any}
 use Rattle.rules.specs.Receive.{is_mismarked}
@@ -11,5 +10,4 @@ invariant-loop-i l =
     any is_mismarked (each (target_at l.part) l.i (l.n - l.i)) ≡ any is_mismarked (each (target_at l.part) 0 l.n)
 
 abbrev pub decreases-loop-i : goal.decreases-loop-i
-decreases-loop-i l =
-    l.n - l.i
+decreases-loop-i l = l.n - l.i

@@ -1,5 +1,5 @@
 -- `receive::reply::check_and_learn` meets its contract, by the faults and the path.
-use borrow.Author.Rules.{rules}
+use Rattle.std.proofs.Common.{rules}
 use Rattle.rules.specs.Receive.{matches_nothing}
 use Rattle.receive.proofs.Judging.{fields_refused, passed_on, fields_extend, dependents_aside}
 use Rattle.receive.proofs.reply.check_and_learn.Goals as goal

@@ -1,5 +1,5 @@
 -- `receive::request::answer` meets its contract: it writes the replies, and after them the forwarded RREQ.
-use borrow.Author.Rules.{rules}
+use Rattle.std.proofs.Common.{rules}
 use Rattle.receive.proofs.Taken.{replies_few, replies_after, replies_short, replies_room, onward_few, onward_short, answer_counted, answer_written}
 use Rattle.receive.proofs.request.answer.Goals as goal
 

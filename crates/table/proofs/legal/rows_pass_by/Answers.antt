@@ -1,4 +1,4 @@
-use borrow.Author.Rules.{rules}
+use Rattle.std.proofs.Common.{rules}
 use borrow.Author.Tests.{not-true, not-false}
 use Rattle.layout.proofs.Marks.{mark_in, marked_none}
 use Rattle.table.proofs.MarkedRows.{destination_marked, passes_by}

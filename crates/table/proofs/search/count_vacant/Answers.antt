@@ -1,4 +1,4 @@
-use borrow.Author.Rules.{rules}
+use Rattle.std.proofs.Common.{rules}
 use Rattle.table.proofs.Places.{count_none, count_more, counted_le, count_ended}
 use Rattle.table.proofs.search.count_vacant.Goals as goal
 

@@ -1,5 +1,5 @@
 -- `table::search::counted` meets its contract: a free row adds one.
-use native.Mathlib.Omega.{arith}
+use Rattle.std.proofs.Common.{arith}
 use Rattle.table.proofs.search.counted.Goals as goal
 
 pub returns-then-free : goal.returns-then-free

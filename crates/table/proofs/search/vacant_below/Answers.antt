@@ -1,4 +1,4 @@
-use borrow.Author.Rules.{rules}
+use Rattle.std.proofs.Common.{rules}
 use Rattle.table.proofs.Places.{first_none, first_more, first_here, first_ended}
 use Rattle.table.proofs.search.vacant_below.Goals as goal
 

@@ -1,4 +1,4 @@
-use borrow.Author.Rules.{rules}
+use Rattle.std.proofs.Common.{rules}
 use Rattle.element.proofs.Scans.{each_contains_found, each_contains_more, each_contains_ended}
 use Rattle.walk.proofs.pieces.contains.Goals as goal
 

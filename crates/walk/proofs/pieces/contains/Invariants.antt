@@ -1,6 +1,5 @@
 -- `walk::pieces::contains` meets its contract. Invariant: the points from i on give the answer for all points from `from` on.
-use Prim.Native.Nat.{◌-◌}
-use mathlib.Core.Path.{◌≡◌}
+use Rattle.std.proofs.Common.{◌-◌, ◌≡◌}
 use Rattle.element.specs.Entries.{each}
 use Rattle.element.specs.Lists.{contains}
 use Rattle.walk.specs.Pieces.{point_at}
@@ -11,5 +10,4 @@ invariant-loop-i l =
     contains (each (point_at l.tables l.long) l.i (l.count - l.i)) l.address ≡ contains (each (point_at l.tables l.long) l.from (l.count - l.from)) l.address
 
 abbrev pub decreases-loop-i : goal.decreases-loop-i
-decreases-loop-i l =
-    l.count - l.i
+decreases-loop-i l = l.count - l.i

@@ -1,4 +1,4 @@
-use borrow.Author.Rules.{rules}
+use Rattle.std.proofs.Common.{rules}
 use Rattle.element.proofs.Scans.{each_duplicate_found, each_duplicate_more, each_duplicate_ended}
 use Rattle.walk.proofs.Tables.{duplicate_start}
 use Rattle.walk.proofs.pieces.has_duplicate.Goals as goal

@@ -1,6 +1,5 @@
 -- `walk::pieces::has_duplicate` meets its contract. Invariant: the points from i on give the answer for all points.
-use Prim.Native.Nat.{◌-◌}
-use mathlib.Core.Path.{◌≡◌}
+use Rattle.std.proofs.Common.{◌-◌, ◌≡◌}
 use Rattle.element.specs.Entries.{each}
 use Rattle.element.specs.Lists.{has_duplicate}
 use Rattle.rules.specs.Walk.{points}
@@ -12,5 +11,4 @@ invariant-loop-i l =
     has_duplicate (each (point_at l.tables l.long) l.i (l.count - l.i)) ≡ has_duplicate (points (pieces l.tables l.long l.count))
 
 abbrev pub decreases-loop-i : goal.decreases-loop-i
-decreases-loop-i l =
-    l.count - l.i
+decreases-loop-i l = l.count - l.i

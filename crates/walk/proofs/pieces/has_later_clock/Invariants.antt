@@ -1,6 +1,5 @@
 -- `walk::pieces::has_later_clock` meets its contract. Invariant: the tables from i on give the answer for all tables.
-use Prim.Native.Nat.{◌-◌}
-use mathlib.Core.Path.{◌≡◌}
+use Rattle.std.proofs.Common.{◌-◌, ◌≡◌}
 use Rattle.element.specs.Entries.{each}
 use Rattle.rules.specs.Lists.{any}
 use Rattle.rules.specs.Walk.{has_later_clock, table_at}
@@ -11,5 +10,4 @@ invariant-loop-i l =
     any (has_later_clock l.clock) (each (table_at l.tables l.long) l.i (l.count - l.i)) ≡ any (has_later_clock l.clock) (each (table_at l.tables l.long) 0 l.count)
 
 abbrev pub decreases-loop-i : goal.decreases-loop-i
-decreases-loop-i l =
-    l.count - l.i
+decreases-loop-i l = l.count - l.i

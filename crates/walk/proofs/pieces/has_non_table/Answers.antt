@@ -1,4 +1,4 @@
-use borrow.Author.Rules.{rules}
+use Rattle.std.proofs.Common.{rules}
 use Rattle.rules.proofs.AnyOf.{any_start, any_ended}
 use Rattle.walk.proofs.Tables.{piece_within, piece_sized, other_found, other_more}
 use Rattle.walk.proofs.pieces.has_non_table.Goals as goal

@@ -1,4 +1,4 @@
-use borrow.Author.Rules.{rules}
+use Rattle.std.proofs.Common.{rules}
 use Rattle.walk.proofs.Ways.{way_start, way_arrived, way_stopped, way_more, way_ended}
 use Rattle.walk.proofs.way.follow.Goals as goal
 

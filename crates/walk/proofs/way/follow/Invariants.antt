@@ -1,7 +1,6 @@
 -- `walk::way::follow` meets its contract. Invariant: what is left of the way ends as the whole does, and the hops walked and
 -- those that remain are together as many as the points.
-use Prim.Native.Nat.{◌+◌}
-use mathlib.Core.Path.{◌≡◌}
+use Rattle.std.proofs.Common.{◌+◌, ◌≡◌}
 use Rattle.rules.specs.Walk.{follow}
 use Rattle.walk.specs.OnTheWay.{resumed}
 use Rattle.walk.specs.Pieces.{pieces}
@@ -13,5 +12,4 @@ invariant-loop-remaining l =
     × (l.hops + l.remaining ≡ l.count)
 
 abbrev pub decreases-loop-remaining : goal.decreases-loop-remaining
-decreases-loop-remaining l =
-    l.remaining
+decreases-loop-remaining l = l.remaining

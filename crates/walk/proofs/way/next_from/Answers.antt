@@ -1,4 +1,4 @@
-use borrow.Author.Rules.{rules}
+use Rattle.std.proofs.Common.{rules}
 use Rattle.walk.proofs.Tables.{piece_within, piece_sized}
 use Rattle.walk.proofs.Ways.{row_start, row_found, row_more, row_ended}
 use Rattle.walk.proofs.way.next_from.Goals as goal
