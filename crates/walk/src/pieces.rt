@@ -1,6 +1,6 @@
 // The tables side by side as pieces of one length, and what the checks ask of them.
 ghost use Rattle.std.specs.Prelude.{◌≡◌, not, ◌+◌, ◌-◌, ◌*◌, ◌<◌, ◌≤◌, length};
-ghost use Rattle.table.specs.Table.{is_table, clock as Table·clock};
+ghost use Rattle.table.specs.Table.{is_table, clock as table_clock};
 ghost use Rattle.element.specs.Entries.{each};
 ghost use Rattle.element.specs.Lists.{contains, has_duplicate};
 ghost use Rattle.rules.specs.Lists.{any};
@@ -84,7 +84,7 @@ pub fn has_non_table(tables: &[u8], long: usize, count: usize) -> bool
 fn latest_clock_at(tables: &[u8], long: usize, count: usize, i: usize) -> u64
     requires pieces { Pieces tables.now long count }
     requires i_lt_count { i < count }
-    ensures { result ≡ Table·clock (table_at tables.now long i) }
+    ensures { result ≡ table_clock (table_at tables.now long i) }
 {
     row::read_head(table_at(tables, long, i)).clock
 }

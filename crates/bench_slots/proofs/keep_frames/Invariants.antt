@@ -6,7 +6,8 @@ use Rattle.bench_slots.proofs.keep_frames.Given as goal
 
 abbrev pub invariant-loop-i : goal.invariant-loop-i
 invariant-loop-i l =
-    (put_frames l.slots l.sender (l.first + l.i) (frames_in (l.n - l.i) (drop l.at l.output)) ≡ put_frames l.initial.slots l.sender l.first (frames_in l.n l.output))
+    (put_frames l.slots l.sender (l.first + l.i) (frames_in (l.n - l.i) (drop l.at l.output))
+    ≡ put_frames l.initial.slots l.sender l.first (frames_in l.n l.output))
     × Holds (l.n - l.i) (drop l.at l.output) × (l.at ≤ length l.output) × (length l.slots ≡ length l.initial.slots)
 
 abbrev pub decreases-loop-i : goal.decreases-loop-i

@@ -12,7 +12,8 @@ invariant-loop-p l =
     (obey_until (pauses_in l.last (length l.initial.text)) (length l.block) (going [] (standing (state_of l.initial.p) l.offset l.initial.tables l.initial.slots l.initial.links)) l.block)
     l.p l.tables l.slots l.links l.text
     × Stands l.p (length l.block) l.tables l.slots l.text
-    × (length l.tables ≡ length l.initial.tables) × (length l.slots ≡ length l.initial.slots) × (length l.text ≡ length l.initial.text)
+    × (length l.tables ≡ length l.initial.tables) × (length l.slots ≡ length l.initial.slots)
+    × (length l.text ≡ length l.initial.text)
 
 abbrev pub decreases-loop-p : goal.decreases-loop-p
 decreases-loop-p l = l.n - l.p.used

@@ -6,7 +6,8 @@ use Rattle.breaking.proofs.report.report_rows.Given as goal
 
 abbrev pub invariant-loop-i : goal.invariant-loop-i
 invariant-loop-i l =
-    (length l.output ≡ length l.initial.output) × Reporting (is_through l.clock l.neighbour) l.table l.n l.initial.output l.at l.i l.reported l.output
+    (length l.output ≡ length l.initial.output)
+    × Reporting (is_through l.clock l.neighbour) l.table l.n l.initial.output l.at l.i l.reported l.output
 
 abbrev pub decreases-loop-i : goal.decreases-loop-i
 decreases-loop-i l = l.n - l.i

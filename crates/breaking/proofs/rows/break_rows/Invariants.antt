@@ -7,7 +7,8 @@ use Rattle.breaking.proofs.rows.break_rows.Given as goal
 
 abbrev pub invariant-loop-i : goal.invariant-loop-i
 invariant-loop-i l =
-    (length l.table ≡ length l.initial.table) × (l.i ≤ l.n) × (l.table ≡ change_below (is_through l.clock l.neighbour) broken l.i l.initial.table)
+    (length l.table ≡ length l.initial.table) × (l.i ≤ l.n)
+    × (l.table ≡ change_below (is_through l.clock l.neighbour) broken l.i l.initial.table)
 
 abbrev pub decreases-loop-i : goal.decreases-loop-i
 decreases-loop-i l = l.n - l.i

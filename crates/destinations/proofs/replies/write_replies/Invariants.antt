@@ -5,7 +5,8 @@ use Rattle.destinations.proofs.replies.write_replies.Given as goal
 
 abbrev pub invariant-loop-i : goal.invariant-loop-i
 invariant-loop-i l =
-    (length l.output ≡ length l.initial.output) × Replying l.table l.a l.p l.part l.initial.output l.at l.n l.initial.replied.number l.i l.replied l.output
+    (length l.output ≡ length l.initial.output)
+    × Replying l.table l.a l.p l.part l.initial.output l.at l.n l.initial.replied.number l.i l.replied l.output
 
 abbrev pub decreases-loop-i : goal.decreases-loop-i
 decreases-loop-i l = l.n - l.i

@@ -9,7 +9,8 @@ use Rattle.table.proofs.legal.rows_pass_by.Given as goal
 
 abbrev pub invariant-loop-i : goal.invariant-loop-i
 invariant-loop-i l =
-    (l.i ≤ l.n) × (length l.seen ≡ l.last + 1) × Marked (destination_in l.table) l.seen l.last 0 l.i × (every (passes l.table l.own) l.i ≡ true)
+    (l.i ≤ l.n) × (length l.seen ≡ l.last + 1) × Marked (destination_in l.table) l.seen l.last 0 l.i
+    × (every (passes l.table l.own) l.i ≡ true)
 
 abbrev pub decreases-loop-i : goal.decreases-loop-i
 decreases-loop-i l = l.n - l.i

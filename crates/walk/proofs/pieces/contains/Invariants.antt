@@ -7,7 +7,8 @@ use Rattle.walk.proofs.pieces.contains.Given as goal
 
 abbrev pub invariant-loop-i : goal.invariant-loop-i
 invariant-loop-i l =
-    contains (each (point_at l.tables l.long) l.i (l.count - l.i)) l.address ≡ contains (each (point_at l.tables l.long) l.from (l.count - l.from)) l.address
+    contains (each (point_at l.tables l.long) l.i (l.count - l.i)) l.address
+    ≡ contains (each (point_at l.tables l.long) l.from (l.count - l.from)) l.address
 
 abbrev pub decreases-loop-i : goal.decreases-loop-i
 decreases-loop-i l = l.count - l.i

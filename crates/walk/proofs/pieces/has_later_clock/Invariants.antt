@@ -7,7 +7,8 @@ use Rattle.walk.proofs.pieces.has_later_clock.Given as goal
 
 abbrev pub invariant-loop-i : goal.invariant-loop-i
 invariant-loop-i l =
-    any (has_later_clock l.clock) (each (table_at l.tables l.long) l.i (l.count - l.i)) ≡ any (has_later_clock l.clock) (each (table_at l.tables l.long) 0 l.count)
+    any (has_later_clock l.clock) (each (table_at l.tables l.long) l.i (l.count - l.i))
+    ≡ any (has_later_clock l.clock) (each (table_at l.tables l.long) 0 l.count)
 
 abbrev pub decreases-loop-i : goal.decreases-loop-i
 decreases-loop-i l = l.count - l.i

@@ -8,7 +8,8 @@ use Rattle.walk.proofs.way.follow.Given as goal
 
 abbrev pub invariant-loop-remaining : goal.invariant-loop-remaining
 invariant-loop-remaining l =
-    (resumed (pieces l.tables l.long l.count) l.clock l.destination l.remaining l.at l.hops l.before ≡ follow (pieces l.tables l.long l.count) l.clock l.destination l.count l.initial.at 0)
+    (resumed (pieces l.tables l.long l.count) l.clock l.destination l.remaining l.at l.hops l.before
+    ≡ follow (pieces l.tables l.long l.count) l.clock l.destination l.count l.initial.at 0)
     × (l.hops + l.remaining ≡ l.count)
 
 abbrev pub decreases-loop-remaining : goal.decreases-loop-remaining
