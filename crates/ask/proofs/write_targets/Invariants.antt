@@ -1,5 +1,6 @@
 -- `ask::write_targets` meets its contract. Invariant: the output so far and what is left to write make the whole.
-use Rattle.std.proofs.Common.{◌+◌, ◌-◌, ◌*◌, ◌≤◌, ◌≡◌, flat_map, map, length}
+use Rattle.std.proofs.Common.{◌+◌, ◌-◌, ◌*◌, ◌≤◌, ◌≡◌, map, length}
+use mathlib.Core.List.{flat_map}
 use Rattle.octets.specs.LittleEndian.{overwrite}
 use Rattle.element.specs.Entries.{each, item_at, target_octets}
 use Rattle.rules.specs.Originate.{asked_for}
