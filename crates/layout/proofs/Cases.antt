@@ -7,7 +7,9 @@ use borrow.Author.Tests.{eq-eqb, ne_eqb}
 use Rattle.layout.specs.declared.address.Address.{Address}
 use Rattle.layout.specs.declared.row.Head.{Head}
 use Rattle.layout.specs.declared.row.Row.{Row}
+use Rattle.layout.specs.declared.elements.Layout.TheVariants.{Draft, Standard}
 use Rattle.layout.specs.Address.{individual, same}
+use Rattle.layout.specs.Elements.{layout_named}
 use Rattle.layout.specs.Row.{head_ok, is_unnumbered, is_other, status_ok, bounds_ok, is_held, is_through, active}
 
 -- The own address decides whether a head is legal, and then the rest.
@@ -19,6 +21,16 @@ module _ (h : Head) (a : Bool) (ae : a ≡ individual h.own) where
   pub head_rest : a ≡ true → (eqb h.zero2 0 && leb h.clock 281474976710655 && eqb h.zero8 0) ≡ head_ok h
   unfolding head_ok
   head_rest yes_a = cc
+
+-- The layout that an octet names.
+module _ (octet : ℕ) where
+  pub standard_named : octet ≡ 1 → Standard ≡ layout_named octet
+  unfolding layout_named
+  standard_named e = cc
+
+  pub draft_named : (octet ≡ 1 → ⊥) → Draft ≡ layout_named octet
+  unfolding layout_named
+  draft_named n = cc (ne_eqb octet 1 n)
 
 -- The first part of `is_held` that fails decides.
 module _ (own : Address) (r : Row) (a : Bool) (ae : a ≡ status_ok r) where

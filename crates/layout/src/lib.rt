@@ -2,5 +2,6 @@
 #![tactic(auto)]
 
 pub mod address;
+pub mod elements;
 pub mod row;
 pub mod well_formed;
