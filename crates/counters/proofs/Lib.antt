@@ -1,4 +1,3 @@
--- Laws of comparing numbers, of ranks and of numbering, for the proofs of this crate and of crates that use it.
-pub mod ByKind
+-- Laws of comparing numbers and of ranks, for the proofs of this crate and of crates that use it.
 pub mod Laws
 pub mod Rank

@@ -3,26 +3,27 @@
 
 pub mod own;
 
-ghost use Rattle.std.specs.Prelude.{◌≡◌, ◌+◌, ◌%◌, ◌^◌};
-ghost use Rattle.counters.specs.Numbers.{newer, next_number, next_request, older};
+ghost use Rattle.std.specs.Prelude.{◌≡◌};
+ghost use Rattle.counters.specs.Numbers.{newer, next_number, next_request, older, stepped};
 
-#[derive(Clone, Copy)]
+#[derive(Clone, Copy, PartialEq, Eq)]
 pub struct SequenceNumber(pub u32);
 
-#[derive(Clone, Copy)]
+#[derive(Clone, Copy, PartialEq, Eq)]
 pub struct RequestId(pub u32);
 
-#[derive(Clone, Copy)]
+#[derive(Clone, Copy, PartialEq, Eq)]
 pub struct Metric(pub u32);
 
-#[derive(Clone, Copy)]
+#[derive(Clone, Copy, PartialEq, Eq)]
 pub struct HopCount(pub u8);
 
 // Returns n + 1. After 4,294,967,295 comes 0.
+#[tactic(auto, unfolding(crate::specs::Numbers::stepped))]
 fn one_more(n: u32) -> u32
-    ensures { result ≡ (n + 1) % 2 ^ 32 }
+    ensures { result ≡ stepped n }
 {
-    std::num::wrapping_add_u32(n, 1)
+    n.wrapping_add(1)
 }
 
 impl SequenceNumber {
@@ -36,9 +37,7 @@ impl SequenceNumber {
     pub fn is_newer(self, other: Self) -> bool
         ensures { result ≡ newer self other }
     {
-        let s = self.0;
-        let t = other.0;
-        let distance = std::num::wrapping_sub_u32(s, t);
+        let distance = self.0.wrapping_sub(other.0);
         (0 < distance) & (distance < 2147483648)
     }
 
@@ -46,7 +45,7 @@ impl SequenceNumber {
     pub fn is_older(self, other: Self) -> bool
         ensures { result ≡ older self other }
     {
-        2147483648 <= std::num::wrapping_sub_u32(self.0, other.0)
+        2147483648 <= self.0.wrapping_sub(other.0)
     }
 }
 

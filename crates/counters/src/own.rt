@@ -5,27 +5,26 @@ ghost use Rattle.counters.specs.Numbering.{advanced_for};
 use crate::{RequestId, SequenceNumber};
 
 // Holds the counters with which a point numbers its elements.
-#[derive(Clone, Copy)]
+#[derive(Clone, Copy, PartialEq, Eq)]
 pub struct OwnCounters {
     pub number: SequenceNumber,
     pub request: RequestId,
 }
 
 // Returns the counters after a new element, which takes the next own number. A new RREQ also takes the next request ID.
+#[tactic(auto, unfolding(crate::specs::Numbering::advanced_for))]
 fn advanced(counters: OwnCounters, rreq: bool) -> OwnCounters
     ensures { result ≡ advanced_for rreq counters }
 {
-    let number = counters.number;
-    let request = counters.request;
     if rreq {
         return OwnCounters {
-            number: number.next(),
-            request: request.next(),
+            number: counters.number.next(),
+            request: counters.request.next(),
         };
     }
     OwnCounters {
-        number: number.next(),
-        request,
+        number: counters.number.next(),
+        request: counters.request,
     }
 }
 

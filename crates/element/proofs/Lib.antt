@@ -5,5 +5,4 @@ pub mod Scans
 pub mod ListParts
 pub mod Sizes
 pub mod ReadBack
-mod Bits
 mod Marking

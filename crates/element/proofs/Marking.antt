@@ -1,12 +1,11 @@
 -- Laws of the search by marks for an address that stands twice in a list. The search goes from the last entry down.
 use Prim.Native.Nat.{ℕ, zero, suc, ◌+◌, ◌-◌, ◌<◌, ◌≤◌}
 use mathlib.Core.Path.{◌≡◌, refl, sym, ap, ◌∙◌}
-use mathlib.Core.Bool.{Bool, true, false, ◌&&◌, ◌||◌, not, or-true, true≢false}
+use mathlib.Core.Bool.{Bool, true, false, ◌&&◌, ◌||◌, or-true, true≢false}
 use mathlib.Core.List.{List, ◌∷◌}
-use lib.Dec.{eqb}
 use lib.ListN.{length, get_or, set}
 use native.Mathlib.Omega.{arith}
-use borrow.Author.Tests.{eq-eqb, ne_eqb, eqb-true}
+use borrow.Author.Tests.{ne_eqb}
 use Rattle.layout.specs.declared.address.Address.{Address}
 use Rattle.layout.specs.Marks.{mark}
 use Rattle.layout.proofs.Marks.{Marked, marked_down, marked_none, unmarked}
@@ -14,14 +13,6 @@ use Rattle.element.specs.declared.list.ListKind.{ListKind}
 use Rattle.element.specs.Entries.{each, entries_in}
 use Rattle.element.specs.Lists.{address_in, addresses_from, addresses_in, contains, has_duplicate}
 use Rattle.element.proofs.Scans.{each_next, each_end}
-
--- The result of `is_again`, from the mark m and the result g of the search.
-module _ (m : ℕ) (g : Bool) where
-  pub unmarked_not : m ≡ 0 → false ≡ (not (eqb m 0) && g)
-  unmarked_not e = cc (eq-eqb m 0 e)
-
-  pub marked_as : (m ≡ 0 → ⊥) → (b : Bool) → b ≡ g → b ≡ (not (eqb m 0) && g)
-  marked_as n b be = cc (ne_eqb m 0 n)
 
 -- ---- any n addresses, by index
 
@@ -64,11 +55,8 @@ module _ (k : ListKind) (part : List ℕ) where
       by (suc zero) h = refl
       by (suc (suc m)) h = absurd (omega (arith, h))
 
-  pub none_marked : (n : ℕ) → n ≡ entries_in k part → (seen : List ℕ) (last : ℕ) → Marked (address_in k part) seen last n (entries_in k part)
+  pub none_marked : (n : ℕ) → n ≡ entries_in k part → (seen : List Bool) (last : ℕ) → Marked (address_in k part) seen last n (entries_in k part)
   none_marked n ne seen last = rw ne (marked_none (address_in k part) seen last (entries_in k part))
-
-  pub all_once : (from : ℕ) → from ≤ 0 → has_duplicate (addresses_from k part from) ≡ false → false ≡ has_duplicate (addresses_from k part 0)
-  all_once from none_left once = let at : 0 ≡ from = omega arith in rw at (sym once)
 
   module _ (from : ℕ) (some_left : 0 < from) (within : from ≤ entries_in k part) where
     pub before_within : from - 1 < entries_in k part
@@ -84,29 +72,29 @@ module _ (k : ListKind) (part : List ℕ) where
           ∙ ap (λ (j : ℕ). address_in k part (from - 1) ∷ each (address_in k part) j (entries_in k part - j)) at
           ∙ ap (λ (b : Address). b ∷ each (address_in k part) from (entries_in k part - from)) (sym ae)
 
-      pub again_found : (m : ℕ) (b : Bool) → b ≡ (not (eqb m 0) && contains (addresses_from k part from) a) → b ≡ true
+      pub again_found : (m b : Bool) → b ≡ (m && contains (addresses_from k part from) a) → b ≡ true
           → true ≡ has_duplicate (addresses_from k part 0)
       unfolding addresses_from has_duplicate
       again_found m b be yes_b =
           sym (duplicate_within (address_in k part) (entries_in k part) (from - 1) (omega (arith, within))
-          (is_duplicate (contains (addresses_from k part from) a) (not (eqb m 0)) (sym be ∙ yes_b) refl))
+          (is_duplicate (contains (addresses_from k part from) a) m (sym be ∙ yes_b) refl))
         where
           is_duplicate : (g x : Bool) → (x && g) ≡ true → contains (addresses_from k part from) a ≡ g → has_duplicate (addresses_from k part (from - 1)) ≡ true
           is_duplicate g true e ge = ap has_duplicate with_before ∙ ap (λ c. c || has_duplicate (addresses_from k part from)) (ge ∙ e)
           is_duplicate g false e ge = absurd (true≢false (sym e))
 
-      module _ (seen : List ℕ) (last : ℕ) (marked : Marked (address_in k part) seen last from (entries_in k part)) (h : ℕ) (he : h ≡ mark last a) where
-        pub before_marked : length seen ≡ last + 1 → Marked (address_in k part) (set seen h 1) last (from - 1) (entries_in k part)
+      module _ (seen : List Bool) (last : ℕ) (marked : Marked (address_in k part) seen last from (entries_in k part)) (h : ℕ) (he : h ≡ mark last a) where
+        pub before_marked : length seen ≡ last + 1 → Marked (address_in k part) (set seen h true) last (from - 1) (entries_in k part)
         before_marked le =
             marked_down (address_in k part) seen last from (entries_in k part) h le (from - 1) (omega arith) marked (he ∙ ap (mark last) ae)
 
-        pub still_once : (b : Bool) → b ≡ (not (eqb (get_or seen h 0) 0) && contains (addresses_from k part from) a) → b ≡ false
+        pub still_once : (b : Bool) → b ≡ (get_or seen h false && contains (addresses_from k part from) a) → b ≡ false
             → has_duplicate (addresses_from k part from) ≡ false → has_duplicate (addresses_from k part (from - 1)) ≡ false
         unfolding has_duplicate addresses_from
-        still_once b be no_b once = ap has_duplicate with_before ∙ ap (λ c. c || has_duplicate (addresses_from k part from)) (by (eqb (get_or seen h 0) 0) refl) ∙ once
+        still_once b be no_b once = ap has_duplicate with_before ∙ ap (λ c. c || has_duplicate (addresses_from k part from)) (by (get_or seen h false) refl) ∙ once
           where
-            by : (x : Bool) → eqb (get_or seen h 0) 0 ≡ x → contains (addresses_from k part from) a ≡ false
-            by true e =
+            by : (x : Bool) → get_or seen h false ≡ x → contains (addresses_from k part from) a ≡ false
+            by false e =
                 contains_none (address_in k part) (entries_in k part) a (entries_in k part - from) from refl
-                (unmarked (address_in k part) seen last from (entries_in k part) marked a h he (eqb-true (get_or seen h 0) 0 e))
-            by false e = sym (ap (λ x. not x && contains (addresses_from k part from) a) e) ∙ sym be ∙ no_b
+                (unmarked (address_in k part) seen last from (entries_in k part) marked a h he e)
+            by true e = sym (ap (λ x. x && contains (addresses_from k part from) a) e) ∙ sym be ∙ no_b

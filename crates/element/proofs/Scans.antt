@@ -1,14 +1,14 @@
 -- Laws of lists of entries by index, and of the loops that scan their addresses.
-use Prim.Native.Nat.{ℕ, zero, suc, ◌+◌, ◌-◌, ◌*◌, ◌/◌, ◌^◌, ◌<◌, ◌≤◌}
+use Prim.Native.Nat.{ℕ, zero, suc, ◌+◌, ◌-◌, ◌*◌, ◌/◌, ◌<◌, ◌≤◌}
 use mathlib.Core.Path.{◌≡◌, refl, sym, ap, ◌∙◌}
 use mathlib.Core.Bool.{Bool, true, false, ◌&&◌, ◌||◌, not}
 use mathlib.Core.List.{List, [], ◌∷◌, ◌++◌, append_assoc, flat_map, map}
 use lib.Dec.{ltb}
 use lib.ListN.{length}
 use native.Mathlib.Omega.{arith}
-use mir.Val.{Fits}
-use mir.Syntax.{w64}
-use native.Mathlib.Nat.{add-zero, sub-zero}
+use native.Mathlib.Nat.{sub-zero}
+use native.Mathlib.Numerals.{add-one}
+use Rattle.std.specs.List.{list_any, range_with_len}
 use borrow.Author.Tests.{eq-eqb, ne_eqb}
 use Rattle.octets.specs.LittleEndian.{number_at, fields_at}
 use Rattle.layout.specs.declared.address.Address.{Address}
@@ -17,7 +17,7 @@ use Rattle.element.specs.declared.list.ListKind.{ListKind}
 use Rattle.element.specs.declared.list.ListKind.TheVariants.{Targets, Dependents, LostDestinations, Items}
 use Rattle.element.specs.declared.LostDestination.{LostDestination}
 use Rattle.element.specs.declared.Target.{Target}
-use Rattle.element.specs.Entries.{each, entries_in, item_from, item_at, lost_from, lost_at, lost_in, numbered_from, numbered_at, target_from, target_at, targets_in}
+use Rattle.element.specs.Entries.{each, entries_in, item_at, lost_at, lost_in, numbered_at, target_at, targets_in}
 use Rattle.element.specs.Layout.{before_address, size_of}
 use Rattle.element.specs.Lists.{address_in, addresses_from, addresses_in, all_ones, allowed, any_forbidden, contains, has_duplicate, ones_beside_others}
 
@@ -76,70 +76,19 @@ lost_addresses part =
     map_each (λ (m : LostDestination). m.address) (lost_at part) 0 (length part / 10)
     ∙ ap (each (address_in LostDestinations part) 0) (sym (sub-zero (length part / 10)))
 
--- ---- an entry by its octets
+-- ---- the address of an entry by its octets
 
-module _ (part : List ℕ) (i : ℕ) where
-  pub target_read : {a b c : ℕ} → a ≡ number_at 1 part (11 * i) → b ≡ number_at 6 part (11 * i + 1) → c ≡ number_at 4 part (11 * i + 7)
-      → target_from (a ∷ b ∷ c ∷ []) ≡ target_at part i
-  unfolding target_at fields_at
-  target_read p₁ p₂ p₃ = cc (add-zero (11 * i))
-
-  pub numbered_read : {a b : ℕ} → a ≡ number_at 6 part (10 * i) → b ≡ number_at 4 part (10 * i + 6) → numbered_from (a ∷ b ∷ []) ≡ numbered_at part i
-  unfolding numbered_at fields_at
-  numbered_read p₁ p₂ = cc (add-zero (10 * i))
-
-  pub lost_read : {a b : ℕ} → a ≡ number_at 6 part (10 * i) → b ≡ number_at 4 part (10 * i + 6) → lost_from (a ∷ b ∷ []) ≡ lost_at part i
-  unfolding lost_at fields_at
-  lost_read p₁ p₂ = cc (add-zero (10 * i))
-
-  pub item_read : {a b : ℕ} → a ≡ number_at 1 part (7 * i) → b ≡ number_at 6 part (7 * i + 1) → item_from (a ∷ b ∷ []) ≡ item_at part i
-  unfolding item_at fields_at
-  item_read p₁ p₂ = cc (add-zero (7 * i))
-
-  -- The address of entry i, for any kind: an entry has z octets, and b of them stand before the address.
-  module _ (k : ListKind) (l : i < entries_in k part) (z b : ℕ) (ze : z ≡ size_of k) where
-    in_list : (j : ListKind) → i < entries_in j part → size_of j * i + before_address j + 6 ≤ length part
-    in_list Targets h = omega (arith, h)
-    in_list Dependents h = omega (arith, h)
-    in_list LostDestinations h = omega (arith, h)
-    in_list Items h = omega (arith, h)
-
-    entry_fits : length part < 2 ^ 63 → Fits w64 (z * i)
-    entry_fits f = record { fits = let h = in_list k l in rw ze (omega (arith, h, f)) }
-
-    pub entry_place_fits : length part * 1 < 2 ^ 63 → Fits w64 (z * i)
-    entry_place_fits f = entry_fits (omega (arith, f))
-
-    module _ (be : b ≡ before_address k) where
-      pub address_within : z * i + b + 6 ≤ length part
-      address_within = rw (ze, be) (in_list k l)
-
-      pub address_place_fits : length part * 1 < 2 ^ 63 → Fits w64 (z * i + b)
-      address_place_fits f = record { fits = omega (arith, address_within, f) }
-
-      pub address_read : (x : ℕ) → x ≡ number_at 6 part (z * i + b) → record { 0 = x } ≡ address_in k part i
-      unfolding target_at numbered_at lost_at item_at fields_at
-      address_read x e = by k (rw (← ze, ← be) e)
-        where
-          by : (j : ListKind) → x ≡ number_at 6 part (size_of j * i + before_address j) → record { 0 = x } ≡ address_in j part i
-          by Targets h = rw h
-          by Dependents h = rw h
-          by LostDestinations h = rw h
-          by Items h = rw h
-
--- How many entries a list part has, if an entry has z octets.
-module _ (k : ListKind) (part : List ℕ) (z : ℕ) (ze : z ≡ size_of k) where
-  pub some_size : 0 < z
-  some_size = rw ze (by k)
-    where
-      by : (j : ListKind) → 0 < size_of j
-      by Targets = omega arith
-      by Dependents = omega arith
-      by LostDestinations = omega arith
-      by Items = omega arith
-
-  pub entries_many : length part / z ≡ entries_in k part
-  entries_many = rw ze
+-- The address of entry i, for any kind: an entry has z octets, and b of them stand before the address.
+pub address_read : (part : List ℕ) (i : ℕ) (k : ListKind) (z b : ℕ) → z ≡ size_of k → b ≡ before_address k
+    → (x : ℕ) → x ≡ number_at 6 part (z * i + b) → record { 0 = x } ≡ address_in k part i
+unfolding target_at numbered_at lost_at item_at fields_at
+address_read part i k z b ze be x e = by k (rw (← ze, ← be) e)
+  where
+    by : (j : ListKind) → x ≡ number_at 6 part (size_of j * i + before_address j) → record { 0 = x } ≡ address_in j part i
+    by Targets h = rw h
+    by Dependents h = rw h
+    by LostDestinations h = rw h
+    by Items h = rw h
 
 -- ---- scans: F looks for an entry that, with the entries after it, passes the test p; g is the result of the whole scan
 
@@ -167,13 +116,13 @@ module _ (f : ℕ → Address) (n i : ℕ) (g : Bool) where
       same_is : same a d ≡ same (f i) d
       same_is = ap (λ (c : Address). same c d) ae
 
-      pub each_contains_found : a.0 ≡ d.0 → contains (each f i (n - i)) d ≡ g → true ≡ g
+      pub each_contains_found : (b : Bool) → b ≡ same a d → b ≡ true → contains (each f i (n - i)) d ≡ g → true ≡ g
       unfolding contains
-      each_contains_found e = scan_found (λ (l : List Address). contains l d) (λ c rest. same c d) refl (λ c rest. refl) f n i g l (sym same_is ∙ eq-eqb a.0 d.0 e)
+      each_contains_found b be e = scan_found (λ (l : List Address). contains l d) (λ c rest. same c d) refl (λ c rest. refl) f n i g l (sym same_is ∙ sym be ∙ e)
 
-      pub each_contains_more : (a.0 ≡ d.0 → ⊥) → contains (each f i (n - i)) d ≡ g → contains (each f (i + 1) (n - (i + 1))) d ≡ g
+      pub each_contains_more : (b : Bool) → b ≡ same a d → b ≡ false → contains (each f i (n - i)) d ≡ g → contains (each f (i + 1) (n - (i + 1))) d ≡ g
       unfolding contains
-      each_contains_more e = scan_more (λ (l : List Address). contains l d) (λ c rest. same c d) refl (λ c rest. refl) f n i g l (sym same_is ∙ ne_eqb a.0 d.0 e)
+      each_contains_more b be e = scan_more (λ (l : List Address). contains l d) (λ c rest. same c d) refl (λ c rest. refl) f n i g l (sym same_is ∙ sym be ∙ e)
 
     module _ (b : Bool) (be : b ≡ contains (each f (i + 1) (n - (i + 1))) a) where
       again_is : b ≡ contains (each f (i + 1) (n - (i + 1))) (f i)
@@ -195,6 +144,18 @@ module _ (f : ℕ → Address) (n i : ℕ) (g : Bool) where
     pub each_duplicate_ended : has_duplicate (each f i (n - i)) ≡ g → false ≡ g
     unfolding has_duplicate
     each_duplicate_ended = scan_ended has_duplicate (λ c rest. contains rest c) refl (λ c rest. refl) f n i g l
+
+-- Scans by std's `any` over the indexes from i on.
+module _ (f : ℕ → Address) where
+  any_contains : (d : Address) (i n : ℕ) → list_any (λ (j : ℕ). same (f j) d) (range_with_len i n) ≡ contains (each f i n) d
+  unfolding contains each
+  any_contains d i zero = refl
+  any_contains d i (suc n) = ap (λ (b : Bool). same (f i) d || b) (rw add-one (any_contains d (suc i) n))
+
+module _ (k : ListKind) (part : List ℕ) (n : ℕ) (ne : n ≡ entries_in k part) (i : ℕ) where
+  pub contains_any : (d : Address) → list_any (λ (j : ℕ). same (address_in k part j) d) (range_with_len i (n - i)) ≡ contains (addresses_from k part i) d
+  unfolding addresses_from
+  contains_any d = rw ne (any_contains (address_in k part) d i (entries_in k part - i))
 
 -- Loops over the n entries of a list part, at entry i, where g is the result of the whole scan.
 module _ (k : ListKind) (part : List ℕ) (n : ℕ) (ne : n ≡ entries_in k part) (i : ℕ) (g : Bool) where
@@ -219,15 +180,6 @@ module _ (k : ListKind) (part : List ℕ) (n : ℕ) (ne : n ≡ entries_in k par
             scan_more (any_forbidden k) (λ c rest. not (allowed k c)) refl (λ c rest. refl)
             (address_in k part) (entries_in k part) i g entry_there (ap not (sym allowed_is) ∙ yes_b)
 
-      module _ (d : Address) where
-        pub contains_found : a.0 ≡ d.0 → contains (addresses_from k part i) d ≡ g → true ≡ g
-        unfolding addresses_from
-        contains_found = each_contains_found (address_in k part) (entries_in k part) i g entry_there a ae d
-
-        pub contains_more : (a.0 ≡ d.0 → ⊥) → contains (addresses_from k part i) d ≡ g → contains (addresses_from k part (i + 1)) d ≡ g
-        unfolding addresses_from
-        contains_more = each_contains_more (address_in k part) (entries_in k part) i g entry_there a ae d
-
   module _ (l : n ≤ i) where
     all_passed : entries_in k part ≤ i
     all_passed = rw (← ne) l
@@ -237,10 +189,6 @@ module _ (k : ListKind) (part : List ℕ) (n : ℕ) (ne : n ≡ entries_in k par
     forbidden_ended =
         scan_ended (any_forbidden k) (λ c rest. not (allowed k c)) refl (λ c rest. refl)
         (address_in k part) (entries_in k part) i g all_passed
-
-    pub contains_ended : (d : Address) → contains (addresses_from k part i) d ≡ g → false ≡ g
-    unfolding addresses_from
-    contains_ended = each_contains_ended (address_in k part) (entries_in k part) i g all_passed
 
 module _ (k : ListKind) (part : List ℕ) where
   pub ones_beside : (b : Bool) (n : ℕ) → b ≡ contains (addresses_in k part) all_ones → n ≡ entries_in k part

@@ -5,12 +5,14 @@ ghost use Rattle.element.specs.Flags.{has_do, has_rf, number_unknown, reply_want
 
 use crate::{PathInfo, Target};
 
+#[tactic(auto, unfolding(crate::specs::Flags::bit))]
 pub fn is_unicast(p: PathInfo) -> bool
     ensures { result ≡ unicast p }
 {
     p.flags / 2 % 2 == 1
 }
 
+#[tactic(auto, unfolding(crate::specs::Flags::bit))]
 pub fn is_reply_wanted(p: PathInfo) -> bool
     ensures { result ≡ reply_wanted p }
 {
@@ -18,6 +20,7 @@ pub fn is_reply_wanted(p: PathInfo) -> bool
 }
 
 // Reports whether only the destination itself may reply.
+#[tactic(auto, unfolding(crate::specs::Flags::bit))]
 pub fn has_do(q: Target) -> bool
     ensures { result ≡ has_do q }
 {
@@ -25,6 +28,7 @@ pub fn has_do(q: Target) -> bool
 }
 
 // Reports whether the destination is kept even after an intermediate reply.
+#[tactic(auto, unfolding(crate::specs::Flags::bit))]
 pub fn has_rf(q: Target) -> bool
     ensures { result ≡ has_rf q }
 {
@@ -32,25 +36,26 @@ pub fn has_rf(q: Target) -> bool
 }
 
 // Reports whether the requested number is marked unknown. A number that is marked unknown plays no part.
+#[tactic(auto, unfolding(crate::specs::Flags::bit))]
 pub fn is_number_unknown(q: Target) -> bool
     ensures { result ≡ number_unknown q }
 {
     q.flags / 4 % 2 == 1
 }
 
+#[tactic(auto, unfolding(crate::specs::Flags::with_do))]
 pub fn with_do(q: Target) -> Target
     ensures { result ≡ with_do q }
 {
-    let address = q.address;
-    let number = q.number;
     Target {
         flags: 2 * (q.flags / 2) + 1,
-        address,
-        number,
+        address: q.address,
+        number: q.number,
     }
 }
 
 // Returns the flags of a destination with 'number unknown' set.
+#[tactic(auto, unfolding(crate::specs::Flags::with_unknown))]
 pub fn with_unknown(flags: u8) -> u8
     ensures { result ≡ with_unknown flags }
 {

@@ -8,7 +8,7 @@ use counters::{HopCount, Metric, RequestId, SequenceNumber};
 use layout::address::Address;
 
 // The four types of element.
-#[derive(Clone, Copy)]
+#[derive(Clone, Copy, PartialEq, Eq)]
 pub enum Kind {
     Rann,
     Rreq,
@@ -18,7 +18,7 @@ pub enum Kind {
 
 // The fields that a RANN, a RREQ and a RREP share. The path leads to the subject: the originator of a RANN or a RREQ, the
 // destination of a RREP.
-#[derive(Clone, Copy)]
+#[derive(Clone, Copy, PartialEq, Eq)]
 pub struct PathInfo {
     pub flags: u8,
     pub hops: HopCount,
@@ -30,14 +30,14 @@ pub struct PathInfo {
 }
 
 // An address and its number: the source of a RREP, and each dependent of a RREP.
-#[derive(Clone, Copy)]
+#[derive(Clone, Copy, PartialEq, Eq)]
 pub struct NumberedAddress {
     pub address: Address,
     pub number: SequenceNumber,
 }
 
 // A destination of a RREQ, with flags of its own and the requested number. The later standard calls it a target.
-#[derive(Clone, Copy)]
+#[derive(Clone, Copy, PartialEq, Eq)]
 pub struct Target {
     pub flags: u8,
     pub address: Address,
@@ -45,33 +45,33 @@ pub struct Target {
 }
 
 // A destination of a RERR, which the transmitter can no longer reach, with the number that the RERR gives for it.
-#[derive(Clone, Copy)]
+#[derive(Clone, Copy, PartialEq, Eq)]
 pub struct LostDestination {
     pub address: Address,
     pub number: SequenceNumber,
 }
 
 // An item of an ask: the destination to ask for, and the flags that the destination gets in the RREQ.
-#[derive(Clone, Copy)]
+#[derive(Clone, Copy, PartialEq, Eq)]
 pub struct Item {
     pub flags: u8,
     pub address: Address,
 }
 
 // The fixed fields of a RREQ. `RrepFields` and `RerrFields` are the fixed fields of a RREP and of a RERR.
-#[derive(Clone, Copy)]
+#[derive(Clone, Copy, PartialEq, Eq)]
 pub struct RreqFields {
     pub request: RequestId,
     pub path: PathInfo,
 }
 
-#[derive(Clone, Copy)]
+#[derive(Clone, Copy, PartialEq, Eq)]
 pub struct RrepFields {
     pub path: PathInfo,
     pub source: NumberedAddress,
 }
 
-#[derive(Clone, Copy)]
+#[derive(Clone, Copy, PartialEq, Eq)]
 pub struct RerrFields {
     pub flags: u8,
 }

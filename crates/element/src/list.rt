@@ -1,8 +1,9 @@
 // The list part of an element and the items of an ask: entries by index, and the faults that their addresses can have.
-ghost use Rattle.std.specs.Prelude.{◌≡◌, ◌&&◌, not, ◌+◌, ◌*◌, ◌<◌, ◌≤◌, eqb, length};
-ghost use Rattle.element.specs.Layout.{before_address, size_of};
+ghost use Rattle.std.specs.Prelude.{◌≡◌, ◌&&◌, ◌+◌, ◌*◌, ◌<◌, ◌≤◌, length};
+ghost use Rattle.octets.specs.LittleEndian.{fields_at};
+ghost use Rattle.element.specs.Layout.{before_address, numbered_widths, size_of};
 ghost use Rattle.element.specs.declared.list.ListKind.{ListKind};
-ghost use Rattle.element.specs.Entries.{entries_in, item_at, lost_at, numbered_at, target_at};
+ghost use Rattle.element.specs.Entries.{entries_in, item_at, lost_at, numbered_at, numbered_from, target_at};
 ghost use Rattle.element.specs.Lists.{
   address_in,
   addresses_from,
@@ -31,7 +32,7 @@ pub const LOST: usize = 10;
 pub const ITEM: usize = 7;
 
 // The kind of entries in a list: destinations of a RREQ, dependents of a RREP, destinations of a RERR, or items of an ask.
-#[derive(Clone, Copy)]
+#[derive(Clone, Copy, PartialEq, Eq)]
 pub enum ListKind {
     Targets,
     Dependents,
@@ -39,6 +40,8 @@ pub enum ListKind {
     Items,
 }
 
+// Each kind of entry has a function of its own. A trait would be no plainer, because no code reads whole entries of any kind, and
+// `address_at` reads their addresses.
 pub fn target_at(part: &[u8], i: usize) -> Target
     requires { size_of ListKind.Targets * (i + 1) ≤ length part.now }
     ensures { result ≡ target_at part.now i }
@@ -51,36 +54,42 @@ pub fn target_at(part: &[u8], i: usize) -> Target
     }
 }
 
-pub fn numbered_at(part: &[u8], i: usize) -> NumberedAddress
-    requires { size_of ListKind.Dependents * (i + 1) ≤ length part.now }
-    ensures { result ≡ numbered_at part.now i }
+// Returns the address and the number that stand from place `at` on.
+fn numbered_from(part: &[u8], at: usize) -> NumberedAddress
+    requires { at + 10 ≤ length part.now }
+    ensures { result ≡ numbered_from (fields_at numbered_widths part.now at 0) }
 {
-    let at = DEPENDENT * i;
     NumberedAddress {
         address: Address(octets::read_u48(part, at)),
         number: SequenceNumber(octets::read_u32(part, at + 6)),
     }
 }
 
+#[tactic(auto, unfolding(crate::specs::Entries::numbered_at))]
+pub fn numbered_at(part: &[u8], i: usize) -> NumberedAddress
+    requires { size_of ListKind.Dependents * (i + 1) ≤ length part.now }
+    ensures { result ≡ numbered_at part.now i }
+{
+    numbered_from(part, DEPENDENT * i)
+}
+
+#[tactic(auto, unfolding(crate::specs::Entries::lost_at))]
 pub fn lost_at(part: &[u8], i: usize) -> LostDestination
     requires { size_of ListKind.LostDestinations * (i + 1) ≤ length part.now }
     ensures { result ≡ lost_at part.now i }
 {
-    let at = LOST * i;
-    LostDestination {
-        address: Address(octets::read_u48(part, at)),
-        number: SequenceNumber(octets::read_u32(part, at + 6)),
-    }
+    let NumberedAddress { address, number } = numbered_from(part, LOST * i);
+    LostDestination { address, number }
 }
 
 pub fn item_at(part: &[u8], i: usize) -> Item
     requires { size_of ListKind.Items * (i + 1) ≤ length part.now }
     ensures { result ≡ item_at part.now i }
 {
-    let at = ITEM * i;
-    let flags = octets::read_u8(part, at);
-    let address = Address(octets::read_u48(part, at + 1));
-    Item { flags, address }
+    Item {
+        flags: octets::read_u8(part, ITEM * i),
+        address: Address(octets::read_u48(part, ITEM * i + 1)),
+    }
 }
 
 // Returns how many octets an entry has.
@@ -123,28 +132,27 @@ fn address_at(part: &[u8], kind: ListKind, i: usize) -> Address
     Address(octets::read_u48(part, size_of(kind) * i + before_address(kind)))
 }
 
+#[tactic(auto, unfolding(crate::specs::Lists::allowed))]
 fn is_allowed(kind: ListKind, address: Address) -> bool
     ensures { result ≡ allowed kind address }
 {
     match kind {
-        ListKind::Targets => address.is_individual() | (address.0 == ALL_ONES),
+        ListKind::Targets => address.is_individual() | (address == Address(ALL_ONES)),
         ListKind::Dependents => address.is_individual(),
         ListKind::LostDestinations => address.is_individual(),
         ListKind::Items => address.is_individual(),
     }
 }
 
-// Reports whether the list has an address that a list of this kind may not have (refusal 9).
+// Reports whether the list has an address that a list of this kind may not have (refusal 9). `any` over the indexes was tried: it
+// took six instructions more for a call, and one more for each address.
 pub fn has_forbidden(part: &[u8], kind: ListKind) -> bool
     ensures { result ≡ any_forbidden kind (addresses_in kind part.now) }
 {
-    let n = entries_in(part, kind);
-    let mut i = 0;
-    while i < n {
+    for i in 0..entries_in(part, kind) {
         if !is_allowed(kind, address_at(part, kind, i)) {
             return true;
         }
-        i += 1;
     }
     false
 }
@@ -153,15 +161,7 @@ pub fn has_forbidden(part: &[u8], kind: ListKind) -> bool
 fn contains_from(part: &[u8], kind: ListKind, from: usize, address: Address) -> bool
     ensures { result ≡ contains (addresses_from kind part.now from) address }
 {
-    let n = entries_in(part, kind);
-    let mut i = from;
-    while i < n {
-        if address_at(part, kind, i).0 == address.0 {
-            return true;
-        }
-        i += 1;
-    }
-    false
+    (from..entries_in(part, kind)).any(|i| address_at(part, kind, i) == address)
 }
 
 pub fn contains(part: &[u8], kind: ListKind, address: Address) -> bool
@@ -170,20 +170,18 @@ pub fn contains(part: &[u8], kind: ListKind, address: Address) -> bool
     contains_from(part, kind, 0, address)
 }
 
-// Reports whether the entry `from` or a later entry has the address. If the mark is 0, none has it, and the function does not
-// search.
-fn is_again(part: &[u8], kind: ListKind, from: usize, address: Address, mark: u8) -> bool
-    ensures { result ≡ (not (eqb mark 0) && contains (addresses_from kind part.now from) address) }
+// Reports whether the entry `from` or a later entry has the address. If its mark was not seen, none has it, and the function
+// does not search.
+fn is_again(part: &[u8], kind: ListKind, from: usize, address: Address, seen: bool) -> bool
+    ensures { result ≡ (seen && contains (addresses_from kind part.now from) address) }
 {
-    if mark == 0 {
-        return false;
-    }
-    contains_from(part, kind, from, address)
+    seen && contains_from(part, kind, from, address)
 }
 
 // Reports whether an address stands twice. From the last entry down, it marks each address in `seen`. Two addresses may share a
-// mark, so if the mark is already set it searches the later entries for the address.
-fn has_duplicate_by_marks(part: &[u8], kind: ListKind, seen: &mut [u8], last: usize) -> bool
+// mark, so if the mark is already set it searches the later entries for the address. The loop counts down by hand, because the
+// invariant of a `for` over a reversed range knows what the range has given, and not the place `from` that the marks begin at.
+fn has_duplicate_by_marks(part: &[u8], kind: ListKind, seen: &mut [bool], last: usize) -> bool
     requires { length seen.old ≡ last + 1 }
     ensures { result ≡ has_duplicate (addresses_in kind part.now) }
 {
@@ -195,7 +193,7 @@ fn has_duplicate_by_marks(part: &[u8], kind: ListKind, seen: &mut [u8], last: us
         if is_again(part, kind, from, address, seen[h]) {
             return true;
         }
-        seen[h] = 1;
+        seen[h] = true;
         from = i;
     }
     false
@@ -208,7 +206,7 @@ pub fn has_duplicate(part: &[u8], kind: ListKind) -> bool
     if entries_in(part, kind) <= 1 {
         return false;
     }
-    let mut seen = [0u8; 256];
+    let mut seen = [false; 256];
     has_duplicate_by_marks(part, kind, &mut seen, 255)
 }
 

@@ -1,5 +1,4 @@
 -- Laws of heads and rows, for the proofs of this crate and of crates that use it.
-pub mod Cases
 pub mod HeadAndRows
 pub mod HeldRows
 pub mod Marks

@@ -4,7 +4,7 @@ ghost use Rattle.layout.specs.Address.{address_of, individual, octets_of};
 ghost use Rattle.layout.specs.Marks.{mark};
 
 // Holds six octets as a little-endian number: the first octet is the lowest.
-#[derive(Clone, Copy)]
+#[derive(Clone, Copy, PartialEq, Eq)]
 pub struct Address(pub u64);
 
 pub fn read(s: &[u8; 6]) -> Address
@@ -22,6 +22,7 @@ impl Address {
         s
     }
 
+    #[tactic(auto, unfolding(crate::specs::Address::individual))]
     pub fn is_individual(self) -> bool
         ensures { result ≡ individual self }
     {
@@ -30,6 +31,7 @@ impl Address {
 
     // Returns the mark of the address, a number from 0 to `last`. Callers pass a power of two less one as `last`. The last octets
     // of the address count most, because hardware of one maker shares its first octets.
+    #[tactic(auto, unfolding(crate::specs::Marks::mark))]
     pub fn mark(self, last: usize) -> usize
         ensures { result ≡ mark last self }
     {

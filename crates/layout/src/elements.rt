@@ -5,7 +5,7 @@ ghost use Rattle.layout.specs.Elements.{layout_named};
 use crate::row::Head;
 
 // The layout of the draft, and the layout of the published standard.
-#[derive(Clone, Copy)]
+#[derive(Clone, Copy, PartialEq, Eq)]
 pub enum Layout {
     Draft,
     Standard,
@@ -13,6 +13,7 @@ pub enum Layout {
 
 impl Head {
     // Returns the layout that the first zero octet of the head names. It reads an octet other than 0 or 1 as 0.
+    #[tactic(auto, unfolding(crate::specs::Elements::layout_named))]
     pub fn layout_named(self) -> Layout
         ensures { result ≡ layout_named (self.zero2 % 256) }
     {

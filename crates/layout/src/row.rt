@@ -22,7 +22,7 @@ const UNREACHABLE: u32 = 4294967295;
 
 // A head and a row have their fields in the order of the octets. In a table, `zero2`, `zero8` and `zero` are 0 (refusal 21). In
 // a row, `known` is 1 if the number is known, `hops` is the hop count, and `next` is the next hop.
-#[derive(Clone, Copy)]
+#[derive(Clone, Copy, PartialEq, Eq)]
 pub struct Head {
     pub own: Address,
     pub zero2: u16,
@@ -32,7 +32,7 @@ pub struct Head {
     pub zero8: u64,
 }
 
-#[derive(Clone, Copy)]
+#[derive(Clone, Copy, PartialEq, Eq)]
 pub struct Row {
     pub status: u8,
     pub known: u8,
@@ -61,6 +61,7 @@ impl Head {
     }
 
     // Returns the head with the given counters and clock. No call except fresh changes the other fields.
+    #[tactic(auto, unfolding(crate::specs::Row::head_with))]
     pub fn with(mut self, number: SequenceNumber, request: RequestId, clock: u64) -> Self
         ensures { result ≡ head_with number request clock self }
     {
@@ -88,6 +89,7 @@ impl Row {
         }
     }
 
+    #[tactic(auto, unfolding(crate::specs::Row::active))]
     pub fn is_active(self, clock: u64) -> bool
         ensures { result ≡ active clock self }
     {
@@ -95,13 +97,15 @@ impl Row {
     }
 
     // Reports whether the row is active and has `hop` as its next hop.
+    #[tactic(auto, unfolding(crate::specs::Row::is_through))]
     pub fn is_through(self, clock: u64, hop: Address) -> bool
         ensures { result ≡ is_through clock hop self }
     {
-        self.is_active(clock) & (self.next.0 == hop.0)
+        self.is_active(clock) & (self.next == hop)
     }
 
     // Makes the row valid with the given next hop, metric, hop count and expiry. The number and 'number known' stay.
+    #[tactic(auto, unfolding(crate::specs::Row::renewed))]
     pub fn renewed(mut self, next: Address, metric: Metric, hops: HopCount, expiry: u64) -> Self
         ensures { result ≡ renewed next metric hops expiry self }
     {
@@ -114,6 +118,7 @@ impl Row {
     }
 
     // Gives the row a number, which is then known.
+    #[tactic(auto, unfolding(crate::specs::Row::numbered))]
     pub fn numbered(mut self, number: SequenceNumber) -> Self
         ensures { result ≡ numbered number self }
     {
@@ -123,6 +128,7 @@ impl Row {
     }
 
     // Invalidates the row: sets its status to 2. All its other fields stay.
+    #[tactic(auto, unfolding(crate::specs::Row::invalidated))]
     pub fn invalidated(mut self) -> Self
         ensures { result ≡ invalidated self }
     {
@@ -132,6 +138,7 @@ impl Row {
 
     // Gives a row of known number a new number and the largest metric. From then on, refusal 25 lets through only a newer
     // number, or an equal number with a smaller metric.
+    #[tactic(auto, unfolding(crate::specs::Row::raised))]
     pub fn raised(mut self, number: SequenceNumber) -> Self
         ensures { result ≡ raised number self }
     {

@@ -4,12 +4,12 @@ use mathlib.Core.Path.{◌≡◌, refl, sym, ap, ap₂, ◌∙◌}
 use mathlib.Core.Logic.{◌⊎◌, inl, inr, ⊎_elim}
 use mathlib.Core.List.{List, [], ◌∷◌}
 use lib.ListN.{length, get_or, set, drop, length-set, length-replicate, get_or-replicate, drop_of_length-le}
-use lib.Seq.{get_or-set_same, get_or-set_other, drop-cons, ext_get_or, set_out}
+use borrow.Author.Count.{below_more}
+use lib.Seq.{ext_get_or, get_or-set_same, get_or-set_other, drop-cons, set_out}
 use native.Mathlib.Decide.{ℕ_discrete}
 use native.Mathlib.Omega.{arith}
 use native.Mathlib.Numerals.{add-one}
-use native.Mathlib.Nat.{zero-add, suc-add, add-zero, add-suc, pow-suc, sub-zero, not-suc-le-zero, eq-or-lt_of_le}
-use borrow.Author.Count.{below_more}
+use native.Mathlib.Nat.{not-suc-le-zero, zero-add, suc-add, add-zero, add-suc, pow-suc, eq-or-lt_of_le}
 use borrow.Author.Tests.{ltb-true, ltb-false}
 use lib.Dec.{ltb}
 use mathlib.Core.Bool.{Bool, true, false}
@@ -85,10 +85,6 @@ parted m n s t u at x low high small xe te ue =
 pub written_1 : (s : List ℕ) (at x : ℕ) → x < 256 → set s at x ≡ with_number 1 s at x
 unfolding with_number overwrite number_octets
 written_1 s at x small = ap (set s at) (omega arith)
-
--- The second of two octets still has its place after the first octet is written.
-pub second_in : (s : List ℕ) (at x : ℕ) → at + 2 ≤ length s → at + 1 < length (set s at x)
-second_in s at x l = omega (arith, length-set s at x)
 
 pub written_2 : (s : List ℕ) (at x : ℕ) → x < 65536 → set (set s at (x % 256)) (at + 1) (x / 256) ≡ with_number 2 s at x
 unfolding with_number overwrite number_octets
@@ -286,9 +282,6 @@ fields_zero [] n at o = refl
 fields_zero (w ∷ ws) n at o = ap₂ ◌∷◌ (number_zero w n (at + o)) (fields_zero ws n at (o + w))
 
 -- ---- loops that write: writing what is left gives the whole result g
-
-pub number_start : (n : ℕ) (s : List ℕ) (at x : ℕ) → with_number (n - 0) s (at + 0) x ≡ with_number n s at x
-number_start n s at x = rw (sub-zero, add-zero at)
 
 pub number_more : (n j : ℕ) (s g : List ℕ) (at x : ℕ) → j < n → with_number (n - j) s (at + j) x ≡ g
     → with_number (n - (j + 1)) (set s (at + j) (x % 256)) (at + (j + 1)) (x / 256) ≡ g

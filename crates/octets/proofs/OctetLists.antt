@@ -205,17 +205,3 @@ unfolding field_octets
 octets_of_fields [] xs = octets_nil
 octets_of_fields (w ∷ ws) [] = octets_nil
 octets_of_fields (w ∷ ws) (x ∷ xs) = octets_append (number_octets w x) (field_octets ws xs) (octets_of_number w x) (octets_of_fields ws xs)
-
--- States that all of p are octets, once a loop has read at least one of them.
-pub record Seen (p : List ℕ) (j : ℕ) : Type 0 where
-  pub octets : 0 < j → Octets p
-
-pub seen_none : (p : List ℕ) → Seen p 0
-seen_none p = record { octets = λ l. absurd (omega arith) }
-
-pub seen_more : (p : List ℕ) (j : ℕ) → Octets p → Seen p (j + 1)
-seen_more p j o = record { octets = λ l. o }
-
-pub seen_all : (p : List ℕ) (j : ℕ) → length p ≤ j → Seen p j → Octets p
-seen_all [] j l h = octets_nil
-seen_all (x ∷ p) j l h = h.octets (omega arith)

@@ -9,4 +9,4 @@ pub loop-at-preserved : goal.loop-at-preserved
 loop-at-preserved c = search (rules, cleared_more)
 
 pub returns : goal.returns
-returns c = search cleared_ended
+returns c = search (rules, cleared_ended)

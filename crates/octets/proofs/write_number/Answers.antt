@@ -1,9 +1,6 @@
 use Rattle.std.proofs.Common.{rules}
-use Rattle.octets.proofs.Laws.{number_start, number_more, number_ended}
+use Rattle.octets.proofs.Laws.{number_more, number_ended}
 use Rattle.octets.proofs.write_number.Goals as goal
-
-pub loop-j-init : goal.loop-j-init
-loop-j-init c = search (rules, number_start)
 
 pub loop-j-preserved : goal.loop-j-preserved
 loop-j-preserved c = search (rules, number_more)

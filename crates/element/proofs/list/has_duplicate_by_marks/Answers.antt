@@ -1,13 +1,10 @@
 use Rattle.std.proofs.Common.{rules}
 use Rattle.layout.proofs.Marks.{mark_in}
-use Rattle.element.proofs.Marking.{no_duplicate, none_marked, before_within, again_found, before_marked, still_once, all_once}
+use Rattle.element.proofs.Marking.{no_duplicate, none_marked, again_found, before_marked, still_once}
 use Rattle.element.proofs.list.has_duplicate_by_marks.Goals as goal
 
 pub loop-from-init : goal.loop-from-init
 loop-from-init c = search (rules, none_marked, no_duplicate)
-
-pub address_at-address-requires : goal.address_at-address-requires
-address_at-address-requires c = search (rules, before_within)
 
 pub bounds-seen-h : goal.bounds-seen-h
 bounds-seen-h c = search mark_in
@@ -20,6 +17,3 @@ bounds-seen-h-in-loop-from c = search mark_in
 
 pub loop-from-preserved : goal.loop-from-preserved
 loop-from-preserved c = search (rules, before_marked, still_once)
-
-pub returns : goal.returns
-returns c = search all_once
