@@ -1,11 +1,12 @@
 -- A command leaves a sound bench sound, and a command that prints a line has all its octets.
+use Rattle.std.specs.Prelude.{Err, Ok, Option, None, Some, slice_get}
 use Prim.Native.Nat.{ℕ, zero, suc, ◌+◌, ◌*◌, ◌^◌, ◌<◌, ◌≤◌}
 use mathlib.Core.Path.{◌≡◌, refl, subst}
 use mathlib.Core.Bool.{Bool, true, false, ◌&&◌, ◌||◌, cond}
 use mathlib.Core.List.{List, [], ◌∷◌, ◌++◌}
-use mathlib.Core.Option.{Option, none, some, none-ne-some, some-injective}
+use Rattle.std.proofs.lemmas.Option.{none-some, same_Some}
 use lib.Dec.{eqb, ltb}
-use lib.ListN.{length, take, drop, get_elem?}
+use lib.ListN.{length, take, drop}
 use native.Mathlib.Omega.{arith}
 use native.Mathlib.Nat.{pos_of_ne-zero}
 use borrow.Author.Tests.{ltb-true, ltb-false, eqb-false}
@@ -21,7 +22,7 @@ use Rattle.element.specs.Entries.{All}
 use Rattle.element.proofs.Lengths.{length_octet}
 use Rattle.element.proofs.Sizes.{element_length}
 use Rattle.element.proofs.ReadBack.{octets_written}
-use Rattle.rules.specs.Decision.{Decision, refused, accepted}
+use Rattle.rules.specs.Decision.{Decision}
 use Rattle.rules.specs.Exit.{Frame, Effect, lend}
 use Rattle.rules.specs.Calls.{Call, decision, OperandsFit}
 use Rattle.rules.specs.Fresh.{making_fresh, make_fresh}
@@ -58,7 +59,7 @@ with_table_octets tables p u o v =
     octets_append (take (544 * p) tables) _ (octets_take (544 * p) tables o)
     (octets_append u _ v (octets_drop 544 (drop (544 * p) tables) (octets_drop (544 * p) tables o)))
 
-fresh_is_octets : (t u : List ℕ) (own : Address) (number : SequenceNumber) → make_fresh t own number ≡ accepted u → Octets u
+fresh_is_octets : (t u : List ℕ) (own : Address) (number : SequenceNumber) → make_fresh t own number ≡ Ok u → Octets u
 unfolding make_fresh
 fresh_is_octets t u own number is = subst Octets (passed (making_fresh t own number) u is).1 (fresh_octets (length t) own number)
 
@@ -78,11 +79,11 @@ emitted_sound points p l frames fit =
     frames fit
 
 -- A frame that is found among sound frames is sound.
-pub found_sound : (points : ℕ) (frames : List KeptFrame) → All (KeptSoundly points) frames → (k : ℕ) (f : KeptFrame) → get_elem? frames k ≡ some f
+pub found_sound : (points : ℕ) (frames : List KeptFrame) → All (KeptSoundly points) frames → (k : ℕ) (f : KeptFrame) → slice_get frames k ≡ Some f
     → KeptSoundly points f
 unfolding All
-found_sound points [] h k f e = absurd (none-ne-some f e)
-found_sound points (g ∷ frames) h zero f e = subst (KeptSoundly points) (some-injective g f e) h.0
+found_sound points [] h k f e = absurd (none-some f e)
+found_sound points (g ∷ frames) h zero f e = subst (KeptSoundly points) (same_Some g f e) h.0
 found_sound points (g ∷ frames) h (suc k) f e = found_sound points frames h.1 k f e
 
 module _ (b : Bench) (h : Sound b) where
@@ -92,8 +93,8 @@ module _ (b : Bench) (h : Sound b) where
   settled_sound : (p : ℕ) → p < b.points → (call : Call) → OperandsFit call
       → (d : Decision Effect) → decision (lend (table_of_point b p)) 1560 call ≡ d → Stays (settled b p d)
   unfolding settled
-  settled_sound p l call fit (refused n) is = h
-  settled_sound p l call fit (accepted e) is =
+  settled_sound p l call fit (Err n) is = h
+  settled_sound p l call fit (Ok e) is =
       let t : List ℕ = table_of_point b p in
       let kept : Kept t e = call_kept (lend t) (table_octets b.tables p h.tables) 1560 call fit e is in
       let new : List KeptFrame = kept_from p e.frames in
@@ -114,8 +115,8 @@ module _ (b : Bench) (h : Sound b) where
 
   added_sound : (own : Address) (number : SequenceNumber) (d : Decision (List ℕ)) → make_fresh (table_of_point b b.points) own number ≡ d
       → b.points < 16 → Stays (added b d)
-  added_sound own number (refused n) is l = h
-  added_sound own number (accepted u) is l =
+  added_sound own number (Err n) is l = h
+  added_sound own number (Ok u) is l =
       record {
         points = omega arith;
         clock = h.clock;
@@ -158,11 +159,11 @@ module _ (b : Bench) (h : Sound b) where
 
   deliver_sound : (links : List (List ℕ)) (k p : ℕ) → Stays (deliver b links k p)
   unfolding deliver
-  deliver_sound links k p = by (get_elem? b.frames k) refl
+  deliver_sound links k p = by (slice_get b.frames k) refl
     where
-      by : (o : Option KeptFrame) → get_elem? b.frames k ≡ o → Stays (handed_over b links p o)
-      by none is = tt
-      by (some f) is = called_sound p _ (address_fits f.sender, (found_sound b.points b.frames h.frames k f is).octets)
+      by : (o : Option KeptFrame) → slice_get b.frames k ≡ o → Stays (handed_over b links p o)
+      by None is = tt
+      by (Some f) is = called_sound p _ (address_fits f.sender, (found_sound b.points b.frames h.frames k f is).octets)
 
   break_sound : (p q : ℕ) → Stays (break_off b p q)
   unfolding break_off

@@ -1,12 +1,13 @@
 -- Defines what the bench holds, and the result of a command. PROTOCOL, 'Bench'.
-use Rattle.std.specs.Prelude.{ℕ, ◌*◌, ◌<◌, ◌≤◌, Bool, cond, List, ◌++◌, map, ltb, length, take, drop}
+use Rattle.refusals.specs.Numbers.{number_of}
+use Rattle.std.specs.Prelude.{ℕ, ◌*◌, ◌<◌, ◌≤◌, Bool, cond, List, ◌++◌, map, ltb, length, take, drop, Err, Ok}
 use Rattle.octets.specs.LittleEndian.{Octets}
 use Rattle.layout.specs.declared.address.Address.{Address}
 use Rattle.layout.specs.Address.{address_of}
 use Rattle.layout.specs.Row.{max_clock}
 use Rattle.element.specs.Entries.{All}
 use Rattle.element.specs.Octets.{write_element}
-use Rattle.rules.specs.Decision.{Decision, refused, accepted, ◌above◌}
+use Rattle.rules.specs.Decision.{Decision, ◌above◌}
 use Rattle.rules.specs.Exit.{Frame, lend, Effect, least_output}
 use Rattle.rules.specs.Calls.{Call, decision}
 use Rattle.rules.specs.Walk.{table_at}
@@ -59,8 +60,8 @@ kept_from p frames = map (λ (f : Frame). record { sender = p; element = write_e
 
 -- A refusal changes nothing. An acceptance leaves its table, and its frames after those kept before. A 129th frame is a fault.
 unfoldable pub settled : Bench → ℕ → Decision Effect → Done
-settled b p (refused n) = line n 0 b
-settled b p (accepted e) =
+settled b p (Err r) = line (number_of r) 0 b
+settled b p (Ok e) =
     let frames : List KeptFrame = b.frames ++ kept_from p e.frames in
     cond ((length frames) above 128) fault
     (line 0 (length e.frames)

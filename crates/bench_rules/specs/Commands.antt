@@ -1,14 +1,13 @@
 -- Defines the eight commands by their operands. PROTOCOL, 'Bench'. An index of no point or frame, a 17th point, a 129th frame and
 -- a clock above 2^48 - 1 are faults.
-use Rattle.std.specs.Prelude.{ℕ, ◌+◌, ◌*◌, ◌&&◌, cond, List, ◌∷◌, take}
-use Rattle.std.proofs.Math.Option.{Option, none, some}
-use Rattle.std.proofs.Math.ListN.{get_elem?}
+use Rattle.refusals.specs.Numbers.{number_of}
+use Rattle.std.specs.Prelude.{ℕ, ◌+◌, ◌*◌, ◌&&◌, cond, List, ◌∷◌, take, Err, Ok, Option, None, Some, slice_get}
 use Rattle.octets.specs.LittleEndian.{number_octets}
 use Rattle.counters.specs.declared.SequenceNumber.{SequenceNumber}
 use Rattle.layout.specs.declared.address.Address.{Address}
 use Rattle.layout.specs.Address.{address_of}
 use Rattle.layout.specs.Row.{max_clock}
-use Rattle.rules.specs.Decision.{Decision, refused, accepted, ◌above◌, ◌below◌}
+use Rattle.rules.specs.Decision.{Decision, ◌above◌, ◌below◌}
 use Rattle.rules.specs.declared.Arrival.{Arrival}
 use Rattle.rules.specs.Calls.{receives, makes, asks, announces, breaks}
 use Rattle.rules.specs.Fresh.{make_fresh}
@@ -30,8 +29,8 @@ use Rattle.bench_rules.specs.Bench.{
 
 -- 1 point. If it is refused, it is not added.
 abbrev pub added : Bench → Decision (List ℕ) → Done
-added b (refused n) = line n 0 b
-added b (accepted u) =
+added b (Err r) = line (number_of r) 0 b
+added b (Ok u) =
     line 0 0
     (record {
       tables = with_table_at b.tables b.points u;
@@ -79,11 +78,11 @@ arrival_from tables links clock sender p =
     }
 
 abbrev pub handed_over : Bench → List (List ℕ) → ℕ → Option KeptFrame → Done
-handed_over b links p none = fault
-handed_over b links p (some f) = called b p (receives (arrival_from b.tables links b.clock f.sender p) f.element)
+handed_over b links p None = fault
+handed_over b links p (Some f) = called b p (receives (arrival_from b.tables links b.clock f.sender p) f.element)
 
 unfoldable pub deliver : Bench → List (List ℕ) → (k p : ℕ) → Done
-deliver b links k p = handed_over b links p (get_elem? b.frames k)
+deliver b links k p = handed_over b links p (slice_get b.frames k)
 
 -- 7 break. The neighbour must be a point.
 unfoldable pub break_off : Bench → (p q : ℕ) → Done

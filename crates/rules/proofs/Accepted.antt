@@ -1,9 +1,10 @@
 -- What holds for an accepted element, because it passed all checks.
+use Rattle.std.specs.Prelude.{Some}
 use Prim.Native.Nat.{ℕ, ◌-◌, ◌^◌, ◌<◌, ◌≤◌}
 use mathlib.Core.Path.{◌≡◌, sym, ap, subst, ◌∙◌}
 use mathlib.Core.Bool.{Bool, true, false, not}
 use mathlib.Core.List.{List}
-use mathlib.Core.Option.{some, none-ne-some, some-injective}
+use Rattle.std.proofs.lemmas.Option.{none-some, same_Some}
 use lib.Dec.{eqb, ltb}
 use native.Mathlib.Omega.{arith}
 use borrow.Author.Tests.{ltb-false, eqb-false, not-false}
@@ -35,33 +36,33 @@ pub record Accepted (t : List ℕ) (a : Arrival) (e : Element) : Type 0 where
   pub whole : Whole t
   pub clock : a.clock ≤ 2 ^ 48 - 1
   pub fits : Fits e
-  pub heard : (p : PathInfo) → path_of e ≡ some p → Heard t a p
+  pub heard : (p : PathInfo) → path_of e ≡ Some p → Heard t a p
   pub matched : matches_nothing t a e ≡ false
 
-pub path_fits : (e : Element) → Fits e → (p : PathInfo) → path_of e ≡ some p → PathFits p
+pub path_fits : (e : Element) → Fits e → (p : PathInfo) → path_of e ≡ Some p → PathFits p
 unfolding FitFields
-path_fits (rann q) f p is = subst PathFits (some-injective q p is) (search f.fields)
-path_fits (rreq q targets) f p is = subst PathFits (some-injective q.path p is) (search f.fields)
-path_fits (rrep q dependents) f p is = subst PathFits (some-injective q.path p is) (search f.fields)
-path_fits (rerr g destinations) f p is = absurd (none-ne-some p is)
+path_fits (rann q) f p is = subst PathFits (same_Some q p is) (search f.fields)
+path_fits (rreq q targets) f p is = subst PathFits (same_Some q.path p is) (search f.fields)
+path_fits (rrep q dependents) f p is = subst PathFits (same_Some q.path p is) (search f.fields)
+path_fits (rerr g destinations) f p is = absurd (none-some p is)
 
-subject_individual : (e : Element) → has_bad_address e ≡ false → (p : PathInfo) → path_of e ≡ some p → individual p.subject ≡ true
+subject_individual : (e : Element) → has_bad_address e ≡ false → (p : PathInfo) → path_of e ≡ Some p → individual p.subject ≡ true
 unfolding has_bad_address
-subject_individual (rann q) ok p is = subst (λ (x : PathInfo). individual x.subject ≡ true) (some-injective q p is) (not-false _ ok)
+subject_individual (rann q) ok p is = subst (λ (x : PathInfo). individual x.subject ≡ true) (same_Some q p is) (not-false _ ok)
 subject_individual (rreq q targets) ok p is =
-    subst (λ (x : PathInfo). individual x.subject ≡ true) (some-injective q.path p is)
+    subst (λ (x : PathInfo). individual x.subject ≡ true) (same_Some q.path p is)
     (first_holds (individual q.path.subject) (any_forbidden Targets (target_addresses targets)) ok)
 subject_individual (rrep q dependents) ok p is =
-    subst (λ (x : PathInfo). individual x.subject ≡ true) (some-injective q.path p is)
+    subst (λ (x : PathInfo). individual x.subject ≡ true) (same_Some q.path p is)
     (first_holds (individual q.path.subject) (not (individual q.source.address)) ok)
-subject_individual (rerr g destinations) ok p is = absurd (none-ne-some p is)
+subject_individual (rerr g destinations) ok p is = absurd (none-some p is)
 
 other_of : (a x : Address) → individual x ≡ true → same x a ≡ false → is_other a x ≡ true
 unfolding is_other
 other_of a x i n = rw (i, n)
 
 -- If a check of the path does not apply, its test fails on the path of the element.
-path_test : (test : PathInfo → Bool) (e : Element) → is_some_and test (path_of e) ≡ false → (p : PathInfo) → path_of e ≡ some p → test p ≡ false
+path_test : (test : PathInfo → Bool) (e : Element) → is_some_and test (path_of e) ≡ false → (p : PathInfo) → path_of e ≡ Some p → test p ≡ false
 path_test test e h p is = ap (is_some_and test) (sym is) ∙ h
 
 module _ (l : Lent) (room : ℕ) (a : Arrival) (s : List ℕ) (octets : Octets l.table) (transmitter_fits : a.transmitter.0 < 256 ^ 6)
@@ -84,7 +85,7 @@ module _ (l : Lent) (room : ℕ) (a : Arrival) (s : List ℕ) (octets : Octets l
   unfolding listed
   clock_fits = ltb-false (2 ^ 48 - 1) a.clock (passed_check 3 checks h)
 
-  path_heard : (p : PathInfo) → path_of (read_element s) ≡ some p → Heard t a p
+  path_heard : (p : PathInfo) → path_of (read_element s) ≡ Some p → Heard t a p
   unfolding listed
   path_heard p is =
       let fits : PathFits p = path_fits (read_element s) element_fits p is in

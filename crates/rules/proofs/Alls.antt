@@ -1,4 +1,5 @@
 -- How a property that holds for every entry of a list carries over the operations on lists.
+use Rattle.rules.specs.Lists.{any, filter}
 use Prim.Native.Nat.{ℕ, zero, suc, ◌+◌, ◌<◌, ◌≤◌}
 use mathlib.Core.Path.{◌≡◌, refl, sym}
 use mathlib.Core.Bool.{Bool, true, false, ◌||◌, cond}
@@ -11,7 +12,6 @@ use Rattle.layout.specs.declared.address.Address.{Address}
 use Rattle.layout.specs.Address.{same}
 use Rattle.element.specs.Entries.{each, All}
 use Rattle.element.specs.Lists.{contains, has_duplicate}
-use Rattle.rules.specs.Lists.{any, filter}
 use Rattle.rules.proofs.Branches.{cond_cases}
 
 module _ {A : Type 0} (P : A → Type 0) where
@@ -57,7 +57,7 @@ module _ {A : Type 0} (P : A → Type 0) where
   all_drop (suc n) (x ∷ l) h = all_drop n l h.1
 
   pub all_filter : (p : A → Bool) (l : List A) → All P l → All P (filter p l)
-  unfolding All filter
+  unfolding All
   all_filter p [] h = tt
   all_filter p (x ∷ l) h =
       let rest : All P (filter p l) = all_filter p l h.1 in
@@ -104,24 +104,22 @@ flat_fewer f one (x ∷ l) = omega (arith, length-append (f x) (flat_map f l), o
 
 module _ {A : Type 0} (p : A → Bool) where
   pub any_fails : (l : List A) → All (λ (x : A). p x ≡ false) l → any p l ≡ false
-  unfolding any All
+  unfolding All
   any_fails [] h = refl
   any_fails (x ∷ l) h = rw h.0 (any_fails l h.1)
 
   pub each_fails : (l : List A) → any p l ≡ false → All (λ (x : A). p x ≡ false) l
-  unfolding any All
+  unfolding All
   each_fails [] e = tt
   each_fails (x ∷ l) e = let both = neither (p x) (any p l) e in (both.0, each_fails l both.1)
 
   pub filter_fewer : (l : List A) → length (filter p l) ≤ length l
-  unfolding filter
   filter_fewer [] = omega arith
   filter_fewer (x ∷ l) =
       let rest = filter_fewer l in
       cond_cases (λ (k : List A). length k ≤ length (x ∷ l)) (p x) (λ _. omega arith) (λ _. omega arith)
 
   pub filter_some : (l : List A) → any p l ≡ true → 1 ≤ length (filter p l)
-  unfolding filter any
   filter_some [] e = clash cc
   filter_some (x ∷ l) e = by (p x) e (filter_some l)
     where

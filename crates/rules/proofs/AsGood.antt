@@ -1,10 +1,10 @@
 -- No call makes a row worse. As long as numbers stay inside a window of 2^31, a row of known number stays at least as good as it
 -- was. Loop freedom needs only four laws about numbers: `path_no_worse`, `link_no_worse`, `break_falls` and `error_falls`.
+use Rattle.std.specs.Prelude.{Option, None, Some}
 use Prim.Native.Nat.{ℕ, ◌-◌, ◌^◌, ◌<◌, ◌≤◌}
 use mathlib.Core.Path.{◌≡◌, refl, ap}
 use mathlib.Core.Bool.{true, false}
 use mathlib.Core.List.{List}
-use mathlib.Core.Option.{Option, none, some}
 use lib.Dec.{eqb}
 use native.Mathlib.Nat.{le_refl}
 use native.Mathlib.Omega.{arith}
@@ -29,7 +29,7 @@ InWindow base r = eqb r.known 1 ≡ true → Window base r.number
 
 module _ (base : ℕ) (small : base < 2 ^ 32) where
   -- A path that passes refusal 25 is at least as good as the subject's row.
-  pub path_no_worse : (t : List ℕ) (a : Arrival) (p : PathInfo) → is_stale t a p ≡ false → (r : Row) → row_for t p.subject ≡ some r
+  pub path_no_worse : (t : List ℕ) (a : Arrival) (p : PathInfo) → is_stale t a p ≡ false → (r : Row) → row_for t p.subject ≡ Some r
       → eqb r.known 1 ≡ true → Window base p.number → Window base r.number
       → AtLeast base p.number (metric_here a p).0 r.number r.metric.0
   unfolding is_stale is_stale_for
@@ -59,8 +59,8 @@ module _ (base : ℕ) (small : base < 2 ^ 32) where
 
   erred_with_falls : (o : Option SequenceNumber) (r : Row) → InWindow base r → InWindow base (erred_with o r) → Falls r (erred_with o r)
   unfolding erred_with raised invalidated
-  erred_with_falls none r near = λ _. stays refl
-  erred_with_falls (some n) r near =
+  erred_with_falls None r near = λ _. stays refl
+  erred_with_falls (Some n) r near =
       cond_cases (λ (q : Row). InWindow base q → Falls r q) (newer n r.number)
       (λ e near'. raised_falls _ r (λ k. newer_ahead small (near' k) (near k) e))
       (λ _ _. invalid_falls r)
@@ -70,7 +70,7 @@ module _ (base : ℕ) (small : base < 2 ^ 32) where
   error_falls named r = erred_with_falls (number_beside r.destination named) r
 
 -- Step 2 changes a row of known number only if its metric gets no worse.
-pub link_no_worse : (a : Arrival) (r : Row) → takes_link a (some r) ≡ true → eqb r.known 1 ≡ true → a.link.0 ≤ r.metric.0
+pub link_no_worse : (a : Arrival) (r : Row) → takes_link a (Some r) ≡ true → eqb r.known 1 ≡ true → a.link.0 ≤ r.metric.0
 unfolding takes_link
 link_no_worse a r h known =
     cond_cases (λ b. b ≡ true → a.link.0 ≤ r.metric.0) (active a.clock r)

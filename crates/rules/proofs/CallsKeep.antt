@@ -1,9 +1,10 @@
 -- Every accepted call leaves a table, and emits frames that fit their octets.
+use Rattle.rules.specs.Lists.{any, filter}
+use Rattle.std.specs.Prelude.{Ok, Option, None, Some}
 use Prim.Native.Nat.{ℕ, ◌-◌, ◌*◌, ◌/◌, ◌%◌, ◌^◌, ◌<◌, ◌≤◌}
 use mathlib.Core.Path.{◌≡◌, refl, ◌∙◌}
 use mathlib.Core.Bool.{Bool, true, false, not, ◌&&◌, and-eq-true_iff, true≢false}
 use mathlib.Core.List.{List, [], ◌∷◌, map}
-use mathlib.Core.Option.{Option, none, some}
 use lib.Dec.{eqb, leb, ltb}
 use lib.ListN.{length, length-map}
 use native.Mathlib.Omega.{arith}
@@ -36,9 +37,8 @@ use Rattle.element.specs.Entries.{All, item_at, items_in}
 use Rattle.element.proofs.Lengths.{count_range}
 use Rattle.element.proofs.Scans.{each_length}
 use Rattle.element.proofs.ListParts.{all_each, FitsTarget, FitsNumbered, FitsLost}
-use Rattle.rules.specs.Decision.{Check, accepted}
+use Rattle.rules.specs.Decision.{Check}
 use Rattle.element.specs.Flags.{with_unknown}
-use Rattle.rules.specs.Lists.{any, filter}
 use Rattle.rules.specs.Exit.{Lent, Effect}
 use Rattle.rules.specs.declared.Arrival.{Arrival}
 use Rattle.rules.specs.Learn.{learnt}
@@ -190,8 +190,8 @@ module _ (l : Lent) (w : Whole l.table) where
 
   asked_by_fits : (i : Item) → FitsItem i → (o : Option Row) → row_for l.table i.address ≡ o → FitsTarget (asked_by i o)
   unfolding asked_by
-  asked_by_fits i f none e = unknown_fits i f
-  asked_by_fits i f (some r) e =
+  asked_by_fits i f None e = unknown_fits i f
+  asked_by_fits i f (Some r) e =
       cond_cases FitsTarget (eqb r.known 1)
       (λ _. known_fits i f r.number (row_fits_its_octets l.table i.address r e w.octets).number) (λ _. unknown_fits i f)
 
@@ -227,13 +227,13 @@ root_flags_small flags e = by (ltb flags 6) refl
 -- ---- every call
 
 module _ (l : Lent) (octets : Octets l.table) (room : ℕ) where
-  receive_kept : (a : Arrival) (s : List ℕ) → a.transmitter.0 < 256 ^ 6 → Octets s → (e : Effect) → receive l room a s ≡ accepted e → Kept l.table e
+  receive_kept : (a : Arrival) (s : List ℕ) → a.transmitter.0 < 256 ^ 6 → Octets s → (e : Effect) → receive l room a s ≡ Ok e → Kept l.table e
   unfolding listed receive
   receive_kept a s fits o e is =
       let p = passed (receiving l room a s) e is in
       rw (← p.1) (received_kept l a (read_element s) (accepted_element l room a s octets fits o p.0))
 
-  ask_kept : (lifetime : ℕ) (s : List ℕ) → lifetime < 256 ^ 4 → Octets s → (e : Effect) → ask l room lifetime s ≡ accepted e → Kept l.table e
+  ask_kept : (lifetime : ℕ) (s : List ℕ) → lifetime < 256 ^ 4 → Octets s → (e : Effect) → ask l room lifetime s ≡ Ok e → Kept l.table e
   unfolding listed ask
   ask_kept lifetime s short o e is =
       let p = passed (asking l room lifetime s) e is in
@@ -244,7 +244,7 @@ module _ (l : Lent) (octets : Octets l.table) (room : ℕ) where
       let long : length targets ≡ length s / 7 = length-map (items_in s) (asked_for l.table) ∙ each_length (item_at s) 0 (length s / 7) in
       rw (← p.1) (requested_kept l w 0 lifetime targets (omega arith) short (asked_all_fit l w s o) (omega (arith, count, long)) (omega (arith, count, long)))
 
-  announce_kept : (flags lifetime : ℕ) → lifetime < 256 ^ 4 → (e : Effect) → announce l room flags lifetime ≡ accepted e → Kept l.table e
+  announce_kept : (flags lifetime : ℕ) → lifetime < 256 ^ 4 → (e : Effect) → announce l room flags lifetime ≡ Ok e → Kept l.table e
   unfolding announce
   announce_kept flags lifetime short e is =
       let p = passed (announcing l room flags lifetime) e is in
@@ -252,7 +252,7 @@ module _ (l : Lent) (octets : Octets l.table) (room : ℕ) where
       let w : Whole l.table = whole l.table octets (passed_check 1 checks p.0) (passed_check 21 checks p.0) in
       rw (← p.1) (announced_kept l w flags lifetime (omega (arith, ltb-false 1 flags (passed_check 10 checks p.0))) short)
 
-  root_kept : (flags lifetime : ℕ) → lifetime < 256 ^ 4 → (e : Effect) → root_request l room flags lifetime ≡ accepted e → Kept l.table e
+  root_kept : (flags lifetime : ℕ) → lifetime < 256 ^ 4 → (e : Effect) → root_request l room flags lifetime ≡ Ok e → Kept l.table e
   unfolding root_request All FitFields
   root_kept flags lifetime short e is =
       let p = passed (requesting_as_root l room flags lifetime) e is in
@@ -262,7 +262,7 @@ module _ (l : Lent) (octets : Octets l.table) (room : ℕ) where
       (requested_kept l w flags lifetime (root_target ∷ []) (root_flags_small flags (passed_check 10 checks p.0)) short
       ((omega arith, (omega arith, (omega arith, tt))), tt) (omega arith) (omega arith))
 
-  break_kept : (c : ℕ) (neighbour : Address) (e : Effect) → break_neighbour l room c neighbour ≡ accepted e → Kept l.table e
+  break_kept : (c : ℕ) (neighbour : Address) (e : Effect) → break_neighbour l room c neighbour ≡ Ok e → Kept l.table e
   unfolding listed break_neighbour broken_off
   break_kept c neighbour e is =
       let p = passed (breaking l room c neighbour) e is in
@@ -275,7 +275,7 @@ module _ (l : Lent) (octets : Octets l.table) (room : ℕ) where
         frames = errors_fit (broken_entries (is_through c neighbour) l.table) (entries_fit l.table octets (is_through c neighbour));
       })
 
-  pub call_kept : (call : Call) → OperandsFit call → (e : Effect) → decision l room call ≡ accepted e → Kept l.table e
+  pub call_kept : (call : Call) → OperandsFit call → (e : Effect) → decision l room call ≡ Ok e → Kept l.table e
   unfolding decision
   call_kept (receives a s) fit e is = receive_kept a s fit.0 fit.1 e is
   call_kept (makes (asks lifetime items)) fit e is = ask_kept lifetime items fit.0 fit.1 e is

@@ -7,13 +7,11 @@ use Rattle.counters.specs.Numbering.{advanced_for}
 use Rattle.layout.specs.Address.{individual}
 use Rattle.layout.specs.Layout.{sized, head_at, put_head, all_zero, row_at, put_row}
 use Rattle.layout.specs.Row.{head_with, head_ok, is_free, is_unnumbered, is_other, status_ok, bounds_ok, is_held, row_ok, active, renewed, numbered, invalidated, raised, is_through}
-use Rattle.table.specs.Places.{first, count, every}
 use Rattle.table.specs.Table.{vacant, holds, find_row, row_for, active_next, free_rows, first_free, alone, is_table, fresh, place_for, store, freed, change_below, change_where}
 use Rattle.element.specs.Layout.{known, kind_with, fits}
 use Rattle.element.specs.Entries.{each, lost_at, lost_octets, numbered_at, numbered_octets, target_at, target_octets, item_at}
 use Rattle.element.specs.Octets.{wrong_length, other_id, misfit, read_as, read_element, fixed_octets, write_element, write_frame}
 use Rattle.element.specs.Lists.{addresses_from, allowed, any_forbidden, contains, has_duplicate, ones_beside_others}
-use Rattle.rules.specs.Lists.{any, all, filter}
 use Rattle.element.specs.Flags.{bit, with_do, with_unknown}
 use Rattle.rules.specs.Exit.{frame_octets, at_exit}
 use Rattle.rules.specs.Fresh.{make_fresh}
@@ -34,11 +32,11 @@ unfoldable pub computing : Unit {0}
 unfolding flat_map number_octets number_at overwrite with_number fields_at with_fields field_octets
     stepped advanced_for wrapped newer older
     individual sized head_at put_head all_zero row_at put_row head_with head_ok is_free is_unnumbered is_other status_ok bounds_ok is_held row_ok
-    active renewed numbered invalidated raised first count every vacant holds find_row row_for active_next free_rows first_free alone
+    active renewed numbered invalidated raised vacant holds find_row row_for active_next free_rows first_free alone
     is_table fresh place_for store freed change_below change_where
     known kind_with fits each lost_at lost_octets numbered_at numbered_octets target_at target_octets item_at wrong_length other_id misfit
     read_as read_element fixed_octets write_element write_frame addresses_from allowed any_forbidden contains ones_beside_others has_duplicate
-    any all filter bit with_do with_unknown frame_octets at_exit make_fresh forget next_hop
+    bit with_do with_unknown frame_octets at_exit make_fresh forget next_hop
     expiry_of subject_row transmitter_row takes_link subject_learnt transmitter_learnt learnt
     reply answered_number answers_for for_oneself for_all_ones for_another answered all_answered
     onward rann_onward rreq_onward rrep_onward

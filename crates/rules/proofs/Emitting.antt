@@ -1,10 +1,10 @@
 -- Laws of the frames that calls emit. A property Q holds for all frames of a call if it holds for each kind of frame. The laws
 -- also bound how many frames there are.
+use Rattle.std.specs.Prelude.{Option, None, Some}
 use Prim.Native.Nat.{ℕ, ◌<◌, ◌≤◌}
 use mathlib.Core.Path.{◌≡◌, refl}
 use mathlib.Core.Bool.{Bool, true, not, ◌&&◌, ◌||◌, and-eq-true_iff}
 use mathlib.Core.List.{List, [], ◌∷◌}
-use mathlib.Core.Option.{Option, none, some}
 use lib.Dec.{eqb, ltb}
 use lib.ListN.{length, length-append}
 use native.Mathlib.Omega.{arith}
@@ -42,7 +42,7 @@ pub record Emits (Q : Frame → Type 0) (n : ℕ) (frames : List Frame) : Type 0
 -- The receivers to which a point with the table t forwards an element at clock c: all ones, or an active next hop.
 pub data GoesTo (t : List ℕ) (c : ℕ) : Address → Type 0 where
   all : GoesTo t c all_ones
-  next : (d to : Address) → active_next c (row_for t d) ≡ some to → GoesTo t c to
+  next : (d to : Address) → active_next c (row_for t d) ≡ Some to → GoesTo t c to
 
 -- A point sends an intermediate reply only from a row of known number.
 answers_known : (c : ℕ) (q : Target) (r : Row) → answers_for c q r ≡ true → eqb r.known 1 ≡ true
@@ -66,9 +66,9 @@ module _ (Q : Frame → Type 0) where
 
   -- ---- forwarding
 
-  sent_emitted : (e : Element) (o : Option Address) → ((to : Address) → o ≡ some to → Q (record { receiver = to; element = e })) → Emits Q 1 (sent_to e o)
-  sent_emitted e none h = none_emitted 1
-  sent_emitted e (some to) h = one_emitted _ (h to refl)
+  sent_emitted : (e : Element) (o : Option Address) → ((to : Address) → o ≡ Some to → Q (record { receiver = to; element = e })) → Emits Q 1 (sent_to e o)
+  sent_emitted e None h = none_emitted 1
+  sent_emitted e (Some to) h = one_emitted _ (h to refl)
 
   if_ttl_left_emitted : (p : PathInfo) (frames : List Frame) → Emits Q 1 frames → Emits Q 1 (if_ttl_left p frames)
   if_ttl_left_emitted p frames h = cond_cases (Emits Q 1) (ltb p.ttl 2) (λ _. none_emitted 1) (λ _. h)
@@ -102,7 +102,7 @@ module _ (Q : Frame → Type 0) where
     -- ---- replies: of the point for itself, under a stepped number, and from a row of known number
 
     module _ (p : PathInfo) (oneself : (n : SequenceNumber) → Q (own_reply a p (own u) (next_number n)))
-        (from_row : (d : Address) (r : Row) → row_for u d ≡ some r → eqb r.known 1 ≡ true → Q (row_reply a p r)) where
+        (from_row : (d : Address) (r : Row) → row_for u d ≡ Some r → eqb r.known 1 ≡ true → Q (row_reply a p r)) where
       abbrev Replies : ℕ → Answered → Type 0
       Replies n x = Emits Q n x.replies
 
@@ -116,8 +116,8 @@ module _ (Q : Frame → Type 0) where
 
       another_answered : (n : SequenceNumber) (q : Target) (o : Option Row) → row_for u q.address ≡ o → Replies 1 (for_another u a p n q o)
       unfolding for_another
-      another_answered n q none found = none_emitted 1
-      another_answered n q (some r) found =
+      another_answered n q None found = none_emitted 1
+      another_answered n q (Some r) found =
           cond_cases (Replies 1) (answers_for a.clock q r)
           (λ e. one_emitted _ (from_row q.address r found (answers_known a.clock q r e))) (λ _. none_emitted 1)
 

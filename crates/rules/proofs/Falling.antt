@@ -1,9 +1,10 @@
 -- A break and a received RERR: every row stays held, and the octets stay a table.
+use Rattle.std.specs.Prelude.{Option, None, Some, is_some}
 use Prim.Native.Nat.{ℕ, ◌^◌, ◌<◌}
 use mathlib.Core.Path.{◌≡◌, refl, sym, ap, subst, ◌∙◌}
 use mathlib.Core.Bool.{Bool, true, false, and-eq-true_iff}
 use mathlib.Core.List.{List, [], ◌∷◌}
-use mathlib.Core.Option.{Option, none, some, none-ne-some, some-injective}
+use Rattle.std.proofs.lemmas.Option.{none-some, same_Some}
 use lib.Dec.{eqb, ltb}
 use native.Mathlib.Omega.{arith}
 use borrow.Author.Tests.{eqb-true}
@@ -21,7 +22,6 @@ use Rattle.layout.proofs.HeldRows.{Held, held_says, held_is, invalid_fits, raise
 use Rattle.element.specs.declared.LostDestination.{LostDestination}
 use Rattle.element.specs.Entries.{All}
 use Rattle.element.proofs.ListParts.{FitsLost}
-use Rattle.rules.specs.Lists.{is_some}
 use Rattle.rules.specs.Errors.{is_lost_by, number_beside, is_match, erred_with, erred, broken}
 use Rattle.rules.proofs.Branches.{cond_cases}
 use Rattle.rules.proofs.Tables.{Whole, Keeps}
@@ -111,19 +111,19 @@ module _ (test : Row → Bool) (c : ℕ) (acts : (r : Row) → test r ≡ true �
 
 -- ---- a received RERR, whose entries fit their octets
 
-beside_fits : (d : Address) (named : List LostDestination) → All FitsLost named → (n : SequenceNumber) → number_beside d named ≡ some n → n.0 < 256 ^ 4
+beside_fits : (d : Address) (named : List LostDestination) → All FitsLost named → (n : SequenceNumber) → number_beside d named ≡ Some n → n.0 < 256 ^ 4
 unfolding number_beside All FitFields
-beside_fits d [] f n = λ e. absurd (none-ne-some n e)
+beside_fits d [] f n = λ e. absurd (none-some n e)
 beside_fits d (m ∷ named) f n =
-    cond_cases (λ (o : Option SequenceNumber). o ≡ some n → n.0 < 256 ^ 4) (same m.address d)
-    (λ _ e. subst (λ (k : SequenceNumber). k.0 < 256 ^ 4) (some-injective m.number n e) (search f.0))
+    cond_cases (λ (o : Option SequenceNumber). o ≡ Some n → n.0 < 256 ^ 4) (same m.address d)
+    (λ _ e. subst (λ (k : SequenceNumber). k.0 < 256 ^ 4) (same_Some m.number n e) (search f.0))
     (λ _. beside_fits d named f.1 n)
 
 module _ (c : ℕ) (transmitter : Address) (named : List LostDestination) (fit : All FitsLost named) where
   erred_with_loses : (r : Row) → eqb r.known 1 ≡ true → (o : Option SequenceNumber) → number_beside r.destination named ≡ o → Lost r (erred_with o r)
   unfolding erred_with
-  erred_with_loses r k none e = unchanged refl
-  erred_with_loses r k (some n) e =
+  erred_with_loses r k None e = unchanged refl
+  erred_with_loses r k (Some n) e =
       cond_cases (Lost r) (newer n r.number) (λ _. higher n (beside_fits r.destination named fit n e) k refl) (λ _. invalid refl)
 
   -- The row of a match is active, and its number is known.

@@ -1,10 +1,10 @@
 -- Laws of steps 1 and 2 of receiving a RANN, RREQ or RREP. They say what becomes of the row of each destination, and that the
 -- octets stay a table.
+use Rattle.std.specs.Prelude.{Option, None, Some}
 use Prim.Native.Nat.{ℕ, ◌+◌, ◌-◌, ◌^◌, ◌<◌, ◌≤◌}
 use mathlib.Core.Path.{◌≡◌, refl, sym, ap, subst, ◌∙◌}
 use mathlib.Core.Bool.{Bool, true, false, ◌&&◌, ◌||◌}
 use mathlib.Core.List.{List}
-use mathlib.Core.Option.{Option, none, some}
 use mathlib.Core.Logic.{⊎_elim}
 use lib.Dec.{eqb, ltb}
 use native.Mathlib.Omega.{arith}
@@ -73,16 +73,16 @@ unnumbered_number r e k = by (eqb r.number.0 0) refl (rw k at e)
 
 basis : (t : List ℕ) → Whole t → (d : Address) → d.0 < 256 ^ 6 → (o : Option Row) → row_for t d ≡ o → Basis d (row_or_new d o)
 unfolding FitFields
-basis t w d small none e =
+basis t w d small None e =
     record {
       destination = refl;
       zero = refl;
       known = omega arith;
       unnumbered = λ _. refl;
       expiry = omega arith;
-      fits = fit_row (row_or_new d none) (omega arith);
+      fits = fit_row (row_or_new d None) (omega arith);
     }
-basis t w d small (some r) e =
+basis t w d small (Some r) e =
     let h : Held (own t) r = held_says (own t) r (row_is_held t d r e w.legal) in
     record {
       destination = row_destination t d r e;
@@ -172,7 +172,7 @@ module _ (t : List ℕ) (a : Arrival) (p : PathInfo) (h : Heard t a p) where
 -- States that u is the table t with the row r stored for d.
 record Stored (t : List ℕ) (d : Address) (r : Row) (u : List ℕ) : Type 0 where
   keeps : Keeps t u
-  here : row_for u d ≡ some r
+  here : row_for u d ≡ Some r
   others : (e : Address) → (d ≡ e → ⊥) → row_for u e ≡ row_for t e
   free : free_rows u + new_rows (row_for t d) ≡ free_rows t
 
@@ -203,12 +203,12 @@ keeps_trans k l = record { whole = l.whole; head = l.head ∙ k.head; length = l
 
 -- Step 2: if d is the transmitter, its row may be made or changed. Otherwise the row of d stays as it is.
 pub data Renewal (d : Address) (a : Arrival) (lifetime : ℕ) (o o' : Option Row) : Type 0 where
-  renewal : a.transmitter ≡ d → takes_link a o ≡ true → o' ≡ some (transmitter_row a lifetime (row_or_new d o)) → Renewal d a lifetime o o'
+  renewal : a.transmitter ≡ d → takes_link a o ≡ true → o' ≡ Some (transmitter_row a lifetime (row_or_new d o)) → Renewal d a lifetime o o'
   left : o' ≡ o → Renewal d a lifetime o o'
 
 -- Steps 1 and 2: step 1 makes or changes the subject's row, and only step 2 can make or change another row.
 pub data Learning (d : Address) (a : Arrival) (p : PathInfo) (o o' : Option Row) : Type 0 where
-  subject : p.subject ≡ d → o' ≡ some (subject_row a p (row_or_new d o)) → Learning d a p o o'
+  subject : p.subject ≡ d → o' ≡ Some (subject_row a p (row_or_new d o)) → Learning d a p o o'
   other : (p.subject ≡ d → ⊥) → Renewal d a p.lifetime o o' → Learning d a p o o'
 
 module _ (t : List ℕ) (a : Arrival) (p : PathInfo) (h : Heard t a p) where
@@ -267,8 +267,8 @@ module _ (t : List ℕ) (a : Arrival) (p : PathInfo) (h : Heard t a p) where
         (λ e. subst (λ (x : Address). Renewal x a p.lifetime (row_for u x) (row_for (transmitter_learnt a p.lifetime u) x)) e renewal_there)
         (λ n. left (renewal_elsewhere d n)) (equal_or_not a.transmitter d)
 
-  first_at : (d : Address) → p.subject ≡ d → row_for u d ≡ some (subject_row a p (row_or_new d (row_for t d)))
-  first_at d e = subst (λ (x : Address). row_for u x ≡ some (subject_row a p (row_or_new x (row_for t x)))) e first.here
+  first_at : (d : Address) → p.subject ≡ d → row_for u d ≡ Some (subject_row a p (row_or_new d (row_for t d)))
+  first_at d e = subst (λ (x : Address). row_for u x ≡ Some (subject_row a p (row_or_new x (row_for t x)))) e first.here
 
   alone : (d : Address) → Learning d a p (row_for t d) (row_for u d)
   alone d = ⊎_elim (λ e. subject e (first_at d e)) (λ n. other n (left (first.others d n))) (equal_or_not p.subject d)

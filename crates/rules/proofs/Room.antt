@@ -1,4 +1,5 @@
 -- The frames of an accepted call take at most 1,560 octets: an output that passes refusal 2 has room for them.
+use Rattle.std.specs.Prelude.{Ok}
 use Prim.Native.Nat.{ℕ, ◌+◌, ◌*◌, ◌≤◌}
 use mathlib.Core.Path.{◌≡◌, refl, sym, ap, subst, ◌∙◌}
 use mathlib.Core.Bool.{Bool, true, and-eq-true_iff}
@@ -23,7 +24,7 @@ use Rattle.element.specs.Octets.{write_frame, read_element}
 use Rattle.element.proofs.Lengths.{longest, length_range}
 use Rattle.element.proofs.Scans.{each_length}
 use Rattle.element.proofs.Sizes.{frame_length}
-use Rattle.rules.specs.Decision.{Ruling, accepted, decide}
+use Rattle.rules.specs.Decision.{Ruling, decide}
 use Rattle.rules.specs.Exit.{Frame, Lent, Effect, frame_octets, least_output}
 use Rattle.rules.specs.declared.Arrival.{Arrival}
 use Rattle.rules.specs.Learn.{learnt}
@@ -134,12 +135,12 @@ module _ (l : Lent) (octets : Octets l.table) (room : ℕ) where
       )
 
   -- The frames of an accepted call have at most 1,560 octets if its effect e' has at most n frames, with n at most 6.
-  call_few : (n : ℕ) → n ≤ 6 → (call : Call) → OperandsFit call → (e e' : Effect) → decision l room call ≡ accepted e → e' ≡ e → length e'.frames ≤ n
+  call_few : (n : ℕ) → n ≤ 6 → (call : Call) → OperandsFit call → (e e' : Effect) → decision l room call ≡ Ok e → e' ≡ e → length e'.frames ≤ n
       → length (frame_octets e.frames) ≤ 1560
   call_few n six call fit e e' is same_effect few =
       few_frames n six e.frames (subst (λ (x : Effect). length x.frames ≤ n) same_effect few) (call_kept l octets room call fit e is).frames
 
-  pub call_room : (call : Call) → OperandsFit call → (e : Effect) → decision l room call ≡ accepted e → length (frame_octets e.frames) ≤ 1560
+  pub call_room : (call : Call) → OperandsFit call → (e : Effect) → decision l room call ≡ Ok e → length (frame_octets e.frames) ≤ 1560
   unfolding listed decision receive ask announce root_request break_neighbour announced requested broken_off
   call_room (receives a s) fit e is =
       let p = passed (receiving l room a s) e is in
@@ -161,10 +162,10 @@ module _ (l : Lent) (octets : Octets l.table) (room : ℕ) where
 
 -- ---- an output that passed refusal 2
 
-long_enough : {A : Type 0} (room : ℕ) (r : Ruling A) (u : A) → test_of 2 r.checks ≡ ltb room least_output → decide r ≡ accepted u → least_output ≤ room
+long_enough : {A : Type 0} (room : ℕ) (r : Ruling A) (u : A) → test_of 2 r.checks ≡ ltb room least_output → decide r ≡ Ok u → least_output ≤ room
 long_enough room r u second is = ltb-false room least_output (sym second ∙ passed_check 2 r.checks (passed r u is).0)
 
-call_output : (l : Lent) (room : ℕ) (call : Call) (e : Effect) → decision l room call ≡ accepted e → least_output ≤ room
+call_output : (l : Lent) (room : ℕ) (call : Call) (e : Effect) → decision l room call ≡ Ok e → least_output ≤ room
 unfolding listed decision receive ask announce root_request break_neighbour
 call_output l room (receives a s) e is = long_enough room (receiving l room a s) e refl is
 call_output l room (makes (asks lifetime items)) e is = long_enough room (asking l room lifetime items) e refl is
@@ -174,6 +175,6 @@ call_output l room (makes (breaks c neighbour)) e is = long_enough room (breakin
 
 -- The output that an accepted call was lent has room for its frames.
 pub output_room : (l : Lent) → Octets l.table → (output : List ℕ) (call : Call) → OperandsFit call → (e : Effect)
-    → decision l (length output) call ≡ accepted e → length (frame_octets e.frames) ≤ length output
+    → decision l (length output) call ≡ Ok e → length (frame_octets e.frames) ≤ length output
 output_room l octets output call fit e is =
     omega (arith, call_room l octets (length output) call fit e is, call_output l (length output) call e is)

@@ -1,9 +1,10 @@
 -- Every frame that a call emits fits its octets, and its element has an allowed number of entries.
+use Rattle.std.specs.Prelude.{Option, None, Some}
 use Prim.Native.Nat.{ℕ, ◌-◌, ◌*◌, ◌^◌, ◌<◌, ◌≤◌}
 use mathlib.Core.Path.{◌≡◌, refl, subst}
 use mathlib.Core.Bool.{Bool}
 use mathlib.Core.List.{List, [], ◌∷◌}
-use mathlib.Core.Option.{Option, none, some, none-ne-some, some-injective}
+use Rattle.std.proofs.lemmas.Option.{none-some, same_Some}
 use lib.Dec.{eqb}
 use lib.ListN.{length, take, drop, length-append, length-take, length-drop}
 use native.Mathlib.Omega.{arith}
@@ -105,12 +106,12 @@ unfolding active_next
 goes_to_fits t o c _ all = omega arith
 goes_to_fits t o c _ (next d to is) = by (row_for t d) refl is
   where
-    by : (r : Option Row) → row_for t d ≡ r → active_next c r ≡ some to → to.0 < 256 ^ 6
-    by none found e = absurd (none-ne-some to e)
-    by (some r) found e =
-        cond_cases (λ (n : Option Address). n ≡ some to → to.0 < 256 ^ 6) (active c r)
-        (λ _ q. subst (λ (x : Address). x.0 < 256 ^ 6) (some-injective r.next to q) (row_fits_its_octets t d r found o).next)
-        (λ _ q. absurd (none-ne-some to q)) e
+    by : (r : Option Row) → row_for t d ≡ r → active_next c r ≡ Some to → to.0 < 256 ^ 6
+    by None found e = absurd (none-some to e)
+    by (Some r) found e =
+        cond_cases (λ (n : Option Address). n ≡ Some to → to.0 < 256 ^ 6) (active c r)
+        (λ _ q. subst (λ (x : Address). x.0 < 256 ^ 6) (same_Some r.next to q) (row_fits_its_octets t d r found o).next)
+        (λ _ q. absurd (none-some to q)) e
 
 module _ (a : Arrival) (p : PathInfo) (f : PathFits p) (hops : p.hops.0 < 255) (metric : (metric_here a p).0 ≤ 2 ^ 32 - 2) where
   onward_fits : PathFits (onward a p)
@@ -198,8 +199,8 @@ module _ (t : List ℕ) (a : Arrival) (p : PathInfo) where
 
     another_fits : (o : Option Row) → AnsweredFits 1 (for_another t a p n q o)
     unfolding for_another
-    another_fits none = kept_fits n [] n_fits
-    another_fits (some r) =
+    another_fits None = kept_fits n [] n_fits
+    another_fits (Some r) =
         cond_cases (AnsweredFits 1) (answers_for a.clock q r)
         (λ _. record { number = n_fits; kept = kept_after_fits.0; fewer = kept_after_fits.1 }) (λ _. kept_fits n [] n_fits)
 

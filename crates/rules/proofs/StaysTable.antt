@@ -1,4 +1,5 @@
 -- Fresh and forget leave octets that are a table (refusal 21). `CallsKeep` has the other calls.
+use Rattle.std.specs.Prelude.{Ok}
 use Prim.Native.Nat.{ℕ, ◌^◌, ◌<◌}
 use mathlib.Core.Path.{◌≡◌, refl}
 use mathlib.Core.Bool.{true}
@@ -15,14 +16,14 @@ use Rattle.table.proofs.WellFormed.{Legal, legal_of, legal_is}
 use Rattle.table.proofs.Cases.{of_size}
 use Rattle.table.proofs.Heads.{fresh_table, fresh_octets, fresh_length}
 use Rattle.table.proofs.Lookup.{freed_legal, freed_octets, freed_length}
-use Rattle.rules.specs.Decision.{Check, accepted}
+use Rattle.rules.specs.Decision.{Check}
 use Rattle.rules.specs.Fresh.{making_fresh, make_fresh}
 use Rattle.rules.specs.Forget.{forgetting, forget}
 use Rattle.rules.proofs.Rulings.{passed, passed_check}
 
 -- The address has six octets and the number four, as the types of C guarantee.
 pub fresh_stays : (t u : List ℕ) (own : Address) (number : SequenceNumber) → own.0 < 256 ^ 6 → number.0 < 256 ^ 4
-    → make_fresh t own number ≡ accepted u → Octets u × (is_table u ≡ true) × (length u ≡ length t)
+    → make_fresh t own number ≡ Ok u → Octets u × (is_table u ≡ true) × (length u ≡ length t)
 unfolding make_fresh
 fresh_stays t u own number own_fits number_fits e =
     let p = passed (making_fresh t own number) u e in
@@ -34,7 +35,7 @@ fresh_stays t u own number own_fits number_fits e =
       fresh_length (length t) own number,
     )
 
-pub forget_stays : (t u : List ℕ) (d : Address) → Octets t → forget t d ≡ accepted u → Octets u × (is_table u ≡ true) × (length u ≡ length t)
+pub forget_stays : (t u : List ℕ) (d : Address) → Octets t → forget t d ≡ Ok u → Octets u × (is_table u ≡ true) × (length u ≡ length t)
 unfolding forget
 forget_stays t u d o e =
     let p = passed (forgetting t d) u e in

@@ -1,10 +1,11 @@
 -- Laws of numbers that are marked unknown: the own number steps by one, a destination that is kept keeps its mark, and only 0 is
 -- marked.
+use Rattle.rules.specs.Lists.{any}
+use Rattle.std.specs.Prelude.{Ok, Option, None, Some}
 use Prim.Native.Nat.{ℕ, ◌+◌, ◌*◌, ◌/◌, ◌%◌, ◌^◌, ◌<◌, ◌≤◌}
 use mathlib.Core.Path.{◌≡◌, refl, sym, ap, subst, ◌∙◌}
 use mathlib.Core.Bool.{Bool, true, false, ◌&&◌, ◌||◌, and-true, and-false}
 use mathlib.Core.List.{List, [], ◌∷◌, ◌++◌, append-nil, map}
-use mathlib.Core.Option.{Option, none, some}
 use lib.Dec.{eqb, ltb}
 use lib.ListN.{length, length-append, length-map}
 use native.Mathlib.Omega.{arith}
@@ -29,8 +30,6 @@ use Rattle.element.specs.Entries.{All, items_in}
 use Rattle.element.specs.Flags.{bit, number_unknown, reply_wanted, has_rf, with_do, unicast}
 use Rattle.element.specs.Lists.{addresses_in, all_ones, contains, has_duplicate, ones_beside_others}
 use Rattle.element.specs.Octets.{read_element}
-use Rattle.rules.specs.Decision.{accepted}
-use Rattle.rules.specs.Lists.{any}
 use Rattle.rules.specs.Exit.{Frame, Lent, Effect}
 use Rattle.rules.specs.declared.Arrival.{Arrival}
 use Rattle.rules.specs.Learn.{learnt}
@@ -58,8 +57,8 @@ Without d = All (λ (q : Target). same q.address d ≡ false)
 module _ (u : List ℕ) (a : Arrival) (p : PathInfo) where
   another_leaves : (n : SequenceNumber) (q : Target) (o : Option Row) → (for_another u a p n q o).number ≡ n
   unfolding for_another
-  another_leaves n q none = refl
-  another_leaves n q (some r) = cond_cases (λ (x : Answered). x.number ≡ n) (answers_for a.clock q r) (λ _. refl) (λ _. refl)
+  another_leaves n q None = refl
+  another_leaves n q (Some r) = cond_cases (λ (x : Answered). x.number ≡ n) (answers_for a.clock q r) (λ _. refl) (λ _. refl)
 
   -- A destination that is neither this point nor all ones leaves the own number.
   other_leaves : (n : SequenceNumber) (q : Target) → same q.address (own u) ≡ false → same q.address all_ones ≡ false → (answered u a p n q).number ≡ n
@@ -151,7 +150,7 @@ module _ (before after : List Target) (q : Target) where
 module _ (l : Lent) (octets : Octets l.table) (room : ℕ) (a : Arrival) (s : List ℕ) (transmitter_fits : a.transmitter.0 < 256 ^ 6) (s_octets : Octets s) where
   pub just_steps : (f : RreqFields) (before after : List Target) (q : Target) → read_element s ≡ rreq f (before ++ q ∷ after)
       → same q.address (own l.table) ≡ true → number_unknown q ≡ true
-      → (e : Effect) → receive l room a s ≡ accepted e → number e.lent.table ≡ next_number (number l.table)
+      → (e : Effect) → receive l room a s ≡ Ok e → number e.lent.table ≡ next_number (number l.table)
   unfolding listed receive received rreq_received
   just_steps f before after q is-rreq self unknown e is =
       let p = passed (receiving l room a s) e is in
@@ -195,8 +194,8 @@ module _ (u : List ℕ) (a : Arrival) (p : PathInfo) (n : SequenceNumber) (q : T
 
   another_keeps : (o : Option Row) → KeptSo (for_another u a p n q o)
   unfolding for_another All
-  another_keeps none = (as_received, tt)
-  another_keeps (some r) =
+  another_keeps None = (as_received, tt)
+  another_keeps (Some r) =
       cond_cases KeptSo (answers_for a.clock q r)
       (λ _. cond_cases (All (KeepsMark q)) (has_rf q) (λ _. all_one (KeepsMark q) (with_do q) (with_do_keeps q)) (λ _. tt)) (λ _. (as_received, tt))
 
@@ -242,8 +241,8 @@ unfolding asked_for asked_by
 asked_fair t i low = by (row_for t i.address)
   where
     by : (o : Option Row) → Fair (asked_by i o)
-    by none = marked_fair i
-    by (some r) = cond_cases Fair (eqb r.known 1) (λ _. unmarked_fair i r.number low) (λ _. marked_fair i)
+    by None = marked_fair i
+    by (Some r) = cond_cases Fair (eqb r.known 1) (λ _. unmarked_fair i r.number low) (λ _. marked_fair i)
 
 -- ---- every call
 
@@ -253,7 +252,7 @@ MarksZero f = any is_mismarked (targets_of f.element) ≡ false
 
 module _ (l : Lent) where
   received_marks : (a : Arrival) (e : Element) → has_bad_list e ≡ false → All MarksZero (received l a e).frames
-  unfolding received rann_received rrep_received rreq_received rerr_received reply any
+  unfolding received rann_received rrep_received rreq_received rerr_received reply
   received_marks a (rann p) good = (rann_emitted MarksZero a p refl).each
   received_marks a (rreq f targets) good =
       let t : List ℕ = l.table in
@@ -262,7 +261,7 @@ module _ (l : Lent) where
       let fair : All Fair targets = each_fails is_mismarked targets (good_list f targets good).fair in
       all_append MarksZero done.replies _
       (replies_emitted MarksZero u a f.path (λ k. refl) (λ d r found known. refl) (number t) targets).each
-      (rreq_emitted MarksZero u a f done.kept (λ to goes some. any_fails is_mismarked done.kept (all_kept_fair u a f.path targets fair (number t)))).each
+      (rreq_emitted MarksZero u a f done.kept (λ to goes Some. any_fails is_mismarked done.kept (all_kept_fair u a f.path targets fair (number t)))).each
   received_marks a (rrep f dependents) good = (rrep_emitted MarksZero (learnt a f.path l.table) a f dependents (λ to goes. refl)).each
   received_marks a (rerr f destinations) good = (to_all_emitted MarksZero _ refl).each
 
@@ -271,13 +270,13 @@ module _ (l : Lent) where
   requested_marks flags lifetime targets fair = (to_all_emitted MarksZero _ (any_fails is_mismarked targets fair)).each
 
   module _ (room : ℕ) where
-    receive_marks : (a : Arrival) (s : List ℕ) (e : Effect) → receive l room a s ≡ accepted e → All MarksZero e.frames
+    receive_marks : (a : Arrival) (s : List ℕ) (e : Effect) → receive l room a s ≡ Ok e → All MarksZero e.frames
     unfolding listed receive
     receive_marks a s e is =
         let p = passed (receiving l room a s) e is in
         rw (← p.1) (received_marks a (read_element s) (passed_check 10 (receiving l room a s).checks p.0))
 
-    ask_marks : (lifetime : ℕ) (items : List ℕ) (e : Effect) → ask l room lifetime items ≡ accepted e → All MarksZero e.frames
+    ask_marks : (lifetime : ℕ) (items : List ℕ) (e : Effect) → ask l room lifetime items ≡ Ok e → All MarksZero e.frames
     unfolding listed ask
     ask_marks lifetime items e is =
         let p = passed (asking l room lifetime items) e is in
@@ -286,22 +285,22 @@ module _ (l : Lent) where
         (requested_marks 0 lifetime (map (asked_for l.table) (items_in items))
         (all_map Fair (λ (i : Item). has_high_flags i ≡ false) (asked_for l.table) (asked_fair l.table) (items_in items) (each_fails has_high_flags (items_in items) low)))
 
-    announce_marks : (flags lifetime : ℕ) (e : Effect) → announce l room flags lifetime ≡ accepted e → All MarksZero e.frames
-    unfolding announce announced any
+    announce_marks : (flags lifetime : ℕ) (e : Effect) → announce l room flags lifetime ≡ Ok e → All MarksZero e.frames
+    unfolding announce announced
     announce_marks flags lifetime e is = rw (← (passed (announcing l room flags lifetime) e is).1) (to_all_emitted MarksZero _ refl).each
 
-    root_marks : (flags lifetime : ℕ) (e : Effect) → root_request l room flags lifetime ≡ accepted e → All MarksZero e.frames
+    root_marks : (flags lifetime : ℕ) (e : Effect) → root_request l room flags lifetime ≡ Ok e → All MarksZero e.frames
     unfolding root_request bit
     root_marks flags lifetime e is =
         rw (← (passed (requesting_as_root l room flags lifetime) e is).1) (requested_marks flags lifetime (root_target ∷ []) (all_one Fair root_target refl))
 
-    break_marks : (c : ℕ) (neighbour : Address) (e : Effect) → break_neighbour l room c neighbour ≡ accepted e → All MarksZero e.frames
-    unfolding listed break_neighbour broken_off error_at any
+    break_marks : (c : ℕ) (neighbour : Address) (e : Effect) → break_neighbour l room c neighbour ≡ Ok e → All MarksZero e.frames
+    unfolding listed break_neighbour broken_off error_at
     break_marks c neighbour e is =
         rw (← (passed (breaking l room c neighbour) e is).1)
         (errors_emitted MarksZero (broken_entries (is_through c neighbour) l.table) (λ i small. refl)).each
 
-    pub call_marks : (call : Call) (e : Effect) → decision l room call ≡ accepted e → All MarksZero e.frames
+    pub call_marks : (call : Call) (e : Effect) → decision l room call ≡ Ok e → All MarksZero e.frames
     unfolding decision
     call_marks (receives a s) e is = receive_marks a s e is
     call_marks (makes (asks lifetime items)) e is = ask_marks lifetime items e is

@@ -1,15 +1,15 @@
 -- Defines checks, rulings and decisions. A call is refused by the first of its checks that applies, and accepted if none applies.
 -- PROTOCOL, 'Refusals'.
-use Rattle.std.specs.Prelude.{ℕ, Bool, cond, List, [], ◌∷◌, ◌++◌, ltb}
+use Rattle.std.specs.Prelude.{ℕ, Bool, cond, List, [], ◌∷◌, ◌++◌, ltb, Result, Ok, Err}
+use Rattle.refusals.specs.declared.Refusal.{Refusal}
 
--- A refusal with its number, or an acceptance with what the call does.
-pub data Decision (A : Type 0) : Type 0 where
-  refused : ℕ → Decision A
-  accepted : A → Decision A
+-- A refusal (`Err`), or an acceptance with what the call does (`Ok`).
+abbrev pub Decision : Type 0 → Type 0
+Decision A = Result A Refusal
 
--- The number of a refusal, and whether it applies.
+-- A refusal, and whether it applies.
 pub record Check : Type 0 where
-  pub number : ℕ
+  pub refusal : Refusal
   pub applies : Bool
 
 -- The checks of a call in their order, and what the call does if none of them applies.
@@ -17,11 +17,11 @@ pub record Ruling (A : Type 0) : Type 0 where
   pub checks : List Check
   pub otherwise : A
 
--- A ruling is written as a `do` block. Each line is a check `refuse n when test`, or the name of a list of checks. The last
+-- A ruling is written as a `do` block. Each line is a check `refuse r when test`, or the name of a list of checks. The last
 -- line is `accept` with what the call does if no check applies.
 infix 6 refuse◌when◌
-abbrev pub refuse◌when◌ : ℕ → Bool → List Check
-refuse◌when◌ n b = record { number = n; applies = b } ∷ []
+abbrev pub refuse◌when◌ : Refusal → Bool → List Check
+refuse◌when◌ r b = record { refusal = r; applies = b } ∷ []
 
 -- `then` joins the checks of a list that has a name.
 infixr 5 ◌then◌
@@ -45,8 +45,8 @@ abbrev pub ◌>>◌ : {A : Type 0} → List Check → Ruling A → Ruling A
 
 -- The first check that applies refuses the call.
 abbrev pub judged : {A : Type 0} → List Check → A → Decision A
-judged [] a = accepted a
-judged (k ∷ checks) a = cond k.applies (refused k.number) (judged checks a)
+judged [] a = Ok a
+judged (k ∷ checks) a = cond k.applies (Err k.refusal) (judged checks a)
 
 abbrev pub decide : {A : Type 0} → Ruling A → Decision A
 decide r = judged r.checks r.otherwise

@@ -1,7 +1,6 @@
 -- Defines the replies to a RREQ. The point takes the destinations in order. Each destination may bring a reply, and is kept or
 -- struck out. PROTOCOL, 'Replies'.
-use Rattle.std.specs.Prelude.{ℕ, Bool, not, ◌&&◌, ◌||◌, cond, List, [], ◌∷◌, ◌++◌, eqb}
-use Rattle.std.proofs.Math.Option.{Option, none, some}
+use Rattle.std.specs.Prelude.{ℕ, Bool, not, ◌&&◌, ◌||◌, cond, List, [], ◌∷◌, ◌++◌, eqb, Option, None, Some}
 use Rattle.counters.specs.declared.SequenceNumber.{SequenceNumber}
 use Rattle.counters.specs.declared.Metric.{Metric}
 use Rattle.counters.specs.declared.HopCount.{HopCount}
@@ -95,8 +94,8 @@ module _ (t : List ℕ) (a : Arrival) (p : PathInfo) where
 
   -- Another destination: the point sends an intermediate reply if `answers_for` holds, otherwise it does nothing.
   unfoldable pub for_another : SequenceNumber → Target → Option Row → Answered
-  for_another n q none = kept_on n q
-  for_another n q (some r) =
+  for_another n q None = kept_on n q
+  for_another n q (Some r) =
       cond (answers_for a.clock q r)
       (record { number = n; replies = row_reply a p r ∷ []; kept = kept_after_reply q })
       (kept_on n q)

@@ -1,8 +1,7 @@
 -- Defines, for a received RERR and for a break, which rows the point invalidates, what becomes of them, and the RERRs that name
 -- them. PROTOCOL, 'Errors and breaks'.
-use Rattle.std.specs.Prelude.{ℕ, ◌+◌, ◌-◌, ◌*◌, ◌/◌, Bool, ◌&&◌, cond, eqb, length, take, drop}
+use Rattle.std.specs.Prelude.{ℕ, ◌+◌, ◌-◌, ◌*◌, ◌/◌, Bool, ◌&&◌, cond, eqb, length, take, drop, Option, None, Some, is_some}
 use mathlib.Core.List.{List, [], ◌∷◌, flat_map}
-use Rattle.std.proofs.Math.Option.{Option, none, some}
 use Rattle.counters.specs.declared.SequenceNumber.{SequenceNumber}
 use Rattle.counters.specs.Numbers.{next_number, newer}
 use Rattle.layout.specs.declared.address.Address.{Address}
@@ -18,7 +17,7 @@ use Rattle.element.specs.Element.{rerr}
 use Rattle.element.specs.Layout.{most}
 use Rattle.element.specs.Entries.{each}
 use Rattle.element.specs.Lists.{all_ones}
-use Rattle.rules.specs.Lists.{is_some_and, is_some}
+use Rattle.rules.specs.Lists.{is_some_and}
 use Rattle.rules.specs.Exit.{Frame}
 
 -- ---- a received RERR
@@ -33,8 +32,8 @@ matches t c transmitter m = is_some_and (is_lost_by c transmitter) (row_for t m.
 
 -- Returns the number next to the destination d in the list of a RERR, or none if the list does not name d.
 unfoldable pub number_beside : Address → List LostDestination → Option SequenceNumber
-number_beside d [] = none
-number_beside d (m ∷ named) = cond (same m.address d) (some m.number) (number_beside d named)
+number_beside d [] = None
+number_beside d (m ∷ named) = cond (same m.address d) (Some m.number) (number_beside d named)
 
 -- Reports whether a row is the row of a match: `is_lost_by` holds for it, and the RERR names its destination.
 unfoldable pub is_match : ℕ → Address → List LostDestination → Row → Bool
@@ -43,8 +42,8 @@ is_match c transmitter named r = is_lost_by c transmitter r && is_some (number_b
 -- The point invalidates the row of a match. If the number in the RERR is newer than the row's number, the row takes the newer
 -- number and metric 4,294,967,295.
 unfoldable pub erred_with : Option SequenceNumber → Row → Row
-erred_with none r = r
-erred_with (some n) r = cond (newer n r.number) (raised n (invalidated r)) (invalidated r)
+erred_with None r = r
+erred_with (Some n) r = cond (newer n r.number) (raised n (invalidated r)) (invalidated r)
 
 -- Returns the row of a match after a RERR that names these destinations.
 unfoldable pub erred : List LostDestination → Row → Row

@@ -1,6 +1,7 @@
 -- Defines effects and exits: what an accepted call leaves and emits, and what the caller finds when any call has ended. PROTOCOL,
 -- 'Frames and answers'.
-use Rattle.std.specs.Prelude.{ℕ, zero, suc, ◌+◌, length, get_or, take, drop}
+use Rattle.refusals.specs.Numbers.{number_of}
+use Rattle.std.specs.Prelude.{ℕ, zero, suc, ◌+◌, length, get_or, take, drop, Err, Ok}
 use mathlib.Core.List.{List, [], ◌∷◌, flat_map}
 use Rattle.octets.specs.LittleEndian.{overwrite}
 use Rattle.counters.specs.declared.SequenceNumber.{SequenceNumber}
@@ -11,7 +12,7 @@ use Rattle.layout.specs.Layout.{head_at, put_head}
 use Rattle.table.specs.Table.{request_id}
 use Rattle.element.specs.Element.{Element}
 use Rattle.element.specs.Octets.{read_element, write_frame}
-use Rattle.rules.specs.Decision.{Decision, refused, accepted}
+use Rattle.rules.specs.Decision.{Decision}
 
 -- The fewest octets that an output may have (refusal 2). They hold the frames of any call.
 abbrev pub least_output : ℕ
@@ -65,8 +66,8 @@ pub record Exit : Type 0 where
 -- An acceptance answers 0, reports frames and octets written, and writes its frames from the start of the output. Output beyond
 -- the frames is unchanged. A refusal answers its number, returns zeros in all other fields, and changes nothing lent.
 unfoldable pub at_exit : Lent → List ℕ → Decision Effect → Exit
-at_exit l output (refused n) = record { answer = n; frames = 0; octets = 0; lent = l; output = output }
-at_exit l output (accepted e) =
+at_exit l output (Err r) = record { answer = number_of r; frames = 0; octets = 0; lent = l; output = output }
+at_exit l output (Ok e) =
     record {
       answer = 0;
       frames = length e.frames;
@@ -103,5 +104,5 @@ pub record TableExit : Type 0 where
 
 -- An acceptance answers 0. A refusal answers its number and leaves the table t unchanged.
 abbrev pub table_at_exit : List ℕ → Decision (List ℕ) → TableExit
-table_at_exit t (refused n) = record { answer = n; table = t }
-table_at_exit t (accepted u) = record { answer = 0; table = u }
+table_at_exit t (Err r) = record { answer = number_of r; table = t }
+table_at_exit t (Ok u) = record { answer = 0; table = u }

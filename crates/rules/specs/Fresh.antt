@@ -1,4 +1,5 @@
 -- Defines the call that makes a fresh table. PROTOCOL, 'Fresh, next hop, forget'.
+use Rattle.refusals.specs.declared.Refusal.TheVariants.{TableLength, BadAddress}
 use Rattle.std.specs.Prelude.{ℕ, not, List, length}
 use Rattle.counters.specs.declared.SequenceNumber.{SequenceNumber}
 use Rattle.layout.specs.declared.address.Address.{Address}
@@ -10,8 +11,8 @@ use Rattle.rules.specs.Decision.{Decision, Ruling, decide, refuse◌when◌, acc
 -- Overwrites the octets t with a fresh table that has this own address and own number, whatever the octets were.
 abbrev pub making_fresh : List ℕ → Address → SequenceNumber → Ruling (List ℕ)
 making_fresh t own number = do
-  refuse 1 when not (sized t)
-  refuse 9 when not (individual own)
+  refuse TableLength when not (sized t)
+  refuse BadAddress when not (individual own)
   accept (fresh (length t) own number)
 
 unfoldable pub make_fresh : List ℕ → Address → SequenceNumber → Decision (List ℕ)

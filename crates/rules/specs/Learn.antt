@@ -1,7 +1,6 @@
 -- Defines steps 1 and 2. From a RANN, RREQ or RREP a point learns a path to the subject and a path to the transmitter. The
 -- subject is the originator of a RANN or a RREQ, the destination of a RREP. PROTOCOL, 'Learning'.
-use Rattle.std.specs.Prelude.{ℕ, ◌+◌, ◌-◌, ◌^◌, ◌<◌, ◌≤◌, Bool, true, ◌&&◌, ◌||◌, cond, List, eqb, leb, ltb}
-use Rattle.std.proofs.Math.Option.{Option, none, some}
+use Rattle.std.specs.Prelude.{ℕ, ◌+◌, ◌-◌, ◌^◌, ◌<◌, ◌≤◌, Bool, true, ◌&&◌, ◌||◌, cond, List, eqb, leb, ltb, Option, None, Some}
 use Rattle.counters.specs.declared.Metric.{Metric}
 use Rattle.counters.specs.declared.HopCount.{HopCount}
 use Rattle.layout.specs.declared.address.Address.{Address}
@@ -50,8 +49,8 @@ new_row d =
 
 -- Returns the row that a step makes or changes: the row held for the destination, or a new row if none is held.
 abbrev pub row_or_new : Address → Option Row → Row
-row_or_new d (some r) = r
-row_or_new d none = new_row d
+row_or_new d (Some r) = r
+row_or_new d None = new_row d
 
 -- The expiry is clock + lifetime, or the stored expiry if the row was active before this step and its stored expiry is larger.
 unfoldable pub expiry_of : ℕ → ℕ → Row → ℕ
@@ -77,8 +76,8 @@ row_takes_link a r =
 
 -- Reports whether step 2 makes or changes the transmitter's row. An absent row is always made.
 unfoldable pub takes_link : Arrival → Option Row → Bool
-takes_link a none = true
-takes_link a (some r) = row_takes_link a r
+takes_link a None = true
+takes_link a (Some r) = row_takes_link a r
 
 -- Returns the table t after step 1.
 unfoldable pub subject_learnt : Arrival → PathInfo → List ℕ → List ℕ

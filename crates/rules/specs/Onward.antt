@@ -1,6 +1,5 @@
 -- Defines which elements the point forwards, and to whom. PROTOCOL, 'Forwarding'.
-use Rattle.std.specs.Prelude.{ℕ, ◌-◌, cond, List, [], ◌∷◌, ltb}
-use Rattle.std.proofs.Math.Option.{Option, none, some}
+use Rattle.std.specs.Prelude.{ℕ, ◌-◌, cond, List, [], ◌∷◌, ltb, Option, None, Some}
 use Rattle.layout.specs.declared.address.Address.{Address}
 use Rattle.layout.specs.declared.row.Row.{Row}
 use Rattle.layout.specs.Address.{same}
@@ -32,11 +31,11 @@ onward a p =
 
 -- Returns the frame that sends the element to the receiver, or no frame if there is no receiver.
 abbrev pub sent_to : Element → Option Address → List Frame
-sent_to e none = []
-sent_to e (some to) = record { receiver = to; element = e } ∷ []
+sent_to e None = []
+sent_to e (Some to) = record { receiver = to; element = e } ∷ []
 
 abbrev pub to_all : Element → List Frame
-to_all e = sent_to e (some all_ones)
+to_all e = sent_to e (Some all_ones)
 
 -- Returns the frame to the next hop of the row if the row is there and active, otherwise no frame.
 abbrev pub towards : ℕ → Element → Option Row → List Frame

@@ -6,8 +6,10 @@
 --   originating                                   the ruling that announce and root request share
 --   announcing, announce                          announce: the ruling and the decision
 --   requesting_as_root, root_request              root request: the ruling and the decision
-use Rattle.std.specs.Prelude.{ℕ, ◌%◌, Bool, true, false, not, ◌&&◌, ◌||◌, cond, List, [], ◌∷◌, map, eqb, leb, length}
-use Rattle.std.proofs.Math.Option.{Option, none, some}
+use Rattle.rules.specs.Lists.{any}
+use Rattle.refusals.specs.declared.Refusal.TheVariants.{BadCount, BadAddress, BadList, NoLifetime, NotATable, AboutItself}
+use Rattle.std.specs.Prelude.{ℕ, ◌%◌, Bool, true, false, not, ◌&&◌, ◌||◌, cond, List, [], ◌∷◌, map, eqb, leb, length, Option}
+use Rattle.std.specs.Prelude.{None, Some}
 use Rattle.counters.specs.declared.SequenceNumber.{SequenceNumber}
 use Rattle.counters.specs.declared.own.OwnCounters.{OwnCounters}
 use Rattle.counters.specs.Numbering.{advanced_for}
@@ -27,7 +29,6 @@ use Rattle.element.specs.Flags.{with_unknown}
 use Rattle.element.specs.Lists.{addresses_in, all_ones, any_forbidden, contains, has_duplicate}
 use Rattle.rules.specs.Decision.{Decision, Check, Ruling, decide, refuse◌when◌, ◌then◌, ◌above◌, accept, ◌>>◌}
 use Rattle.rules.specs.Checks.{buffer_checks}
-use Rattle.rules.specs.Lists.{any}
 use Rattle.rules.specs.Exit.{Lent, with_table, Effect, initial_ttl}
 use Rattle.rules.specs.Onward.{to_all}
 
@@ -88,8 +89,8 @@ without_known i = record { flags = with_unknown i.flags; address = i.address; nu
 
 -- A destination's number is that of the held row if the row is there and its number is known. Otherwise the number is not known.
 unfoldable pub asked_by : Item → Option Row → Target
-asked_by i none = without_known i
-asked_by i (some r) = cond (eqb r.known 1) (with_known i r.number) (without_known i)
+asked_by i None = without_known i
+asked_by i (Some r) = cond (eqb r.known 1) (with_known i r.number) (without_known i)
 
 -- Returns the destination of the RREQ for an item, by the row that the table t holds for its address.
 unfoldable pub asked_for : List ℕ → Item → Target
@@ -98,9 +99,9 @@ asked_for t i = asked_by i (row_for t i.address)
 -- Refusals 8 to 10, for the items of an ask.
 unfoldable pub item_checks : List ℕ → List Check
 item_checks items =
-    refuse 8 when not (items_fit items)
-    then refuse 9 when any_forbidden Items (addresses_in Items items)
-    then refuse 10 when has_duplicate (addresses_in Items items) || any has_high_flags (items_in items)
+    refuse BadCount when not (items_fit items)
+    then refuse BadAddress when any_forbidden Items (addresses_in Items items)
+    then refuse BadList when has_duplicate (addresses_in Items items) || any has_high_flags (items_in items)
 
 unfoldable pub asking : Lent → ℕ → ℕ → List ℕ → Ruling Effect
 asking l room lifetime items = do
@@ -108,9 +109,9 @@ asking l room lifetime items = do
   buffer_checks l.table room
   -- 8 to 10
   item_checks items
-  refuse 11 when eqb lifetime 0
-  refuse 21 when not (is_table l.table)
-  refuse 24 when contains (addresses_in Items items) (own l.table)
+  refuse NoLifetime when eqb lifetime 0
+  refuse NotATable when not (is_table l.table)
+  refuse AboutItself when contains (addresses_in Items items) (own l.table)
   accept (requested l 0 lifetime (map (asked_for l.table) (items_in items)))
 
 unfoldable pub ask : Lent → ℕ → ℕ → List ℕ → Decision Effect
@@ -123,9 +124,9 @@ abbrev pub originating : {A : Type 0} → List ℕ → ℕ → (barred : Bool) �
 originating t room barred lifetime a = do
   -- 1 and 2
   buffer_checks t room
-  refuse 10 when barred
-  refuse 11 when eqb lifetime 0
-  refuse 21 when not (is_table t)
+  refuse BadList when barred
+  refuse NoLifetime when eqb lifetime 0
+  refuse NotATable when not (is_table t)
   accept a
 
 -- 10. For announce, the flags are not 0 or 1.

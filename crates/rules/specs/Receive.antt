@@ -6,8 +6,11 @@
 --   rerr_received, received                                 and of any type
 --   judging, reading_octets, receiving                      the rulings for an element, for its octets and for the whole call
 --   receive                                                 the decision
-use Rattle.std.specs.Prelude.{ℕ, ◌+◌, Bool, false, not, ◌&&◌, ◌||◌, cond, List, ◌++◌, map, eqb, leb, ltb, length}
-use Rattle.std.proofs.Math.Option.{Option, none, some}
+use Rattle.refusals.specs.declared.Refusal.TheVariants.{NoLink, ElementLength, UnknownId, BadCount, BadAddress, BadList}
+use Rattle.refusals.specs.declared.Refusal.TheVariants.{NoLifetime, TooManyHops, MetricTooLarge, LowTtl, AboutItself, Stale}
+use Rattle.refusals.specs.declared.Refusal.TheVariants.{NoMatch, NoRoom}
+use Rattle.std.specs.Prelude.{ℕ, ◌+◌, Bool, false, not, ◌&&◌, ◌||◌, cond, List, ◌++◌, map, eqb, leb, ltb, length, Option}
+use Rattle.std.specs.Prelude.{None, Some}
 use Rattle.counters.specs.Numbers.{older}
 use Rattle.layout.specs.declared.address.Address.{Address}
 use Rattle.layout.specs.declared.row.Row.{Row}
@@ -26,7 +29,7 @@ use Rattle.element.specs.Octets.{wrong_length, other_id, misfit, read_element}
 use Rattle.element.specs.Lists.{all_ones, any_forbidden, contains, has_duplicate, ones_beside_others}
 use Rattle.rules.specs.Decision.{Decision, Check, Ruling, decide, refuse◌when◌, ◌then◌, ◌above◌, accept, ◌>>◌}
 use Rattle.rules.specs.Checks.{operand_checks, state_checks}
-use Rattle.rules.specs.Lists.{any, filter, is_some_and}
+use Rattle.rules.specs.Lists.{is_some_and, any, filter}
 use Rattle.element.specs.Flags.{unicast, number_unknown}
 use Rattle.rules.specs.Exit.{Lent, with_table, Effect, under_head}
 use Rattle.rules.specs.declared.Arrival.{Arrival}
@@ -39,10 +42,10 @@ use Rattle.rules.specs.Errors.{matches, is_match, erred}
 
 -- A RERR has no path, so the checks of a path are skipped for it.
 abbrev pub path_of : Element → Option PathInfo
-path_of (rann p) = some p
-path_of (rreq f targets) = some f.path
-path_of (rrep f dependents) = some f.path
-path_of (rerr f destinations) = none
+path_of (rann p) = Some p
+path_of (rreq f targets) = Some f.path
+path_of (rrep f dependents) = Some f.path
+path_of (rerr f destinations) = None
 
 -- ---- refusals by the input
 
@@ -51,14 +54,14 @@ unfoldable pub arrival_checks : List ℕ → ℕ → Arrival → List Check
 arrival_checks t room a =
     -- 1 to 4
     operand_checks t room a.clock a.transmitter
-    then refuse 5 when eqb a.link.0 0
+    then refuse NoLink when eqb a.link.0 0
 
 -- Refusals 6 to 8, for the octets of an element.
 unfoldable pub octet_checks : List ℕ → List Check
 octet_checks octets =
-    refuse 6 when wrong_length octets
-    then refuse 7 when other_id octets
-    then refuse 8 when misfit octets
+    refuse ElementLength when wrong_length octets
+    then refuse UnknownId when other_id octets
+    then refuse BadCount when misfit octets
 
 abbrev pub target_addresses : List Target → List Address
 target_addresses targets = map (λ (q : Target). q.address) targets
@@ -106,12 +109,12 @@ is_low_ttl_reply (rerr f destinations) = false
 -- 4,294,967,294.
 unfoldable pub field_checks : (bad_address bad_list low_ttl : Bool) → Arrival → Option PathInfo → List Check
 field_checks bad_address bad_list low_ttl a path =
-    refuse 9 when bad_address
-    then refuse 10 when bad_list
-    then refuse 11 when is_some_and (λ p. eqb p.lifetime 0) path
-    then refuse 12 when is_some_and (λ p. eqb p.hops.0 max_hops) path
-    then refuse 13 when is_some_and (λ p. (metric_here a p).0 above max_metric) path
-    then refuse 14 when low_ttl
+    refuse BadAddress when bad_address
+    then refuse BadList when bad_list
+    then refuse NoLifetime when is_some_and (λ p. eqb p.lifetime 0) path
+    then refuse TooManyHops when is_some_and (λ p. eqb p.hops.0 max_hops) path
+    then refuse MetricTooLarge when is_some_and (λ p. (metric_here a p).0 above max_metric) path
+    then refuse LowTtl when low_ttl
 
 -- ---- refusals by the state
 
@@ -143,10 +146,10 @@ rows_needed t a p =
 -- path.
 abbrev pub row_checks : List ℕ → Arrival → (unmatched : Bool) → Option PathInfo → List Check
 row_checks t a unmatched path =
-    refuse 24 when is_some_and (λ p. same p.subject (own t)) path
-    then refuse 25 when is_some_and (is_stale t a) path
-    then refuse 26 when unmatched
-    then refuse 27 when is_some_and (λ p. rows_needed t a p above free_rows t) path
+    refuse AboutItself when is_some_and (λ p. same p.subject (own t)) path
+    then refuse Stale when is_some_and (is_stale t a) path
+    then refuse NoMatch when unmatched
+    then refuse NoRoom when is_some_and (λ p. rows_needed t a p above free_rows t) path
 
 -- ---- the effect of an accepted element: for every type, the clock is stored
 

@@ -5,9 +5,11 @@
 --   leads_to, follow                  where a next hop leads, and the walk from an address on
 --   table_checks, walking, walk       the checks of the tables, the ruling and the decision
 --   walked_at_exit                    the numbers that the call returns
-use Rattle.std.specs.Prelude.{ℕ, zero, suc, ◌+◌, ◌*◌, ◌/◌, ◌%◌, Bool, not, ◌&&◌, ◌||◌, cond}
+use Rattle.refusals.specs.Numbers.{number_of}
+use Rattle.rules.specs.Lists.{any}
+use Rattle.refusals.specs.declared.Refusal.TheVariants.{TableLength, ClockTooLarge, BadAddress, BadList, NotATable, OldClock}
+use Rattle.std.specs.Prelude.{ℕ, zero, suc, ◌+◌, ◌*◌, ◌/◌, ◌%◌, Bool, not, ◌&&◌, ◌||◌, cond, Err, Ok, Option, None, Some}
 use Rattle.std.specs.Prelude.{List, [], ◌∷◌, map, eqb, leb, length, take, drop}
-use Rattle.std.proofs.Math.Option.{Option, none, some}
 use Rattle.layout.specs.Row.{max_clock}
 use Rattle.layout.specs.declared.address.Address.{Address}
 use Rattle.layout.specs.declared.row.Row.{Row}
@@ -16,21 +18,7 @@ use Rattle.layout.specs.Layout.{sized}
 use Rattle.table.specs.Table.{clock, is_table, row_for, active_next}
 use Rattle.element.specs.Entries.{each}
 use Rattle.element.specs.Lists.{contains, has_duplicate}
-use Rattle.rules.specs.Decision.{
-  Decision,
-  refused,
-  accepted,
-  Check,
-  Ruling,
-  decide,
-  refuse◌when◌,
-  ◌then◌,
-  ◌above◌,
-  ◌below◌,
-  accept,
-  ◌>>◌,
-}
-use Rattle.rules.specs.Lists.{any}
+use Rattle.rules.specs.Decision.{Decision, Check, Ruling, decide, refuse◌when◌, ◌then◌, ◌above◌, ◌below◌, accept, ◌>>◌}
 
 -- ---- 1 to 16 tables of one length, side by side
 
@@ -78,20 +66,20 @@ too_long hops = record { answer = 42; hops = hops }
 -- Returns the row that the point with this address holds for the destination. Returns none if the address is no point's, or the
 -- point has no row.
 unfoldable pub row_of_point : List (List ℕ) → Address → Address → Option Row
-row_of_point [] address destination = none
+row_of_point [] address destination = None
 row_of_point (t ∷ tables) address destination =
     cond (same (address_of t) address) (row_for t destination) (row_of_point tables address destination)
 
 module _ (tables : List (List ℕ)) (c : ℕ) (destination : Address) where
   -- Returns the next hop of an active row if it is the destination or a point, otherwise none.
   unfoldable pub leads_to : Option Address → Option Address
-  leads_to none = none
-  leads_to (some next) = cond (same next destination || contains (points tables) next) (some next) none
+  leads_to None = None
+  leads_to (Some next) = cond (same next destination || contains (points tables) next) (Some next) None
 
   -- Walks on from the next hop and counts it. Without a next hop the walk stops with 41, and counts no further hop.
   abbrev pub go_on : Option Address → (hops : ℕ) → (Address → ℕ → Walked) → Walked
-  go_on none hops further = stopped hops
-  go_on (some next) hops further = further next (hops + 1)
+  go_on None hops further = stopped hops
+  go_on (Some next) hops further = further next (hops + 1)
 
   -- Walks on from the address `at` after `hops` hops. After `remaining` more hops the walk has as many hops as there are points.
   unfoldable pub follow : (remaining : ℕ) → Address → (hops : ℕ) → Walked
@@ -102,23 +90,23 @@ module _ (tables : List (List ℕ)) (c : ℕ) (destination : Address) where
 
 -- A refusal answers its number and returns 0 hops.
 abbrev pub walked_at_exit : Decision Walked → Walked
-walked_at_exit (refused n) = record { answer = n; hops = 0 }
-walked_at_exit (accepted w) = w
+walked_at_exit (Err r) = record { answer = number_of r; hops = 0 }
+walked_at_exit (Ok w) = w
 
 -- ---- the call
 
 -- Refusals 21 and 22: the octets of any table are not a table; the clock c is below the latest clock of any table.
 abbrev pub table_checks : List (List ℕ) → ℕ → List Check
 table_checks tables c =
-    refuse 21 when any (λ (t : List ℕ). not (is_table t)) tables
-    then refuse 22 when any (has_later_clock c) tables
+    refuse NotATable when any (λ (t : List ℕ). not (is_table t)) tables
+    then refuse OldClock when any (has_later_clock c) tables
 
 abbrev pub walking : List ℕ → ℕ → ℕ → Address → Address → Ruling Walked
 walking octets count c start destination = do
-  refuse 1 when not (side_by_side octets count)
-  refuse 3 when c above max_clock
-  refuse 9 when not (individual destination)
-  refuse 10 when not (contains (points (tables_in octets count)) start) || has_duplicate (points (tables_in octets count))
+  refuse TableLength when not (side_by_side octets count)
+  refuse ClockTooLarge when c above max_clock
+  refuse BadAddress when not (individual destination)
+  refuse BadList when not (contains (points (tables_in octets count)) start) || has_duplicate (points (tables_in octets count))
   -- 21 and 22
   table_checks (tables_in octets count) c
   accept (follow (tables_in octets count) c destination count start 0)

@@ -1,24 +1,25 @@
 -- Laws of the definitions in `specs/`, case by case, as the proof of a `return` needs them: `search` applies each case to the
 -- results of the calls before the `return`.
+use Rattle.std.specs.Prelude.{Some, None, Option}
 use Prim.Native.Nat.{ℕ, ◌+◌, ◌-◌, ◌%◌, ◌≤◌}
 use lib.Dec.{eqb, leb}
 use lib.ListN.{length}
 use mathlib.Core.Path.{◌≡◌, refl, sym, ap, ◌∙◌}
 use native.Mathlib.Omega.{arith}
-use borrow.Author.Tests.{leb-true, eqb-true, eq-eqb, ne_eqb, not-true, not-false}
+use borrow.Author.Tests.{leb-true, eqb-true, not-true, not-false}
 use mathlib.Core.Bool.{Bool, true, false, ◌&&◌, ◌||◌, not, and_comm, and-true, and-false}
 use mathlib.Core.List.{List}
-use mathlib.Core.Option.{none, some}
 use Rattle.octets.proofs.Tests.{both}
 use Rattle.layout.specs.declared.address.Address.{Address}
 use Rattle.layout.specs.declared.row.Head.{Head}
 use Rattle.layout.specs.declared.row.Row.{Row}
-use Rattle.table.specs.declared.search.Found.{Found}
+use Rattle.layout.specs.Address.{same}
 use Rattle.layout.specs.Row.{head_ok, is_free, status_ok, is_held, row_ok, active}
 use Rattle.layout.specs.Layout.{head_octets, row_octets, most_rows, place, sized, Sized, rows, all_zero, row_at, head_at, put_row}
-use Rattle.table.specs.declared.search.Found.TheVariants.{At, Nothing}
 use Rattle.table.proofs.Places.{first_below}
-use Rattle.table.specs.Places.{first, every, is_nothing, or_else}
+use Rattle.std.specs.Option.{option_or}
+use Rattle.std.specs.Prelude.{is_none}
+use Rattle.table.specs.Places.{first, every}
 use Rattle.table.specs.Table.{vacant, holds, find_row, row_for, active_next, first_free, put_at, place_for, store, alone, passes, is_table}
 
 -- If a equals d whenever b holds, the conjunction may have d at its end in place of a.
@@ -52,56 +53,56 @@ module _ (t : List ℕ) where
       and_moved (eqb (n % row_octets) 0) (leb (place 1) n) (leb n (place most_rows)) (eqb ((n - head_octets) % row_octets) 0) same_rest
 
   -- A row that is found lies inside the table.
-  within : (p : ℕ → Bool) (i : ℕ) → first p (rows t) ≡ At i → Sized t → place i + row_octets ≤ length t
+  within : (p : ℕ → Bool) (i : ℕ) → first p (rows t) ≡ Some i → Sized t → place i + row_octets ≤ length t
   within p i e h = let l = first_below p (rows t) i e in omega arith
 
-  pub found_within : (d : Address) (f : Found) (i : ℕ) → f ≡ find_row t d → f ≡ At i → Sized t → place i + row_octets ≤ length t
+  pub found_within : (d : Address) (f : Option ℕ) (i : ℕ) → f ≡ find_row t d → f ≡ Some i → Sized t → place i + row_octets ≤ length t
   unfolding find_row
   found_within d f i e at_i h = within (holds t d) i (sym e ∙ at_i) h
 
   -- The row of a destination, by the place where it was found.
-  pub row_at_lem : (d : Address) (f : Found) → f ≡ find_row t d → (i : ℕ) → f ≡ At i → (r : Row) → r ≡ row_at t i → row_for t d ≡ some r
+  pub row_at_lem : (d : Address) (f : Option ℕ) → f ≡ find_row t d → (i : ℕ) → f ≡ Some i → (r : Row) → r ≡ row_at t i → row_for t d ≡ Some r
   unfolding row_for
   row_at_lem d f fe i at_i r re = rw (← fe, at_i, re)
 
-  pub row_none : (d : Address) (f : Found) → f ≡ find_row t d → f ≡ Nothing → row_for t d ≡ none
+  pub row_none : (d : Address) (f : Option ℕ) → f ≡ find_row t d → f ≡ None → row_for t d ≡ None
   unfolding row_for
   row_none d f fe no_row = rw (← fe, no_row)
 
   -- The active next hop of a destination, by cases.
-  module _ (c : ℕ) (d : Address) (f : Found) (fe : f ≡ find_row t d) where
-    pub next_absent : f ≡ Nothing → none ≡ active_next c (row_for t d)
+  module _ (c : ℕ) (d : Address) (f : Option ℕ) (fe : f ≡ find_row t d) where
+    pub next_absent : f ≡ None → None ≡ active_next c (row_for t d)
     unfolding active_next
     next_absent no_row = rw (row_none d f fe no_row)
 
-    module _ (i : ℕ) (at_i : f ≡ At i) (r : Row) (re : r ≡ row_at t i) (a : Bool) (ae : a ≡ active c r) where
-      pub next_inactive : not a ≡ true → none ≡ active_next c (row_for t d)
+    module _ (i : ℕ) (at_i : f ≡ Some i) (r : Row) (re : r ≡ row_at t i) (a : Bool) (ae : a ≡ active c r) where
+      pub next_inactive : not a ≡ true → None ≡ active_next c (row_for t d)
       unfolding active_next
       next_inactive no_a = rw (row_at_lem d f fe i at_i r re, ← ae, not-true a no_a)
 
-      pub next_active : not a ≡ false → some r.next ≡ active_next c (row_for t d)
+      pub next_active : not a ≡ false → Some r.next ≡ active_next c (row_for t d)
       unfolding active_next
       next_active yes_a = rw (row_at_lem d f fe i at_i r re, ← ae, not-false a yes_a)
 
-  module _ (d : Address) (f : Found) (fe : f ≡ find_row t d) (g : Found) (ge : g ≡ or_else f (first_free t)) where
+  module _ (d : Address) (f : Option ℕ) (fe : f ≡ find_row t d) (g : Option ℕ) (ge : g ≡ option_or f (first_free t)) where
     place_is : g ≡ place_for t d
     unfolding place_for
-    place_is = ge ∙ ap (λ (k : Found). or_else k (first_free t)) fe
+    place_is = ge ∙ ap (λ (k : Option ℕ). option_or k (first_free t)) fe
 
-    pub place_within : (i : ℕ) → g ≡ At i → Sized t → place i + row_octets ≤ length t
+    pub place_within : (i : ℕ) → g ≡ Some i → Sized t → place i + row_octets ≤ length t
     unfolding first_free
     place_within i at_i h = by f fe (sym ge ∙ at_i)
       where
-        by : (k : Found) → k ≡ find_row t d → or_else k (first_free t) ≡ At i → place i + row_octets ≤ length t
-        by (At j) ke e = found_within d (At j) i ke e h
-        by Nothing ke e = within (vacant t) i e h
+        by : (k : Option ℕ) → k ≡ find_row t d → option_or k (first_free t) ≡ Some i → place i + row_octets ≤ length t
+        by (Some j) ke e = found_within d (Some j) i ke e h
+        by None ke e = within (vacant t) i e h
 
-  module _ (r : Row) (f : Found) (fe : f ≡ find_row t r.destination) (g : Found) (ge : g ≡ or_else f (first_free t)) where
-    pub stored_row : (i : ℕ) → g ≡ At i → (u : List ℕ) → u ≡ put_row t i r → u ≡ store t r
+  module _ (r : Row) (f : Option ℕ) (fe : f ≡ find_row t r.destination) (g : Option ℕ) (ge : g ≡ option_or f (first_free t)) where
+    pub stored_row : (i : ℕ) → g ≡ Some i → (u : List ℕ) → u ≡ put_row t i r → u ≡ store t r
     unfolding store
     stored_row i at_i u ue = ue ∙ ap (put_at t r) (sym at_i ∙ place_is r.destination f fe g ge)
 
-    pub stored_none : g ≡ Nothing → t ≡ store t r
+    pub stored_none : g ≡ None → t ≡ store t r
     unfolding store
     stored_none no_place = ap (put_at t r) (sym no_place ∙ place_is r.destination f fe g ge)
 
@@ -109,8 +110,8 @@ module _ (t : List ℕ) where
   unfolding alone
   alone_free i b e yes_b = cc
 
-  pub alone_held : (i : ℕ) (b r : Bool) (d : Address) (f : Found) → b ≡ vacant t i → b ≡ false → d ≡ (row_at t i).destination
-      → f ≡ first (holds t d) i → r ≡ is_nothing f → r ≡ alone t i
+  pub alone_held : (i : ℕ) (b r : Bool) (d : Address) (f : Option ℕ) → b ≡ vacant t i → b ≡ false → d ≡ (row_at t i).destination
+      → f ≡ first (holds t d) i → r ≡ is_none f → r ≡ alone t i
   unfolding alone
   alone_held i b r d f e no_b de fe re = cc
 
@@ -126,25 +127,14 @@ module _ (t : List ℕ) where
 
   -- Whether row i is held for d, by cases.
   module _ (d e : Address) (i : ℕ) (ee : e ≡ (row_at t i).destination) where
-    pub holds_not : (e.0 ≡ d.0 → ⊥) → false ≡ holds t d i
-    unfolding holds
-    holds_not n = rw (← ee, ne_eqb e.0 d.0 n)
+    module _ (c : Bool) (ce : c ≡ same e d) where
+      pub holds_not : c ≡ false → c ≡ holds t d i
+      unfolding holds
+      holds_not n = n ∙ rw (← ee, ← ce, n)
 
-    pub holds_if : (b : Bool) → e.0 ≡ d.0 → b ≡ vacant t i → not b ≡ holds t d i
-    unfolding holds
-    holds_if b q be = rw (← ee, eq-eqb e.0 d.0 q, ← be)
-
-  -- Whether row i passes, by cases of its mark m.
-  module _ (own : Address) (i m : ℕ) (a : Bool) (ae : a ≡ row_ok own (row_at t i)) where
-    pub row_bad : a ≡ false → false ≡ (row_ok own (row_at t i) && (eqb m 0 || alone t i))
-    row_bad no_a = cc
-
-    module _ (yes_a : a ≡ true) where
-      pub row_unmarked : m ≡ 0 → true ≡ (row_ok own (row_at t i) && (eqb m 0 || alone t i))
-      row_unmarked z = cc (eq-eqb m 0 z)
-
-      pub row_marked : (m ≡ 0 → ⊥) → (b : Bool) → b ≡ alone t i → b ≡ (row_ok own (row_at t i) && (eqb m 0 || alone t i))
-      row_marked n b be = cc (ne_eqb m 0 n)
+      pub holds_if : c ≡ true → (b : Bool) → b ≡ vacant t i → not b ≡ holds t d i
+      unfolding holds
+      holds_if y b be = rw (← ee, ← ce, y, ← be)
 
 -- Whether row i is legal, by cases: free or held.
 module _ (t : List ℕ) (own : Address) (i : ℕ) (a b : Bool) (ae : a ≡ vacant t i) where

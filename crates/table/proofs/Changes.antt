@@ -1,21 +1,20 @@
 -- Laws of a table after each row that passes a test is changed. Each destination keeps its row, changed or as it was.
+use Rattle.std.specs.Prelude.{Some, None, Option, option_map}
 use Prim.Native.Nat.{ℕ, zero, suc, ◌+◌, ◌<◌, ◌≤◌}
 use mathlib.Core.Path.{◌≡◌, refl, sym, ap, ◌∙◌}
 use mathlib.Core.Bool.{Bool, true, false, cond, or-true}
 use mathlib.Core.List.{List}
-use mathlib.Core.Option.{some, map}
 use mathlib.Core.Logic.{⊎_elim}
 use lib.ListN.{length}
 use lib.Dec.{eqb}
 use native.Mathlib.Nat.{eq-or-lt_of_le, le_of_suc-le-suc, not-suc-le-zero}
 use native.Mathlib.Numerals.{add-one}
 use native.Mathlib.Omega.{arith}
+use Rattle.octets.proofs.Tests.{clash}
 use Rattle.octets.specs.LittleEndian.{Octets}
 use Rattle.layout.specs.declared.address.Address.{Address}
 use Rattle.layout.specs.declared.row.Head.{Head}
 use Rattle.layout.specs.declared.row.Row.{Row}
-use Rattle.table.specs.declared.search.Found.{Found}
-use Rattle.table.specs.declared.search.Found.TheVariants.{At, Nothing}
 use Rattle.layout.specs.Row.{is_free, is_held, row_ok}
 use Rattle.layout.specs.Layout.{rows, place, head_at, row_at, put_row}
 use Rattle.table.specs.Table.{own, vacant, holds, find_row, row_in, row_for, free_rows, change_at, change_below, change_where}
@@ -105,6 +104,22 @@ module _ (p : Row → Bool) (f : Row → Row) where
     unfolding change_where
     below_all e = so_far ∙ ap (λ (k : ℕ). change_below p f k t) e
 
+  -- Row i of u, after a step of the code that answers o for it.
+  module _ (u : List ℕ) (i : ℕ) (r : Row) (re : r ≡ row_at u i) (o : Option Row) (oe : o ≡ cond (p r) (Some (f r)) None) where
+    pub step_writes : (s : Row) → o ≡ Some s → (v : List ℕ) → v ≡ put_row u i s → v ≡ change_at p f i u
+    step_writes s at_s v ve = ve ∙ by (p r) (sym oe ∙ at_s) ∙ ap (λ (q : Row). cond (p q) (put_row u i (f q)) u) re
+      where
+        by : (b : Bool) → cond b (Some (f r)) None ≡ Some s → put_row u i s ≡ cond b (put_row u i (f r)) u
+        by true e = let same : f r ≡ s = cc in ap (put_row u i) (sym same)
+        by false e = clash cc
+
+    pub step_leaves : o ≡ None → (v : List ℕ) → v ≡ u → v ≡ change_at p f i u
+    step_leaves no_row v ve = ve ∙ by (p r) (sym oe ∙ no_row) ∙ ap (λ (q : Row). cond (p q) (put_row u i (f q)) u) re
+      where
+        by : (b : Bool) → cond b (Some (f r)) None ≡ None → u ≡ cond b (put_row u i (f r)) u
+        by true e = clash cc
+        by false e = refl
+
   pub change_length : (t : List ℕ) → length (change_where p f t) ≡ length t
   unfolding change_where
   change_length t = below_length (rows t) t
@@ -169,13 +184,13 @@ module _ (p : Row → Bool) (f : Row → Row) where
       change_place d = rw change_length (first_cong (holds (change_where p f t) d) (holds t d) (rows t) (change_holds d))
 
       -- Each destination keeps its row, changed or as it was.
-      pub change_found : (d : Address) → row_for (change_where p f t) d ≡ map (changed p f) (row_for t d)
+      pub change_found : (d : Address) → row_for (change_where p f t) d ≡ option_map (changed p f) (row_for t d)
       unfolding row_for
       change_found d = ap (row_in (change_where p f t)) (change_place d) ∙ by (find_row t d) refl
         where
-          by : (g : Found) → find_row t d ≡ g → row_in (change_where p f t) g ≡ map (changed p f) (row_in t g)
-          by Nothing e = refl
-          by (At k) e = ap some (change_at_lem k (found_here t d k e).0)
+          by : (g : Option ℕ) → find_row t d ≡ g → row_in (change_where p f t) g ≡ option_map (changed p f) (row_in t g)
+          by None e = refl
+          by (Some k) e = ap Some (change_at_lem k (found_here t d k e).0)
 
       -- As many rows are free as before.
       pub change_free : free_rows (change_where p f t) ≡ free_rows t

@@ -1,9 +1,9 @@
 -- Laws of a table after its head is put, and of a fresh table.
+use Rattle.std.specs.Prelude.{Some, None, Option}
 use Prim.Native.Nat.{ℕ, ◌+◌, ◌-◌, ◌^◌, ◌<◌, ◌≤◌}
 use mathlib.Core.Path.{◌≡◌, refl, sym, ap, ◌∙◌}
 use mathlib.Core.Bool.{Bool, true, false, and-false}
 use mathlib.Core.List.{List}
-use mathlib.Core.Option.{none}
 use lib.ListN.{length, take, drop, get_or, length-replicate, length-drop, get_or-append}
 use lib.Seq.{length-take-le, get_or-take, get_or-append-add, ext_get_or}
 use lib.Dec.{ltb}
@@ -16,8 +16,6 @@ use Rattle.octets.proofs.Laws.{FitFields, octet_zero, octet_apart, octet_inside,
 use Rattle.counters.specs.declared.SequenceNumber.{SequenceNumber}
 use Rattle.layout.specs.declared.address.Address.{Address}
 use Rattle.layout.specs.declared.row.Head.{Head}
-use Rattle.table.specs.declared.search.Found.{Found}
-use Rattle.table.specs.declared.search.Found.TheVariants.{At, Nothing}
 use Rattle.layout.specs.Address.{individual, same}
 use Rattle.layout.specs.Row.{fresh_head, free_row, head_ok, is_free, row_ok}
 use Rattle.layout.specs.Layout.{rows, all_zero, head_widths, head_numbers, head_at, put_head, row_at, head_octets}
@@ -46,9 +44,9 @@ module _ (t : List ℕ) (h : Head) where
   unfolding row_for
   head_found d = ap (row_in (put_head t h)) (same_place d) ∙ by (find_row t d)
     where
-      by : (f : Found) → row_in (put_head t h) f ≡ row_in t f
-      by Nothing = refl
-      by (At k) = rw row_stays
+      by : (f : Option ℕ) → row_in (put_head t h) f ≡ row_in t f
+      by None = refl
+      by (Some k) = rw row_stays
 
   -- As many rows are free as before.
   pub head_free : free_rows (put_head t h) ≡ free_rows t
@@ -148,7 +146,7 @@ module _ (n : ℕ) (a : Address) (s : SequenceNumber) where
   unfolding holds
   fresh_holds d k = rw (fresh_vacant k) (and-false (same (row_at (fresh n a s) k).destination d))
 
-  pub fresh_none : (d : Address) → row_for (fresh n a s) d ≡ none
+  pub fresh_none : (d : Address) → row_for (fresh n a s) d ≡ None
   unfolding row_for find_row
   fresh_none d = rw (first_nowhere (holds (fresh n a s) d) (rows (fresh n a s)) (λ k l. fresh_holds d k))
 

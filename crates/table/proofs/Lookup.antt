@@ -1,9 +1,9 @@
 -- Laws of the row of a destination and of the free rows, after a row is stored or freed.
+use Rattle.std.specs.Prelude.{Some, None, Option}
 use Prim.Native.Nat.{ℕ, suc, ◌+◌, ◌<◌, ◌≤◌}
 use mathlib.Core.Path.{◌≡◌, refl, sym, ap, ◌∙◌}
 use mathlib.Core.Bool.{Bool, true, false, ◌&&◌, not, cond, and-false, or-true}
 use mathlib.Core.List.{List}
-use mathlib.Core.Option.{none, some}
 use lib.ListN.{length}
 use lib.Dec.{eqb}
 use native.Mathlib.Decide.{ℕ_discrete}
@@ -13,8 +13,6 @@ use Rattle.octets.proofs.Tests.{clash}
 use Rattle.layout.specs.declared.address.Address.{Address}
 use Rattle.layout.specs.declared.row.Head.{Head}
 use Rattle.layout.specs.declared.row.Row.{Row}
-use Rattle.table.specs.declared.search.Found.{Found}
-use Rattle.table.specs.declared.search.Found.TheVariants.{At, Nothing}
 use Rattle.octets.specs.LittleEndian.{Octets}
 use Rattle.layout.specs.Address.{same}
 use Rattle.layout.specs.Row.{free_row, is_free, status_ok, is_held, row_ok}
@@ -28,16 +26,16 @@ use Rattle.table.proofs.WellFormed.{Legal, true_not_false, false_of, same_is, sa
 -- ---- the place that a search found
 
 module _ (t : List ℕ) (d : Address) where
-  pub found_here : (i : ℕ) → find_row t d ≡ At i → (i < rows t) × (holds t d i ≡ true)
+  pub found_here : (i : ℕ) → find_row t d ≡ Some i → (i < rows t) × (holds t d i ≡ true)
   unfolding find_row
   found_here i e = (first_below (holds t d) (rows t) i e, first_true (holds t d) (rows t) i e)
 
-  pub found_nowhere : find_row t d ≡ Nothing → (k : ℕ) → k < rows t → holds t d k ≡ false
+  pub found_nowhere : find_row t d ≡ None → (k : ℕ) → k < rows t → holds t d k ≡ false
   unfolding find_row
   found_nowhere e k l = first_not (holds t d) (rows t) k e l
 
   -- In a table, no row other than the one found is held for d.
-  pub found_only : Legal t → (i : ℕ) → find_row t d ≡ At i → (k : ℕ) → k < rows t → (k ≡ i → ⊥) → holds t d k ≡ false
+  pub found_only : Legal t → (i : ℕ) → find_row t d ≡ Some i → (k : ℕ) → k < rows t → (k ≡ i → ⊥) → holds t d k ≡ false
   found_only legal i e k l n =
       let here = found_here i e in
       false_of (holds t d k) (λ h. n (legal.once d k i l here.0 h here.1))
@@ -47,15 +45,15 @@ pub held_of : (a : Address) (r : Row) → row_ok a r ≡ true → eqb r.status 0
 unfolding row_ok is_free all_zero
 held_of a r ok e = rw e at ok
 
-module _ (t : List ℕ) (d : Address) (r : Row) (e : row_for t d ≡ some r) where
+module _ (t : List ℕ) (d : Address) (r : Row) (e : row_for t d ≡ Some r) where
   -- The place where the row of d stands.
-  row_place : (i : ℕ) × (find_row t d ≡ At i) × (row_at t i ≡ r)
+  row_place : (i : ℕ) × (find_row t d ≡ Some i) × (row_at t i ≡ r)
   unfolding row_for
   row_place = by (find_row t d) refl
     where
-      by : (f : Found) → find_row t d ≡ f → (i : ℕ) × (find_row t d ≡ At i) × (row_at t i ≡ r)
-      by (At i) q = (i, q, cc)
-      by Nothing q = clash cc
+      by : (f : Option ℕ) → find_row t d ≡ f → (i : ℕ) × (find_row t d ≡ Some i) × (row_at t i ≡ r)
+      by (Some i) q = (i, q, cc)
+      by None q = clash cc
 
   -- The row has destination d. In a table it is a legal held row.
   pub row_destination : r.destination ≡ d
@@ -96,7 +94,7 @@ module _ (t : List ℕ) (i : ℕ) (r : Row) (within : place i + row_octets ≤ l
 
   -- If only row i is held for d after the put, the row of d is r.
   put_found : (d : Address) → holds (put_row t i r) d i ≡ true → ((k : ℕ) → k < rows t → (k ≡ i → ⊥) → holds t d k ≡ false)
-      → row_for (put_row t i r) d ≡ some r
+      → row_for (put_row t i r) d ≡ Some r
   unfolding row_for find_row
   put_found d h none-else =
       rw (
@@ -107,7 +105,7 @@ module _ (t : List ℕ) (i : ℕ) (r : Row) (within : place i + row_octets ≤ l
 
   -- If no row is held for d after the put, d has no row.
   put_gone : (d : Address) → holds (put_row t i r) d i ≡ false → ((k : ℕ) → k < rows t → (k ≡ i → ⊥) → holds t d k ≡ false)
-      → row_for (put_row t i r) d ≡ none
+      → row_for (put_row t i r) d ≡ None
   unfolding row_for find_row
   put_gone d h none-else =
       rw (first_nowhere (holds (put_row t i r) d) (rows (put_row t i r)) (λ k l. by k (rw length_row at l) (ℕ_discrete k i)))
@@ -133,9 +131,9 @@ module _ (t : List ℕ) (i : ℕ) (r : Row) (within : place i + row_octets ≤ l
     unfolding row_for
     put_other = ap (row_in (put_row t i r)) same_place ∙ by (find_row t d) refl
       where
-        by : (f : Found) → find_row t d ≡ f → row_in (put_row t i r) f ≡ row_in t f
-        by Nothing e = refl
-        by (At k) e = rw (row_other t i k r (λ q. true_not_false (rw q at (found_here t d k e).1) before))
+        by : (f : Option ℕ) → find_row t d ≡ f → row_in (put_row t i r) f ≡ row_in t f
+        by None e = refl
+        by (Some k) e = rw (row_other t i k r (λ q. true_not_false (rw q at (found_here t d k e).1) before))
 
   -- How many rows are free after the put.
   put_level : vacant t i ≡ eqb r.status 0 → free_rows (put_row t i r) ≡ free_rows t
@@ -196,7 +194,7 @@ module _ (t : List ℕ) (i : ℕ) (r : Row) (within : place i + row_octets ≤ l
 -- The place for a row with destination d, and what stood there.
 record Spot (t : List ℕ) (d : Address) : Type 0 where
   at : ℕ
-  is : place_for t d ≡ At at
+  is : place_for t d ≡ Some at
   below : at < rows t
   -- No other row is held for d, and the row at this place is held for no other destination.
   single : (k : ℕ) → k < rows t → (k ≡ at → ⊥) → holds t d k ≡ false
@@ -216,11 +214,11 @@ held_for_one t d e i hd n =
     (λ he. let q = sym (held_row t d i hd).1 ∙ (held_row t e i he).1 in true_not_false (rw q (same_itself e)) n)
 
 module _ (t : List ℕ) where
-  free_here : (i : ℕ) → first_free t ≡ At i → (i < rows t) × (vacant t i ≡ true)
+  free_here : (i : ℕ) → first_free t ≡ Some i → (i < rows t) × (vacant t i ≡ true)
   unfolding first_free
   free_here i e = (first_below (vacant t) (rows t) i e, first_true (vacant t) (rows t) i e)
 
-  none_free : first_free t ≡ Nothing → free_rows t ≡ 0
+  none_free : first_free t ≡ None → free_rows t ≡ 0
   unfolding first_free free_rows
   none_free e = count_nowhere (vacant t) (rows t) (λ k l. first_not (vacant t) (rows t) k e l)
 
@@ -228,8 +226,8 @@ spot : (t : List ℕ) (d : Address) → Legal t → new_rows (row_for t d) ≤ f
 unfolding place_for row_for
 spot t d legal room = go (find_row t d) refl (first_free t) refl
   where
-    go : (f : Found) → find_row t d ≡ f → (g : Found) → first_free t ≡ g → Spot t d
-    go (At i) fe g ge =
+    go : (f : Option ℕ) → find_row t d ≡ f → (g : Option ℕ) → first_free t ≡ g → Spot t d
+    go (Some i) fe g ge =
         let found = found_here t d i fe in
         record {
           at = i;
@@ -239,7 +237,7 @@ spot t d legal room = go (find_row t d) refl (first_free t) refl
           apart = λ e n. held_for_one t d e i found.1 n;
           fresh = rw (fe, (held_row t d i found.1).0);
         }
-    go Nothing fe (At i) ge =
+    go None fe (Some i) ge =
         let free = free_here t i ge in
         record {
           at = i;
@@ -249,7 +247,7 @@ spot t d legal room = go (find_row t d) refl (first_free t) refl
           apart = λ e n. vacant_holds t e i free.1;
           fresh = rw (fe, free.1);
         }
-    go Nothing fe Nothing ge = let none = none_free t ge in let one : 1 ≤ free_rows t = rw fe at room in absurd (omega arith)
+    go None fe None ge = let None = none_free t ge in let one : 1 ≤ free_rows t = rw fe at room in absurd (omega arith)
 
 -- ---- a row that is stored
 
@@ -261,7 +259,7 @@ held_ok : (a : Address) (r : Row) → is_held a r ≡ true → row_ok a r ≡ tr
 unfolding row_ok
 held_ok a r e = rw e (or-true (is_free r))
 
--- Laws of storing a legal held row if there is room for it: its destination has a row, or some row is free, wherever it lies.
+-- Laws of storing a legal held row if there is room for it: its destination has a row, or Some row is free, wherever it lies.
 module _ (t : List ℕ) (r : Row) (legal : Legal t) (held : is_held (own t) r ≡ true) (fit : FitRow r)
     (room : new_rows (row_for t r.destination) ≤ free_rows t) where
   place_of : Spot t r.destination
@@ -278,7 +276,7 @@ module _ (t : List ℕ) (r : Row) (legal : Legal t) (held : is_held (own t) r �
   status = held_status (own t) r held
 
   -- The row of the destination is the stored row.
-  pub store_found : row_for (store t r) r.destination ≡ some r
+  pub store_found : row_for (store t r) r.destination ≡ Some r
   store_found =
       rw stored
       (put_found t place_of.at r inside fit r.destination
@@ -308,17 +306,17 @@ module _ (t : List ℕ) (r : Row) (legal : Legal t) (held : is_held (own t) r �
 -- ---- what putting a row at any place leaves alone
 
 module _ (t : List ℕ) (r : Row) where
-  put_length : (f : Found) → length (put_at t r f) ≡ length t
-  put_length (At i) = length_row t i r
-  put_length Nothing = refl
+  put_length : (f : Option ℕ) → length (put_at t r f) ≡ length t
+  put_length (Some i) = length_row t i r
+  put_length None = refl
 
-  put_head : (f : Found) → head_at (put_at t r f) ≡ head_at t
-  put_head (At i) = head_stays t i r
-  put_head Nothing = refl
+  put_head : (f : Option ℕ) → head_at (put_at t r f) ≡ head_at t
+  put_head (Some i) = head_stays t i r
+  put_head None = refl
 
-  put_octets : Octets t → (f : Found) → Octets (put_at t r f)
-  put_octets o (At i) = row_octets_lem t i r o
-  put_octets o Nothing = o
+  put_octets : Octets t → (f : Option ℕ) → Octets (put_at t r f)
+  put_octets o (Some i) = row_octets_lem t i r o
+  put_octets o None = o
 
   pub store_length : length (store t r) ≡ length t
   unfolding store
@@ -365,12 +363,12 @@ module _ (t : List ℕ) (r s : Row) (legal : Legal t) (held : is_held (own t) r 
   held_second : is_held (own (store t r)) s ≡ true
   held_second = ap (λ (h : Head). is_held h.own s) (store_head t r) ∙ held'
 
-  pub first_found : row_for (store (store t r) s) r.destination ≡ some r
+  pub first_found : row_for (store (store t r) s) r.destination ≡ Some r
   first_found =
       store_other (store t r) s legal' held_second fit' room_second r.destination (differs r.destination s.destination differ)
       ∙ store_found t r legal held fit room_first
 
-  pub second_found : row_for (store (store t r) s) s.destination ≡ some s
+  pub second_found : row_for (store (store t r) s) s.destination ≡ Some s
   second_found = store_found (store t r) s legal' held_second fit' room_second
 
   pub others_stay : (d : Address) → same r.destination d ≡ false → same s.destination d ≡ false
@@ -397,13 +395,13 @@ free_holds t i within d = here t i free_row within free_fits d ∙ and-false (sa
 
 module _ (t : List ℕ) (d : Address) (legal : Legal t) where
   -- The destination has no row.
-  pub freed_gone : row_for (freed t d) d ≡ none
+  pub freed_gone : row_for (freed t d) d ≡ None
   unfolding freed row_for
   freed_gone = by (find_row t d) refl
     where
-      by : (f : Found) → find_row t d ≡ f → row_for (put_at t free_row f) d ≡ none
-      by Nothing e = rw e
-      by (At i) e =
+      by : (f : Option ℕ) → find_row t d ≡ f → row_for (put_at t free_row f) d ≡ None
+      by None e = rw e
+      by (Some i) e =
           let found = found_here t d i e in
           put_gone t i free_row (omega arith) free_fits d (free_holds t i (omega arith) d) (found_only t d legal i e)
 
@@ -412,9 +410,9 @@ module _ (t : List ℕ) (d : Address) (legal : Legal t) where
   unfolding freed
   freed_other e n = by (find_row t d) refl
     where
-      by : (f : Found) → find_row t d ≡ f → row_for (put_at t free_row f) e ≡ row_for t e
-      by Nothing q = refl
-      by (At i) q =
+      by : (f : Option ℕ) → find_row t d ≡ f → row_for (put_at t free_row f) e ≡ row_for t e
+      by None q = refl
+      by (Some i) q =
           let found = found_here t d i q in
           put_other t i free_row (omega arith) free_fits e (held_for_one t d e i found.1 n) (free_holds t i (omega arith) e)
 
@@ -423,9 +421,9 @@ module _ (t : List ℕ) (d : Address) (legal : Legal t) where
   unfolding freed row_for
   freed_free = by (find_row t d) refl
     where
-      by : (f : Found) → find_row t d ≡ f → free_rows (put_at t free_row f) + new_rows (row_in t f) ≡ suc (free_rows t)
-      by Nothing e = omega arith
-      by (At i) e =
+      by : (f : Option ℕ) → find_row t d ≡ f → free_rows (put_at t free_row f) + new_rows (row_in t f) ≡ suc (free_rows t)
+      by None e = omega arith
+      by (Some i) e =
           let found = found_here t d i e in
           let more = put_gives t i free_row (omega arith) free_fits (held_row t d i found.1).0 refl in
           omega arith
@@ -434,8 +432,8 @@ module _ (t : List ℕ) (d : Address) (legal : Legal t) where
   unfolding freed
   freed_legal = by (find_row t d) refl
     where
-      by : (f : Found) → find_row t d ≡ f → Legal (put_at t free_row f)
-      by Nothing e = legal
-      by (At i) e =
+      by : (f : Option ℕ) → find_row t d ≡ f → Legal (put_at t free_row f)
+      by None e = legal
+      by (Some i) e =
           let found = found_here t d i e in
           put_legal t i free_row (omega arith) free_fits legal (free_ok (own t)) (λ held. absurd (true_not_false refl held))

@@ -1,4 +1,5 @@
 -- Laws of a table by its parts, and of the row of a destination by its place.
+use Rattle.std.specs.Prelude.{Some, None, Option}
 use Prim.Native.Nat.{ℕ, ◌<◌}
 use mathlib.Core.Path.{◌≡◌, refl, ap}
 use mathlib.Core.Bool.{Bool, true, false, not, and-eq-true_iff}
@@ -9,8 +10,6 @@ use native.Mathlib.Omega.{arith, ne_cases}
 use borrow.Author.Tests.{eqb-true, eqb-false, eq-eqb, ne_eqb, not-true}
 use Rattle.octets.proofs.Tests.{clash}
 use Rattle.layout.specs.declared.address.Address.{Address}
-use Rattle.table.specs.declared.search.Found.{Found}
-use Rattle.table.specs.declared.search.Found.TheVariants.{At, Nothing}
 use Rattle.layout.specs.Address.{same}
 use Rattle.layout.specs.Row.{head_ok, row_ok}
 use Rattle.layout.specs.Layout.{rows, row_at, head_at}
@@ -74,13 +73,13 @@ pub record Legal (t : List ℕ) : Type 0 where
   pub once : (d : Address) (j k : ℕ) → j < rows t → k < rows t → holds t d j ≡ true → holds t d k ≡ true → j ≡ k
 
 -- If a held row stands alone, the search of the rows before it finds nothing.
-alone_first : (t : List ℕ) (k : ℕ) → alone t k ≡ true → vacant t k ≡ false → first (holds t (row_at t k).destination) k ≡ Nothing
+alone_first : (t : List ℕ) (k : ℕ) → alone t k ≡ true → vacant t k ≡ false → first (holds t (row_at t k).destination) k ≡ None
 unfolding alone
 alone_first t k a v = go (first (holds t (row_at t k).destination) k) refl
   where
-    go : (f : Found) → first (holds t (row_at t k).destination) k ≡ f → first (holds t (row_at t k).destination) k ≡ Nothing
-    go Nothing e = e
-    go (At j) e = clash cc
+    go : (f : Option ℕ) → first (holds t (row_at t k).destination) k ≡ f → first (holds t (row_at t k).destination) k ≡ None
+    go None e = e
+    go (Some j) e = clash cc
 
 -- If row k stands alone, no row before it is held for the destination that row k is held for.
 not_before : (t : List ℕ) (d : Address) (j k : ℕ) → alone t k ≡ true → j < k → holds t d j ≡ true → holds t d k ≡ true → ⊥

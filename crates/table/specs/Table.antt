@@ -6,21 +6,18 @@
 --   free_rows, first_free, new_rows        free rows, and how many new rows a destination needs
 --   alone, passes, is_table                what refusal 21 asks
 --   fresh, store, freed, change_where      a fresh table; a row stored; a row freed; the rows that pass a test changed
-use Rattle.std.specs.Prelude.{ℕ, zero, suc, Bool, ◌&&◌, ◌||◌, not, cond, List, eqb}
-use Rattle.std.proofs.Math.Option.{Option, none, some}
+use Rattle.std.specs.Prelude.{◌≡◌, ℕ, zero, suc, Bool, ◌&&◌, ◌||◌, not, cond, List, eqb, Option, None, Some}
 use Rattle.counters.specs.declared.SequenceNumber.{SequenceNumber}
 use Rattle.counters.specs.declared.RequestId.{RequestId}
 use Rattle.octets.specs.LittleEndian.{zeros}
 use Rattle.layout.specs.declared.address.Address.{Address}
 use Rattle.layout.specs.declared.row.Row.{Row}
-use Rattle.table.specs.declared.search.Found.{Found}
-use Rattle.table.specs.declared.search.Found.TheVariants.{At, Nothing}
-use Rattle.table.specs.declared.search.NextHop.{NextHop}
-use Rattle.table.specs.declared.search.NextHop.TheVariants.{To, Nobody}
 use Rattle.layout.specs.Address.{same}
 use Rattle.layout.specs.Row.{fresh_head, free_row, head_ok, row_ok, active}
 use Rattle.layout.specs.Layout.{rows, head_at, put_head, row_at, put_row}
-use Rattle.table.specs.Places.{first, count, every, is_nothing, or_else}
+use Rattle.std.specs.Prelude.{is_none, option_map}
+use Rattle.std.specs.Option.{option_or}
+use Rattle.table.specs.Places.{first, count, every}
 
 -- ---- the head
 
@@ -47,45 +44,39 @@ unfoldable pub holds : List ℕ → Address → ℕ → Bool
 holds t d i = same (row_at t i).destination d && not (vacant t i)
 
 -- Returns the place of the row held for d.
-unfoldable pub find_row : List ℕ → Address → Found
+unfoldable pub find_row : List ℕ → Address → Option ℕ
 find_row t d = first (holds t d) (rows t)
 
-abbrev pub row_in : List ℕ → Found → Option Row
-row_in t (At i) = some (row_at t i)
-row_in t Nothing = none
+abbrev pub row_in : List ℕ → Option ℕ → Option Row
+row_in t found = option_map (row_at t) found
 
 -- Returns the row held for d.
 unfoldable pub row_for : List ℕ → Address → Option Row
 row_for t d = row_in t (find_row t d)
 
--- Returns the next hop of a row that is there and active at clock c, or none.
+-- Returns the next hop of a row that is there and active at clock c, or None.
 unfoldable pub active_next : ℕ → Option Row → Option Address
-active_next c none = none
-active_next c (some r) = cond (active c r) (some r.next) none
+active_next c None = None
+active_next c (Some r) = cond (active c r) (Some r.next) None
 
--- Returns the address in the code's answer, or none.
-abbrev pub hop_in : NextHop → Option Address
-hop_in (To next) = some next
-hop_in Nobody = none
-
--- Returns how many new rows a destination needs: 0 if a row is held for it, 1 if none is.
+-- Returns how many new rows a destination needs: 0 if a row is held for it, 1 if None is.
 abbrev pub new_rows : Option Row → ℕ
-new_rows (some r) = 0
-new_rows none = 1
+new_rows (Some r) = 0
+new_rows None = 1
 
 -- Returns how many rows are free.
 unfoldable pub free_rows : List ℕ → ℕ
 free_rows t = count (vacant t) (rows t)
 
 -- Returns the lowest place of a free row.
-unfoldable pub first_free : List ℕ → Found
+unfoldable pub first_free : List ℕ → Option ℕ
 first_free t = first (vacant t) (rows t)
 
 -- ---- refusal 21: the octets are a table
 
 -- Reports whether row i is free, or no row before it is held for its destination.
 unfoldable pub alone : List ℕ → ℕ → Bool
-alone t i = vacant t i || is_nothing (first (holds t (row_at t i).destination) i)
+alone t i = vacant t i || is_none (first (holds t (row_at t i).destination) i)
 
 -- Reports whether row i is legal in the table of the point with address `self`, and stands alone.
 abbrev pub passes : List ℕ → Address → ℕ → Bool
@@ -101,14 +92,14 @@ is_table t = head_ok (head_at t) && every (passes t (own t)) (rows t)
 unfoldable pub fresh : ℕ → Address → SequenceNumber → List ℕ
 fresh octets address sequence = put_head (zeros octets) (fresh_head address sequence)
 
-abbrev pub put_at : List ℕ → Row → Found → List ℕ
-put_at t r (At i) = put_row t i r
-put_at t r Nothing = t
+abbrev pub put_at : List ℕ → Row → Option ℕ → List ℕ
+put_at t r (Some i) = put_row t i r
+put_at t r None = t
 
 -- Returns the place for a row with destination d: the place of the row held for d, or the lowest place of a free row if no row is
 -- held for d.
-unfoldable pub place_for : List ℕ → Address → Found
-place_for t d = or_else (find_row t d) (first_free t)
+unfoldable pub place_for : List ℕ → Address → Option ℕ
+place_for t d = option_or (find_row t d) (first_free t)
 
 unfoldable pub store : List ℕ → Row → List ℕ
 store t r = put_at t r (place_for t r.destination)
@@ -129,3 +120,7 @@ change_below p f (suc n) t = change_at p f n (change_below p f n t)
 -- Changes by f each row that passes the test p. Rows that fail the test stay as they are, octet by octet.
 unfoldable pub change_where : (Row → Bool) → (Row → Row) → List ℕ → List ℕ
 change_where p f t = change_below p f (rows t) t
+
+-- States of a step, which relates a row to what the code makes of it, that it changes by f exactly the rows that pass the test p.
+abbrev pub StepsBy : (Row → Option Row → Type 0) → (Row → Bool) → (Row → Row) → Type 0
+StepsBy step p f = (r : Row) (o : Option Row) → step r o → o ≡ cond (p r) (Some (f r)) None

@@ -1,5 +1,5 @@
 // Tests whether octets are a table.
-ghost use Rattle.std.specs.Prelude.{◌≡◌, ◌&&◌, ◌||◌, ◌+◌, ◌≤◌, length, eqb};
+ghost use Rattle.std.specs.Prelude.{◌≡◌, ◌&&◌, ◌||◌, ◌+◌, ◌<◌, ◌≤◌, length, not};
 ghost use Rattle.layout.specs.Row.{is_free, row_ok};
 ghost use Rattle.layout.specs.Layout.{place, row_at, row_octets, sized, Sized};
 ghost use Rattle.table.specs.Places.{every};
@@ -53,19 +53,19 @@ fn is_alone(table: &[u8], i: usize) -> bool
         return true;
     }
     let d = row::destination_at(table, i);
-    search::is_nothing(search::find_below(table, i, d))
+    search::find_below(table, i, d).is_none()
 }
 
-// Reports whether row i passes. By mark 0 the caller says that no row before i has the destination of row i. The function then
+// Reports whether row i passes. If the mark of its destination is not seen, no row before i has the destination, and the function
 // does not search the rows before i.
-fn passes_by(table: &[u8], own: Address, i: usize, mark: u8) -> bool
+fn passes_by(table: &[u8], own: Address, i: usize, seen: bool) -> bool
     requires { place i + row_octets ≤ length table.now }
-    ensures { result ≡ (row_ok own (row_at table.now i) && (eqb mark 0 || alone table.now i)) }
+    ensures { result ≡ (row_ok own (row_at table.now i) && (not seen || alone table.now i)) }
 {
     if !is_row(table, own, i) {
         return false;
     }
-    if mark == 0 {
+    if !seen {
         return true;
     }
     is_alone(table, i)
@@ -73,21 +73,30 @@ fn passes_by(table: &[u8], own: Address, i: usize, mark: u8) -> bool
 
 // Reports whether the first n rows pass. It marks in `seen` the destination of each row that passes. Two destinations may share
 // a mark. If the mark of a row is already set, the rows before that row are searched.
-fn rows_pass_by(table: &[u8], own: Address, n: usize, seen: &mut [u8], last: usize) -> bool
+fn rows_pass_by(table: &[u8], own: Address, n: usize, seen: &mut [bool], last: usize) -> bool
     requires n_in_bounds { place n ≤ length table.now }
     requires seen_len { length seen.old ≡ last + 1 }
     ensures { result ≡ every (passes table.now own) n }
 {
-    let mut i = 0;
-    while i < n {
+    for i in 0..n {
         let h = row::destination_at(table, i).mark(last);
         if !passes_by(table, own, i, seen[h]) {
             return false;
         }
-        seen[h] = 1;
-        i += 1;
+        seen[h] = true;
     }
     true
+}
+
+// Reports whether the first n rows pass, with N marks.
+fn rows_pass_marked<const N: usize>(table: &[u8], own: Address, n: usize) -> bool
+    requires some_marks { 0 < N }
+    requires marks_bound { N ≤ 1024 }
+    requires n_in_bounds { place n ≤ length table.now }
+    ensures { result ≡ every (passes table.now own) n }
+{
+    let mut seen = [false; N];
+    rows_pass_by(table, own, n, &mut seen, N - 1)
 }
 
 // Reports whether the first n rows pass. A table of few rows uses few marks, because all marks must be cleared first.
@@ -96,15 +105,12 @@ fn rows_pass(table: &[u8], own: Address, n: usize) -> bool
     ensures { result ≡ every (passes table.now own) n }
 {
     if n <= 4 {
-        let mut few = [0u8; 64];
-        return rows_pass_by(table, own, n, &mut few, 63);
+        return rows_pass_marked::<64>(table, own, n);
     }
     if n <= 16 {
-        let mut some = [0u8; 256];
-        return rows_pass_by(table, own, n, &mut some, 255);
+        return rows_pass_marked::<256>(table, own, n);
     }
-    let mut many = [0u8; 1024];
-    rows_pass_by(table, own, n, &mut many, 1023)
+    rows_pass_marked::<1024>(table, own, n)
 }
 
 pub fn is_table(table: &[u8]) -> bool

@@ -1,10 +1,10 @@
 // Writes a fresh table, and writes a row to its place.
-ghost use Rattle.std.specs.Prelude.{◌≡◌, length};
-ghost use Rattle.table.specs.Table.{find_row, fresh, store};
+ghost use Rattle.std.specs.Prelude.{◌≡◌, Bool, length};
+ghost use Rattle.layout.specs.declared.row.Row.{Row};
+ghost use Rattle.table.specs.Table.{StepsBy, change_where, find_row, fresh, store};
 ghost use Rattle.layout.specs.Layout.{Sized};
 
 use crate::search;
-use crate::search::Found;
 use counters::SequenceNumber;
 use layout::address::Address;
 use layout::row;
@@ -21,13 +21,25 @@ pub fn make_fresh(table: &mut [u8], own: Address, number: SequenceNumber)
 
 // Writes a row where its destination was found, otherwise to the free row of lowest place. If there is no place, nothing
 // changes.
-pub fn put_row(table: &mut [u8], found: Found, r: Row)
+pub fn put_row(table: &mut [u8], found: Option<usize>, r: Row)
     requires sized { Sized table.old }
     requires found_value { found ≡ find_row table.old r.destination }
     ensures { table.new ≡ store table.old r }
 {
-    match search::place_for(table, found) {
-        Found::At(i) => row::write_row(table, i, r),
-        Found::Nothing => {}
+    if let Some(i) = search::place_for(table, found) {
+        row::write_row(table, i, r);
+    }
+}
+
+// Changes the rows for which `step` returns a row: each takes the row that `step` returns. The other rows stay as they are.
+pub fn change_rows<F: Fn(Row) -> Option<Row>>(table: &mut [u8], step: F)
+    requires sized { Sized table.old }
+    requires callable { F.IsAlwaysCallable step }
+    ensures { (p : Row → Bool) (f : Row → Row) → StepsBy (F.post step) p f → table.new ≡ change_where p f table.old }
+{
+    for i in 0..search::rows_of(table) {
+        if let Some(r) = step(row::read_row(table, i)) {
+            row::write_row(table, i, r);
+        }
     }
 }

@@ -1,7 +1,7 @@
 -- Every test of P1 to P8, of the trainees' errors and of the further cases passes: the definitions compute it.
+use Rattle.rules.specs.Lists.{all}
 use mathlib.Core.Path.{◌≡◌, refl}
 use mathlib.Core.Bool.{true}
-use Rattle.rules.specs.Lists.{all}
 use Rattle.rules.proofs.Computing.{computing}
 use Rattle.theorems.specs.Edges.{edges, shut_out, further_cases}
 

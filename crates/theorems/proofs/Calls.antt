@@ -1,9 +1,9 @@
 -- Each accepted call is `Fine`.
+use Rattle.std.specs.Prelude.{Ok, Some, option_map}
 use Prim.Native.Nat.{ℕ, ◌^◌, ◌<◌}
 use mathlib.Core.Path.{◌≡◌, refl, sym, ap, subst, ◌∙◌}
 use mathlib.Core.Bool.{Bool, true}
 use mathlib.Core.List.{List, ◌++◌, Memᴰ}
-use mathlib.Core.Option.{some, map}
 use mathlib.Core.Logic.{inl, inr}
 use Rattle.octets.specs.LittleEndian.{Octets}
 use Rattle.layout.specs.declared.address.Address.{Address}
@@ -21,7 +21,6 @@ use Rattle.element.specs.declared.RrepFields.{RrepFields}
 use Rattle.element.specs.declared.Target.{Target}
 use Rattle.element.specs.Element.{Element, rann, rreq, rrep, rerr}
 use Rattle.element.specs.Octets.{read_element}
-use Rattle.rules.specs.Decision.{accepted}
 use Rattle.rules.specs.Exit.{Frame, Lent, with_table, Effect}
 use Rattle.rules.specs.declared.Arrival.{Arrival}
 use Rattle.rules.specs.Learn.{learnt}
@@ -53,7 +52,7 @@ FromLog log (makes call) = Unit {0}
 -- ---- originating: no row is written, and the path that is sent is the point's own
 
 module _ (d : Address) (base : ℕ) (log : List Sent) (l : Lent) where
-  originates : (h : Head) → h.own ≡ own l.table → (e : Element) (flags lifetime : ℕ) → path_of e ≡ some (own_path h flags lifetime)
+  originates : (h : Head) → h.own ≡ own l.table → (e : Element) (flags lifetime : ℕ) → path_of e ≡ Some (own_path h flags lifetime)
       → Sound d base log l.table (record { lent = with_table (put_head l.table h) l; frames = to_all e })
   unfolding own_path
   originates h same_point e flags lifetime is =
@@ -85,11 +84,11 @@ module _ (d : Address) (base : ℕ) (small : base < 2 ^ 32) (log : List Sent) (l
       → Near base (row_for (put_head (change_where p f t) h) d)
       → Sound d base log t (record { lent = with_table (put_head (change_where p f t) h) l; frames = frames })
   fallen_sound p f keeps fall h frames backed near' =
-      let row : row_for (put_head (change_where p f t) h) d ≡ map (changed p f) (row_for t d) =
+      let row : row_for (put_head (change_where p f t) h) d ≡ option_map (changed p f) (row_for t d) =
       head_found (change_where p f t) h d ∙ change_found p f keeps t octets d in
       record {
         move = rw row (changed_move small (changed p f) falls_or_stays (row_for t d) near (rw row at near'));
-        absent = λ self before. row ∙ ap (map (changed p f)) before;
+        absent = λ self before. row ∙ ap (option_map (changed p f)) before;
         backed = backed;
       }
     where
@@ -108,7 +107,7 @@ module _ (d : Address) (base : ℕ) (small : base < 2 ^ 32) (log : List Sent) (l
 
   module _ (a : Arrival) (s : Sent) (logged : Memᴰ s log) (by : s.sender ≡ a.transmitter) where
     -- Steps 1 and 2, for a RANN, a RREQ or a RREP.
-    module _ (p : PathInfo) (is_some_and : path_in s.octets ≡ some p) (heard : Heard t a p) where
+    module _ (p : PathInfo) (is_some_and : path_in s.octets ≡ Some p) (heard : Heard t a p) where
       u : List ℕ
       u = learnt a p t
 
@@ -127,7 +126,7 @@ module _ (d : Address) (base : ℕ) (small : base < 2 ^ 32) (log : List Sent) (l
             backed = rw (row, ← same_point) backed;
           }
 
-      onward_backed : Backed d base (own u) (row_for u d) (some (onward a p))
+      onward_backed : Backed d base (own u) (row_for u d) (Some (onward a p))
       unfolding u onward
       onward_backed = backed_path _ (λ about. inr (learnt_stands d t a p heard base about))
 
@@ -135,14 +134,14 @@ module _ (d : Address) (base : ℕ) (small : base < 2 ^ 32) (log : List Sent) (l
     abbrev BackedAfter : PathInfo → Frame → Type 0
     BackedAfter p f = Backed d base (own (learnt a p t)) (row_for (learnt a p t) d) (path_of f.element)
 
-    rann_sound : (p : PathInfo) → path_in s.octets ≡ some p → Heard t a p → Near base (row_for (rann_received l a p).lent.table d)
+    rann_sound : (p : PathInfo) → path_in s.octets ≡ Some p → Heard t a p → Near base (row_for (rann_received l a p).lent.table d)
         → Sound d base log t (rann_received l a p)
     unfolding rann_received u
     rann_sound p is_some_and heard =
         heard_sound p is_some_and heard _ (rann_onward a p)
         (rann_emitted (BackedAfter p) a p (onward_backed p is_some_and heard)).each
 
-    rrep_sound : (f : RrepFields) (dependents : List NumberedAddress) → path_in s.octets ≡ some f.path → Heard t a f.path
+    rrep_sound : (f : RrepFields) (dependents : List NumberedAddress) → path_in s.octets ≡ Some f.path → Heard t a f.path
         → Near base (row_for (rrep_received l a f dependents).lent.table d) → Sound d base log t (rrep_received l a f dependents)
     unfolding rrep_received u
     rrep_sound f dependents is_some_and heard =
@@ -150,7 +149,7 @@ module _ (d : Address) (base : ℕ) (small : base < 2 ^ 32) (log : List Sent) (l
         heard_sound f.path is_some_and heard _ (rrep_onward (learnt a f.path t) a f dependents)
         (rrep_emitted (BackedAfter f.path) v a f dependents (λ _ _. onward_backed f.path is_some_and heard)).each
 
-    rreq_sound : (f : RreqFields) (targets : List Target) → path_in s.octets ≡ some f.path → Heard t a f.path
+    rreq_sound : (f : RreqFields) (targets : List Target) → path_in s.octets ≡ Some f.path → Heard t a f.path
         → Near base (row_for (rreq_received l a f targets).lent.table d) → Sound d base log t (rreq_received l a f targets)
     unfolding rreq_received u
     rreq_sound f targets is_some_and heard =
@@ -175,7 +174,7 @@ module _ (d : Address) (base : ℕ) (small : base < 2 ^ 32) (log : List Sent) (l
   -- ---- every call
 
   module _ (room : ℕ) where
-    call_sound : (call : Call) → OperandsFit call → FromLog log call → (e : Effect) → decision l room call ≡ accepted e
+    call_sound : (call : Call) → OperandsFit call → FromLog log call → (e : Effect) → decision l room call ≡ Ok e
         → Near base (row_for e.lent.table d) → Sound d base log t e
     unfolding listed decision receive ask announce root_request break_neighbour
     call_sound (receives a octets') fit from e is =
@@ -196,7 +195,7 @@ module _ (d : Address) (base : ℕ) (small : base < 2 ^ 32) (log : List Sent) (l
         subst (λ (x : Effect). Near base (row_for x.lent.table d) → Sound d base log t x) (passed (breaking l room c neighbour) e is).1
         (break_sound c (is_through c neighbour) (through_acts c neighbour))
 
-    pub call_fine : (call : Call) → OperandsFit call → FromLog log call → (e : Effect) → decision l room call ≡ accepted e → Fine d base log t e
+    pub call_fine : (call : Call) → OperandsFit call → FromLog log call → (e : Effect) → decision l room call ≡ Ok e → Fine d base log t e
     call_fine call fit from e is =
         let k : Kept t e = call_kept l octets room call fit e is in
         record { own = k.leaves.own; frames = k.frames; sound = call_sound call fit from e is }

@@ -1,8 +1,8 @@
 -- The runs of `Runs.antt` pass their tests: the definitions compute it.
+use Rattle.rules.specs.Lists.{all}
 use mathlib.Core.Path.{◌≡◌, refl}
 use mathlib.Core.Bool.{true}
 use mathlib.Core.List.{◌++◌}
-use Rattle.rules.specs.Lists.{all}
 use Rattle.rules.specs.Calls.{decision}
 use Rattle.rules.proofs.Computing.{computing}
 use Rattle.theorems.specs.Mesh.{start, box_of, with_box, call_of, walk_over, point_fits, points_fit, own_call_fits, action_fits, event_fits, sent_by, after_call, happen, run, throughout, next_at, met}

@@ -1,9 +1,9 @@
 -- Each path in a reply is the point's own, or the point's row is at least as good as the path.
+use Rattle.std.specs.Prelude.{Option, Some}
 use Prim.Native.Nat.{ℕ}
 use mathlib.Core.Path.{◌≡◌, refl, sym, ap, ◌∙◌}
 use mathlib.Core.Bool.{true}
 use mathlib.Core.List.{List}
-use mathlib.Core.Option.{Option, some}
 use mathlib.Core.Logic.{◌⊎◌, inl, inr}
 use lib.Dec.{eqb}
 use native.Mathlib.Nat.{le_refl}
@@ -41,7 +41,7 @@ module _ (d : Address) (base : ℕ) (u : List ℕ) where
   unfolding reply
   reply_backed a p to n hops metric h = backed_path _ h
 
-  row_stands : (to : Address) (r : Row) → row_for u to ≡ some r → eqb r.known 1 ≡ true → r.destination ≡ d
+  row_stands : (to : Address) (r : Row) → row_for u to ≡ Some r → eqb r.known 1 ≡ true → r.destination ≡ d
       → Stands base (row_for u d) r.number r.metric.0
   row_stands to r found known about =
       record {

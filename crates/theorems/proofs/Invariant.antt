@@ -4,12 +4,13 @@
 --     backed    Each path for d that was ever sent still stands: its sender is d, or holds a row at least as good as the path.
 --     absent    d holds no row for itself.
 -- This file uses nothing of the rules of the calls.
+use Rattle.std.specs.Prelude.{Ok, Option, None, Some}
 use Prim.Native.Nat.{ℕ}
 use mathlib.Core.Path.{◌≡◌, refl, sym, ap, subst, ◌∙◌}
 use mathlib.Core.Bool.{true}
 use mathlib.Core.List.Memᴰ
 use mathlib.Core.List.{List, [], ◌∷◌, ◌++◌, Memᴰ}
-use mathlib.Core.Option.{Option, none, some, none-ne-some, some-injective}
+use Rattle.std.proofs.lemmas.Option.{none-some, same_Some}
 use mathlib.Core.Logic.{◌⊎◌, ⊎_elim, ⊎_map}
 use lib.Dec.{eqb}
 use Rattle.counters.specs.declared.SequenceNumber.{SequenceNumber}
@@ -22,7 +23,6 @@ use Rattle.element.specs.declared.PathInfo.{PathInfo}
 use Rattle.element.specs.Octets.{read_element, write_element}
 use Rattle.element.specs.Entries.{All}
 use Rattle.element.proofs.ReadBack.{read_back}
-use Rattle.rules.specs.Decision.{accepted}
 use Rattle.rules.specs.Exit.{Frame, Lent, Effect}
 use Rattle.rules.specs.Receive.{path_of}
 use Rattle.rules.proofs.AsGood.{InWindow}
@@ -34,12 +34,12 @@ use Rattle.theorems.proofs.Boxes.{box_own, box_same, box_other}
 
 -- If there is a row and its number is known, the number lies in the window.
 abbrev pub Near : ℕ → Option Row → Type 0
-Near base o = (r : Row) → o ≡ some r → InWindow base r
+Near base o = (r : Row) → o ≡ Some r → InWindow base r
 
 -- There is a row, its number is known, and it is at least as good as number n with metric m.
 pub record Stands (base : ℕ) (o : Option Row) (n : SequenceNumber) (m : ℕ) : Type 0 where
   pub row : Row
-  pub found : o ≡ some row
+  pub found : o ≡ Some row
   pub known : eqb row.known 1 ≡ true
   pub good : AtLeast base row.number row.metric.0 n m
 
@@ -53,7 +53,7 @@ pub record HasSent (d : Address) (base : ℕ) (log : List Sent) (a : Address) (n
   pub logged : Memᴰ sent log
   pub by : sent.sender ≡ a
   pub path : PathInfo
-  pub is_some_and : path_in sent.octets ≡ some path
+  pub is_some_and : path_in sent.octets ≡ Some path
   pub about : path.subject ≡ d
   pub better : Above base path.number path.metric.0 n m
 
@@ -64,11 +64,11 @@ pub data Leads (d : Address) (base : ℕ) (log : List Sent) (r : Row) : Type 0 w
 
 -- If there is a row and it is valid, it leads to d.
 abbrev pub Rooted : Address → ℕ → List Sent → Option Row → Type 0
-Rooted d base log o = (r : Row) → o ≡ some r → eqb r.status 1 ≡ true → Leads d base log r
+Rooted d base log o = (r : Row) → o ≡ Some r → eqb r.status 1 ≡ true → Leads d base log r
 
 -- If k is a path for d, then a is d, or the row o of the point a is at least as good as the path.
 abbrev pub Backed : Address → ℕ → Address → Option Row → Option PathInfo → Type 0
-Backed d base a o k = (p : PathInfo) → k ≡ some p → p.subject ≡ d → (a ≡ d) ⊎ Stands base o p.number p.metric.0
+Backed d base a o k = (p : PathInfo) → k ≡ Some p → p.subject ≡ d → (a ≡ d) ⊎ Stands base o p.number p.metric.0
 
 -- ---- one call
 
@@ -81,7 +81,7 @@ pub record Move (d : Address) (base : ℕ) (log : List Sent) (o o' : Option Row)
 -- paths that are backed.
 pub record Sound (d : Address) (base : ℕ) (log : List Sent) (t : List ℕ) (e : Effect) : Type 0 where
   pub move : Move d base log (row_for t d) (row_for e.lent.table d)
-  pub absent : own t ≡ d → row_for t d ≡ none → row_for e.lent.table d ≡ none
+  pub absent : own t ≡ d → row_for t d ≡ None → row_for e.lent.table d ≡ None
   pub backed : All (λ (f : Frame). Backed d base (own t) (row_for e.lent.table d) (path_of f.element)) e.frames
 
 -- A call keeps the own address, and its frames fit. It is sound if a known number in the row that it leaves lies in the window.
@@ -93,23 +93,23 @@ pub record Fine (d : Address) (base : ℕ) (log : List Sent) (t : List ℕ) (e :
 pub stay : {d : Address} {base : ℕ} {log : List Sent} (o : Option Row) → Move d base log o o
 stay o = record { keeps = λ st. st; rooted = λ h. h }
 
-pub rooted_row : {d : Address} {base : ℕ} {log : List Sent} {o : Option Row} (r : Row) → o ≡ some r → Leads d base log r → Rooted d base log o
+pub rooted_row : {d : Address} {base : ℕ} {log : List Sent} {o : Option Row} (r : Row) → o ≡ Some r → Leads d base log r → Rooted d base log o
 rooted_row {d} {base} {log} r e lead q found valid =
-    subst (λ (x : Row). Leads d base log x) (some-injective r q (sym e ∙ found)) lead
+    subst (λ (x : Row). Leads d base log x) (same_Some r q (sym e ∙ found)) lead
 
 pub backed_path : {d : Address} {base : ℕ} {a : Address} {o : Option Row} (p : PathInfo)
-    → (p.subject ≡ d → (a ≡ d) ⊎ Stands base o p.number p.metric.0) → Backed d base a o (some p)
+    → (p.subject ≡ d → (a ≡ d) ⊎ Stands base o p.number p.metric.0) → Backed d base a o (Some p)
 backed_path {d} {base} {a} {o} p h q is_some_and =
-    subst (λ (x : PathInfo). x.subject ≡ d → (a ≡ d) ⊎ Stands base o x.number x.metric.0) (some-injective p q is_some_and) h
+    subst (λ (x : PathInfo). x.subject ≡ d → (a ≡ d) ⊎ Stands base o x.number x.metric.0) (same_Some p q is_some_and) h
 
-pub backed_none : {d : Address} {base : ℕ} {a : Address} {o : Option Row} → Backed d base a o none
-backed_none p is_some_and about = absurd (none-ne-some p is_some_and)
+pub backed_none : {d : Address} {base : ℕ} {a : Address} {o : Option Row} → Backed d base a o None
+backed_none p is_some_and about = absurd (none-some p is_some_and)
 
 -- ---- the row for d at a point
 
 abbrev pub row_of : Address → Option Lent → Option Row
-row_of d none = none
-row_of d (some l) = row_for l.table d
+row_of d None = None
+row_of d (Some l) = row_for l.table d
 
 unfoldable pub row_at : Address → List Lent → Address → Option Row
 row_at d boxes a = row_of d (box_of a boxes)
@@ -117,23 +117,23 @@ row_at d boxes a = row_of d (box_of a boxes)
 -- The row r for d stands in the table of the point a.
 pub record RowAt (d : Address) (boxes : List Lent) (a : Address) (r : Row) : Type 0 where
   pub box : Lent
-  pub at : box_of a boxes ≡ some box
-  pub found : row_for box.table d ≡ some r
+  pub at : box_of a boxes ≡ Some box
+  pub found : row_for box.table d ≡ Some r
 
-pub row_at_lem : (d : Address) (boxes : List Lent) (a : Address) (r : Row) → row_at d boxes a ≡ some r → RowAt d boxes a r
+pub row_at_lem : (d : Address) (boxes : List Lent) (a : Address) (r : Row) → row_at d boxes a ≡ Some r → RowAt d boxes a r
 unfolding row_at
 row_at_lem d boxes a r = go (box_of a boxes) refl
   where
-    go : (o : Option Lent) → box_of a boxes ≡ o → row_of d o ≡ some r → RowAt d boxes a r
-    go none e h = absurd (none-ne-some r h)
-    go (some l) e h = record { box = l; at = e; found = h }
+    go : (o : Option Lent) → box_of a boxes ≡ o → row_of d o ≡ Some r → RowAt d boxes a r
+    go None e h = absurd (none-some r h)
+    go (Some l) e h = record { box = l; at = e; found = h }
 
 -- ---- the invariant, and a fine call
 
 pub record Inv (d : Address) (base : ℕ) (m : Mesh) : Type 0 where
   pub rooted : (a : Address) → Rooted d base m.log (row_at d m.boxes a)
   pub backed : (s : Sent) → Memᴰ s m.log → Backed d base s.sender (row_at d m.boxes s.sender) (path_in s.octets)
-  pub absent : row_at d m.boxes d ≡ none
+  pub absent : row_at d m.boxes d ≡ None
 
 pub all_at : {A : Type 0} (P : A → Type 0) {x : A} (l : List A) → All P l → Memᴰ x l → P x
 unfolding All
@@ -155,7 +155,7 @@ longer more (nearer k) =
       better = k.better;
     })
 
-module _ (d : Address) (base : ℕ) (m : Mesh) (inv : Inv d base m) (a : Address) (l : Lent) (e : Effect) (here : box_of a m.boxes ≡ some l)
+module _ (d : Address) (base : ℕ) (m : Mesh) (inv : Inv d base m) (a : Address) (l : Lent) (e : Effect) (here : box_of a m.boxes ≡ Some l)
     (fine : Fine d base m.log l.table e) (near : Near base (row_at d (with_box a e.lent m.boxes) a)) where
   is_a : own l.table ≡ a
   is_a = box_own a m.boxes l here
@@ -209,14 +209,14 @@ module _ (d : Address) (base : ℕ) (m : Mesh) (inv : Inv d base m) (a : Address
       let q : (f : Frame) × Memᴰ f e.frames × (record { sender = a; octets = write_element f.element } ≡ s) = Memᴰ.of_map _ e.frames k in
       subst BackedNow q.2 (frame_backed q.0 q.1)
 
-  pub inv_after : Inv d base (after_call m a (accepted e))
+  pub inv_after : Inv d base (after_call m a (Ok e))
   unfolding after_call boxes'
   inv_after =
       record {
         rooted = λ b r found valid. longer (sent_by a e.frames)
             (each (λ b o. Rooted d base m.log o) (sound.move.rooted (rw row at (inv.rooted a))) inv.rooted b r found valid);
         backed = λ s k. ⊎_elim (still_backed s) (newly_backed s) (Memᴰ.append_cases m.log k);
-        absent = each (λ b o. b ≡ d → o ≡ none)
+        absent = each (λ b o. b ≡ d → o ≡ None)
             (λ q. sound.absent (is_a ∙ q) (sym row ∙ ap (row_at d m.boxes) q ∙ inv.absent))
             (λ b q. ap (row_at d m.boxes) q ∙ inv.absent)
             d refl;

@@ -1,12 +1,14 @@
 -- Demand 3: within its premise, no walk along valid rows meets a point twice, whatever calls the points of a mesh make.
+use Rattle.rules.specs.Lists.{all}
+use Rattle.std.specs.Prelude.{Err, Ok, Option, None, Some, slice_get}
 use Prim.Native.Nat.{ℕ, zero, suc, ◌+◌, ◌*◌, ◌^◌, ◌<◌}
 use mathlib.Core.Path.{◌≡◌, refl, sym, subst, ◌∙◌}
 use mathlib.Core.Bool.{Bool, true, false, and-eq-true_iff}
 use mathlib.Core.List.{List, [], ◌∷◌, ◌++◌, map, flat_map, Memᴰ}
-use mathlib.Core.Option.{Option, none, some, none-ne-some, some-injective}
+use Rattle.std.proofs.lemmas.Option.{none-some, same_Some}
 use mathlib.Core.Logic.{⊎_elim}
 use lib.Dec.{eqb, ltb}
-use lib.ListN.{length, get_elem?}
+use lib.ListN.{length}
 use borrow.Author.Tests.{ltb-true}
 use Rattle.octets.specs.LittleEndian.{Octets}
 use Rattle.octets.proofs.OctetLists.{octets_nil, octets_cons}
@@ -22,8 +24,7 @@ use Rattle.element.specs.Octets.{write_element}
 use Rattle.element.specs.Lists.{has_duplicate}
 use Rattle.element.specs.Entries.{All}
 use Rattle.element.proofs.ReadBack.{octets_written}
-use Rattle.rules.specs.Decision.{Decision, refused, accepted}
-use Rattle.rules.specs.Lists.{all}
+use Rattle.rules.specs.Decision.{Decision}
 use Rattle.rules.specs.Exit.{Frame, Lent, Effect}
 use Rattle.rules.specs.Calls.{OwnCall, asks, announces, requests_as_root, breaks, Call, decision, OwnOperandsFit, OperandsFit}
 use Rattle.rules.proofs.Branches.{cond_cases}
@@ -50,7 +51,7 @@ record Sane (m : Mesh) : Type 0 where
   boxes : All BoxFits m.boxes
   log : All SentFits m.log
 
-box_fits : (m : Mesh) → Sane m → (a : Address) (l : Lent) → box_of a m.boxes ≡ some l → BoxFits l
+box_fits : (m : Mesh) → Sane m → (a : Address) (l : Lent) → box_of a m.boxes ≡ Some l → BoxFits l
 box_fits m sane a l here = all_at BoxFits m.boxes sane.boxes (box_listed a m.boxes l here)
 
 address_fits : (a : Address) (t : List ℕ) → Octets t → own t ≡ a → a.0 < 256 ^ 6
@@ -62,8 +63,8 @@ with_box_fits a k o [] h = tt
 with_box_fits a k o (l ∷ boxes) h =
     cond_cases (All BoxFits) (same (own l.table) a) (λ _. (o, h.1)) (λ _. (h.0, with_box_fits a k o boxes h.1))
 
-module _ (m : Mesh) (sane : Sane m) (a : Address) (l : Lent) (here : box_of a m.boxes ≡ some l) where
-  sane_after : (e : Effect) → Kept l.table e → Sane (after_call m a (accepted e))
+module _ (m : Mesh) (sane : Sane m) (a : Address) (l : Lent) (here : box_of a m.boxes ≡ Some l) where
+  sane_after : (e : Effect) → Kept l.table e → Sane (after_call m a (Ok e))
   unfolding after_call sent_by
   sane_after e k =
       let fits = address_fits a l.table (box_fits m sane a l here) (box_own a m.boxes l here) in
@@ -78,7 +79,6 @@ module _ (m : Mesh) (sane : Sane m) (a : Address) (l : Lent) (here : box_of a m.
 
 module _ {A : Type 0} (p : A → Bool) where
   all_parts : (l l' : List A) → all p (l ++ l') ≡ true → (all p l ≡ true) × (all p l' ≡ true)
-  unfolding all
   all_parts [] l' e = (refl, e)
   all_parts (x ∷ l) l' e =
       let here = (and-eq-true_iff (p x) (all p (l ++ l'))).0 e in
@@ -93,9 +93,9 @@ module _ {A : Type 0} (p : A → Bool) where
       ⊎_elim (λ q. rw q parts.0) (λ j. all_of_flat f l parts.1 j) (mathlib.Core.List.Memᴰ.cases_cons k)
 
 module _ (d : Address) (base : ℕ) (m : Mesh) (sane : Sane m) (within : all_within d base m ≡ true) where
-  row_within : (a : Address) (l : Lent) → box_of a m.boxes ≡ some l → (r : Row) → row_for l.table d ≡ some r → eqb r.known 1 ≡ true
+  row_within : (a : Address) (l : Lent) → box_of a m.boxes ≡ Some l → (r : Row) → row_for l.table d ≡ Some r → eqb r.known 1 ≡ true
       → is_within base r.number ≡ true
-  unfolding all_within numbers_for held_by_all held all
+  unfolding all_within numbers_for held_by_all held
   row_within a l here r found known =
       let in_boxes = (all_parts (is_within base) (held_by_all d m.boxes) _ within).0 in
       let numbers = all_of_flat (is_within base) (λ (x : Lent). held d x.table) m.boxes in_boxes (box_listed a m.boxes l here) in
@@ -115,18 +115,18 @@ module _ (d : Address) (base : ℕ) (m : Mesh) (sane : Sane m) (within : all_wit
 -- ---- the beginning
 
 module _ (d : Address) (base : ℕ) where
-  fresh_at : (points : List Point) (a : Address) → row_at d (start points).boxes a ≡ none
+  fresh_at : (points : List Point) (a : Address) → row_at d (start points).boxes a ≡ None
   unfolding start box_of row_at
   fresh_at [] a = refl
   fresh_at (p ∷ points) a =
-      cond_cases (λ (o : Option Lent). row_of d o ≡ none) (same (own (fresh_table p)) a)
+      cond_cases (λ (o : Option Lent). row_of d o ≡ None) (same (own (fresh_table p)) a)
       (λ _. fresh_none (32 + 32 * p.rows) p.address p.number d) (λ _. fresh_at points a)
 
   begins : (points : List Point) → Inv d base (start points)
   unfolding start
   begins points =
       record {
-        rooted = λ a r found valid. absurd (none-ne-some r (sym (fresh_at points a) ∙ found));
+        rooted = λ a r found valid. absurd (none-some r (sym (fresh_at points a) ∙ found));
         backed = λ s k. absurd (mathlib.Core.List.Memᴰ.not-nil k);
         absent = fresh_at points d;
       }
@@ -141,9 +141,9 @@ sane_start points = record { boxes = each points; log = tt }
 
 -- ---- one event
 
-logged : (log : List Sent) (k : ℕ) (s : Sent) → get_elem? log k ≡ some s → Memᴰ s log
-logged [] k s e = absurd (none-ne-some s e)
-logged (x ∷ log) zero s e = mathlib.Core.List.Memᴰ.head (some-injective s x (sym e))
+logged : (log : List Sent) (k : ℕ) (s : Sent) → slice_get log k ≡ Some s → Memᴰ s log
+logged [] k s e = absurd (none-some s e)
+logged (x ∷ log) zero s e = mathlib.Core.List.Memᴰ.head (same_Some s x (sym e))
 logged (x ∷ log) (suc k) s e = mathlib.Core.List.Memᴰ.tail (logged log k s e)
 
 -- The operands of the call fit, and an element that it receives is an element of the log.
@@ -151,15 +151,14 @@ record Made (log : List Sent) (call : Call) : Type 0 where
   fit : OperandsFit call
   from : FromLog log call
 
-delivery_made : (log : List Sent) → All SentFits log → (place c : ℕ) (link : Metric) (o : Option Sent) → get_elem? log place ≡ o → (call : Call)
-    → delivery_of c link o ≡ some call → Made log call
-delivery_made log fits place c link none at call is = absurd (none-ne-some call is)
-delivery_made log fits place c link (some s) at call is =
+delivery_made : (log : List Sent) → All SentFits log → (place c : ℕ) (link : Metric) (o : Option Sent) → slice_get log place ≡ o → (call : Call)
+    → delivery_of c link o ≡ Some call → Made log call
+delivery_made log fits place c link None at call is = absurd (none-some call is)
+delivery_made log fits place c link (Some s) at call is =
     let k : Memᴰ s log = logged log place s at in
-    subst (Made log) (some-injective _ call is) (record { fit = all_at SentFits log fits k; from = (s, k, refl, refl) })
+    subst (Made log) (same_Some _ call is) (record { fit = all_at SentFits log fits k; from = (s, k, refl, refl) })
 
 items_octets : (items : List ℕ) → all (λ octet. ltb octet 256) items ≡ true → Octets items
-unfolding all
 items_octets [] h = octets_nil
 items_octets (x ∷ items) h =
     let both = (and-eq-true_iff (ltb x 256) (all (λ octet. ltb octet 256) items)).0 h in
@@ -174,14 +173,14 @@ own_operands (announces flags lifetime) h = ltb-true lifetime (256 ^ 4) h
 own_operands (requests_as_root flags lifetime) h = ltb-true lifetime (256 ^ 4) h
 own_operands (breaks c neighbour) h = tt
 
-made : (log : List Sent) → All SentFits log → (action : Action) → action_fits action ≡ true → (call : Call) → call_of log action ≡ some call
+made : (log : List Sent) → All SentFits log → (action : Action) → action_fits action ≡ true → (call : Call) → call_of log action ≡ Some call
     → Made log call
 unfolding call_of action_fits
-made log fits (delivers place c link) fit call is = delivery_made log fits place c link (get_elem? log place) refl call is
+made log fits (delivers place c link) fit call is = delivery_made log fits place c link (slice_get log place) refl call is
 made log fits (makes own-call) fit call is =
-    subst (Made log) (some-injective _ call is) (record { fit = own_operands own-call fit; from = tt })
-made log fits (finds_next_hop c d) fit call is = absurd (none-ne-some call is)
-made log fits (walks c from d) fit call is = absurd (none-ne-some call is)
+    subst (Made log) (same_Some _ call is) (record { fit = own_operands own-call fit; from = tt })
+made log fits (finds_next_hop c d) fit call is = absurd (none-some call is)
+made log fits (walks c from d) fit call is = absurd (none-some call is)
 
 -- Returns the lengths of all tables.
 abbrev pub table_lengths : List Lent → List ℕ
@@ -195,7 +194,7 @@ module _ (d : Address) (base : ℕ) (small : base < 2 ^ 32) (lengths : List ℕ)
     pub long : table_lengths m.boxes ≡ lengths
 
   -- A call of the point a, which lends l, keeps the mesh good.
-  module _ (m : Mesh) (good : Good m) (within : all_within d base m ≡ true) (a : Address) (l : Lent) (here : box_of a m.boxes ≡ some l) where
+  module _ (m : Mesh) (good : Good m) (within : all_within d base m ≡ true) (a : Address) (l : Lent) (here : box_of a m.boxes ≡ Some l) where
     octets : Octets l.table
     octets = box_fits m good.sane a l here
 
@@ -206,15 +205,15 @@ module _ (d : Address) (base : ℕ) (small : base < 2 ^ 32) (lengths : List ℕ)
     call_good : (room : ℕ) (call : Call) → Made m.log call
         → (o : Decision Effect) → decision l room call ≡ o → all_within d base (after_call m a o) ≡ true → Good (after_call m a o)
     unfolding after_call
-    call_good room call k (refused n) is within' = good
-    call_good room call k (accepted e) is within' =
+    call_good room call k (Err n) is within' = good
+    call_good room call k (Ok e) is within' =
         let kept : Kept l.table e = call_kept l octets room call k.fit e is in
-        let sane' : Sane (after_call m a (accepted e)) = sane_after m good.sane a l here e kept in
+        let sane' : Sane (after_call m a (Ok e)) = sane_after m good.sane a l here e kept in
         record {
           sane = sane';
           long = box_alike (λ (x : Lent). length x.table) a e.lent m.boxes l here kept.leaves.length ∙ good.long;
           inv = inv_after d base m good.inv a l e here (call_fine d base small m.log l octets near room call k.fit k.from e is)
-              (near_at d base (after_call m a (accepted e)) sane' within' a);
+              (near_at d base (after_call m a (Ok e)) sane' within' a);
         }
 
   happens : (m : Mesh) (e : Event) → event_fits e ≡ true → Good m → all_within d base m ≡ true → all_within d base (happen decision m e) ≡ true
@@ -224,9 +223,9 @@ module _ (d : Address) (base : ℕ) (small : base < 2 ^ 32) (lengths : List ℕ)
     where
       go : (o : Option Lent) → box_of e.point m.boxes ≡ o → (k : Option Call) → call_of m.log e.action ≡ k
           → all_within d base (calls decision m e o k) ≡ true → Good (calls decision m e o k)
-      go none here k is within' = good
-      go (some l) here none is within' = good
-      go (some l) here (some call) is within' =
+      go None here k is within' = good
+      go (Some l) here None is within' = good
+      go (Some l) here (Some call) is within' =
           call_good m good within e.point l here e.room call (made m.log good.sane.log e.action fit call is)
           (decision l e.room call) refl within'
 
@@ -239,7 +238,7 @@ module _ (d : Address) (base : ℕ) (small : base < 2 ^ 32) (lengths : List ℕ)
 
   runs : (m : Mesh) (events : List Event) → all event_fits events ≡ true → Good m
       → throughout (happen decision) (all_within d base) m events ≡ true → Good (run (happen decision) m events)
-  unfolding run throughout all
+  unfolding run throughout
   runs m [] fit good within = good
   runs m (e ∷ events) fit good within =
       let both = (and-eq-true_iff (all_within d base m) (throughout (happen decision) (all_within d base) (happen decision m e) events)).0 within in

@@ -1,9 +1,10 @@
 -- Steps 1 and 2 of receiving, a break and a received RERR move the row for d as the invariant asks.
+use Rattle.std.specs.Prelude.{Option, None, Some, option_map}
 use Prim.Native.Nat.{ℕ, ◌^◌, ◌<◌}
 use mathlib.Core.Path.{◌≡◌, refl, sym, ap, subst, ◌∙◌}
 use mathlib.Core.Bool.{true, not, true≢false, and-eq-true_iff}
 use mathlib.Core.List.{List, Memᴰ}
-use mathlib.Core.Option.{Option, none, some, map, some-injective}
+use Rattle.std.proofs.lemmas.Option.{same_Some}
 use lib.Dec.{eqb}
 use native.Mathlib.Nat.{le_refl}
 use native.Mathlib.Omega.{arith}
@@ -27,12 +28,12 @@ use Rattle.theorems.proofs.Invariant.{Near, Stands, path_in, Leads, home, nearer
 -- ---- a row that falls
 
 module _ {d : Address} {base : ℕ} {log : List Sent} (small : base < 2 ^ 32) where
-  falls_move : (r r' : Row) → Falls base small r r' → Move d base log (some r) (some r')
-  falls_move r r' (stays e) = subst (λ (q : Row). Move d base log (some r) (some q)) (sym e) (stay (some r))
+  falls_move : (r r' : Row) → Falls base small r r' → Move d base log (Some r) (Some r')
+  falls_move r r' (stays e) = subst (λ (q : Row). Move d base log (Some r) (Some q)) (sym e) (stay (Some r))
   falls_move r r' (falls down known better) =
       record {
         keeps = λ st.
-            let same_row : st.row ≡ r = sym (some-injective r st.row st.found) in
+            let same_row : st.row ≡ r = sym (same_Some r st.row st.found) in
             let was : eqb r.known 1 ≡ true = rw same_row at st.known in
             record {
               row = r';
@@ -41,19 +42,19 @@ module _ {d : Address} {base : ℕ} {log : List Sent} (small : base < 2 ^ 32) wh
               good = at_least_trans (better was) (rw same_row at st.good);
             };
         rooted = λ h q found valid.
-            absurd (true≢false (sym valid ∙ ap (λ (x : Row). eqb x.status 1) (sym (some-injective r' q found)) ∙ down));
+            absurd (true≢false (sym valid ∙ ap (λ (x : Row). eqb x.status 1) (sym (same_Some r' q found)) ∙ down));
       }
 
   pub changed_move : (f : Row → Row) → ((r : Row) → InWindow base r → InWindow base (f r) → Falls base small r (f r))
-      → (o : Option Row) → Near base o → Near base (map f o) → Move d base log o (map f o)
-  changed_move f fall none near near' = stay none
-  changed_move f fall (some r) near near' = falls_move r (f r) (fall r (near r refl) (near' (f r) refl))
+      → (o : Option Row) → Near base o → Near base (option_map f o) → Move d base log o (option_map f o)
+  changed_move f fall None near near' = stay None
+  changed_move f fall (Some r) near near' = falls_move r (f r) (fall r (near r refl) (near' (f r) refl))
 
 -- ---- steps 1 and 2
 
 -- The path p comes from the element s of the log, and the transmitter is the sender of s.
 module _ (d : Address) (base : ℕ) (small : base < 2 ^ 32) (log : List Sent) (t : List ℕ) (a : Arrival) (p : PathInfo) (h : Heard t a p)
-    (s : Sent) (logged : Memᴰ s log) (by : s.sender ≡ a.transmitter) (is_some_and : path_in s.octets ≡ some p) where
+    (s : Sent) (logged : Memᴰ s log) (by : s.sender ≡ a.transmitter) (is_some_and : path_in s.octets ≡ Some p) where
   learnt_stands_on : (o' : Option Row) → Learning d a p (row_for t d) o' → Near base (row_for t d) → Near base o'
       → {n : SequenceNumber} {m : ℕ} → Stands base (row_for t d) n m → Stands base o' n m
   unfolding subject_row transmitter_row renewed numbered
@@ -105,15 +106,15 @@ other_not self x e = not_same x self (not-true (same x self) ((and-eq-true_iff (
 
 module _ (d : Address) (t : List ℕ) (a : Arrival) (p : PathInfo) (h : Heard t a p) where
   -- A point learns no row for itself.
-  pub learnt_absent : own t ≡ d → row_for t d ≡ none → row_for (learnt a p t) d ≡ none
+  pub learnt_absent : own t ≡ d → row_for t d ≡ None → row_for (learnt a p t) d ≡ None
   learnt_absent self before = go (learning t a p h d)
     where
-      go : Learning d a p (row_for t d) (row_for (learnt a p t) d) → row_for (learnt a p t) d ≡ none
+      go : Learning d a p (row_for t d) (row_for (learnt a p t) d) → row_for (learnt a p t) d ≡ None
       go (subject e k) = absurd (other_not (own t) p.subject h.subject (e ∙ sym self))
       go (other apart (renewal e takes k)) = absurd (other_not (own t) a.transmitter h.transmitter (e ∙ sym self))
       go (other apart (left k)) = k ∙ before
 
-  subject_stands : (base : ℕ) (old : Row) {o' : Option Row} → o' ≡ some (subject_row a p old) → Stands base o' p.number (metric_here a p).0
+  subject_stands : (base : ℕ) (old : Row) {o' : Option Row} → o' ≡ Some (subject_row a p old) → Stands base o' p.number (metric_here a p).0
   unfolding subject_row renewed numbered
   subject_stands base old k = record { row = subject_row a p old; found = k; known = refl; good = level refl (le_refl (metric_here a p).0) }
 

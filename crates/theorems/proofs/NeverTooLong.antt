@@ -1,10 +1,12 @@
 -- Within the premise of demand 3 no walk answers 42. A walk of as many hops as there are points, none met twice, would meet one
 -- point more than there are.
+use Rattle.rules.specs.Lists.{all}
+use Rattle.std.specs.Prelude.{Ok, Option, None, Some, is_some}
 use Prim.Native.Nat.{ℕ, zero, suc, ◌+◌, ◌*◌, ◌/◌, ◌^◌, ◌<◌, ◌≤◌}
 use mathlib.Core.Path.{◌≡◌, refl, sym, ap, ap₂, subst, ◌∙◌}
 use mathlib.Core.Bool.{Bool, true, false, ◌&&◌, ◌||◌, cond}
 use mathlib.Core.List.{List, [], ◌∷◌, ◌++◌, map, flat_map, append_assoc}
-use mathlib.Core.Option.{Option, none, some, none-ne-some, some-injective}
+use Rattle.std.proofs.lemmas.Option.{none-some, same_Some}
 use mathlib.Core.Logic.{◌⊎◌, inl, inr, ⊎_elim, ⊎_map}
 use lib.Dec.{eqb, ltb}
 use lib.ListN.{length, length-append, length-map}
@@ -22,8 +24,6 @@ use Rattle.table.specs.Table.{own, row_for, active_next}
 use Rattle.table.proofs.Heads.{fresh_length}
 use Rattle.element.specs.Entries.{each, All}
 use Rattle.element.specs.Lists.{contains, has_duplicate}
-use Rattle.rules.specs.Decision.{accepted}
-use Rattle.rules.specs.Lists.{all, is_some}
 use Rattle.rules.specs.Exit.{Lent}
 use Rattle.rules.specs.Calls.{decision}
 use Rattle.rules.specs.Walk.{table_at, tables_in, points, Walked, arrived, row_of_point, leads_to, go_on, follow, walking, walk}
@@ -78,7 +78,7 @@ module _ (a : Address) where
   row_of_point_lem d (l ∷ boxes) = by (same (own l.table) a) (row_of_point_lem d boxes)
     where
       by : (test : Bool) → row_of_point (tables_of boxes) a d ≡ row_of d (box_of a boxes)
-          → cond test (row_for l.table d) (row_of_point (tables_of boxes) a d) ≡ row_of d (cond test (some l) (box_of a boxes))
+          → cond test (row_for l.table d) (row_of_point (tables_of boxes) a d) ≡ row_of d (cond test (Some l) (box_of a boxes))
       by true rest = refl
       by false rest = rest
 
@@ -88,20 +88,20 @@ module _ (a : Address) where
   is_point (l ∷ boxes) = by (same (own l.table) a) (is_point boxes)
     where
       by : (test : Bool) → contains (points (tables_of boxes)) a ≡ is_some (box_of a boxes)
-          → (test || contains (points (tables_of boxes)) a) ≡ is_some (cond test (some l) (box_of a boxes))
+          → (test || contains (points (tables_of boxes)) a) ≡ is_some (cond test (Some l) (box_of a boxes))
       by true rest = refl
       by false rest = rest
 
 -- ---- a step of the walk along active rows is a step of the walk along valid rows
 
-active_is_valid : (c : ℕ) (b : Address) (o : Option Row) → active_next c o ≡ some b → valid_next o ≡ some b
+active_is_valid : (c : ℕ) (b : Address) (o : Option Row) → active_next c o ≡ Some b → valid_next o ≡ Some b
 unfolding active_next active
-active_is_valid c b none e = e
-active_is_valid c b (some r) e = by (eqb r.status 1) (ltb c r.expiry) e
+active_is_valid c b None e = e
+active_is_valid c b (Some r) e = by (eqb r.status 1) (ltb c r.expiry) e
   where
-    by : (valid early : Bool) → cond (valid && early) (some r.next) none ≡ some b → cond valid (some r.next) none ≡ some b
+    by : (valid early : Bool) → cond (valid && early) (Some r.next) None ≡ Some b → cond valid (Some r.next) None ≡ Some b
     by true true e = e
-    by true false e = absurd (none-ne-some b e)
+    by true false e = absurd (none-some b e)
     by false early e = e
 
 module _ (m : Mesh) (c : ℕ) (d : Address) where
@@ -112,27 +112,27 @@ module _ (m : Mesh) (c : ℕ) (d : Address) where
   abbrev IsPoint : Address → Type 0
   IsPoint a = is_some (box_of a m.boxes) ≡ true
 
-  next_at_lem : (a b : Address) → active_next c (row_of_point tables a d) ≡ some b → next_at m d a ≡ some b
+  next_at_lem : (a b : Address) → active_next c (row_of_point tables a d) ≡ Some b → next_at m d a ≡ Some b
   unfolding next_at
   next_at_lem a b e = go (box_of a m.boxes) (active_is_valid c b (row_of d (box_of a m.boxes)) (rw (row_of_point_lem a d m.boxes) at e))
     where
-      go : (o : Option Lent) → valid_next (row_of d o) ≡ some b → next_in m d o ≡ some b
-      go none e = e
-      go (some l) e = e
+      go : (o : Option Lent) → valid_next (row_of d o) ≡ Some b → next_in m d o ≡ Some b
+      go None e = e
+      go (Some l) e = e
 
   -- The next hop o is b, and b is the destination or a point.
   record Led (o : Option Address) (b : Address) : Type 0 where
-    next : o ≡ some b
+    next : o ≡ Some b
     known : (same b d || is_some (box_of b m.boxes)) ≡ true
 
-  led : (o : Option Address) (b : Address) → leads_to tables c d o ≡ some b → Led o b
+  led : (o : Option Address) (b : Address) → leads_to tables c d o ≡ Some b → Led o b
   unfolding leads_to
-  led none b e = absurd (none-ne-some b e)
-  led (some x) b e = by (same x d || contains (points tables) x) refl e
+  led None b e = absurd (none-some b e)
+  led (Some x) b e = by (same x d || contains (points tables) x) refl e
     where
-      by : (test : Bool) → (same x d || contains (points tables) x) ≡ test → cond test (some x) none ≡ some b → Led (some x) b
-      by true q e = subst (λ (y : Address). Led (some x) y) (some-injective x b e) (record { next = refl; known = rw (is_point x m.boxes) at q })
-      by false q e = absurd (none-ne-some b e)
+      by : (test : Bool) → (same x d || contains (points tables) x) ≡ test → cond test (Some x) None ≡ Some b → Led (Some x) b
+      by true q e = subst (λ (y : Address). Led (Some x) y) (same_Some x b e) (record { next = refl; known = rw (is_point x m.boxes) at q })
+      by false q e = absurd (none-some b e)
 
   -- A walk that has reached the destination answers 0.
   arrives : (remaining : ℕ) (a : Address) (hops : ℕ) → same a d ≡ true → follow tables c d remaining a hops ≡ arrived hops
@@ -166,8 +166,8 @@ module _ (m : Mesh) (c : ℕ) (d : Address) where
       on : (o : Option Address) → leads_to tables c d (active_next c (row_of_point tables a d)) ≡ o
           → ((b : Address) (hops : ℕ) → IsPoint b → EndsOrMeets remaining b (follow tables c d remaining b hops))
           → EndsOrMeets (suc remaining) a (go_on tables c d o hops (follow tables c d remaining))
-      on none e rest = inl (inr refl)
-      on (some b) e rest = further b (led _ b e) (same b d) refl rest
+      on None e rest = inl (inr refl)
+      on (Some b) e rest = further b (led _ b e) (same b d) refl rest
 
   -- Every address that a walk meets is the address of a point.
   all_points : (hops : ℕ) (a : Address) → All IsPoint (met m d hops a)
@@ -176,8 +176,8 @@ module _ (m : Mesh) (c : ℕ) (d : Address) where
   all_points (suc hops) a = cond_cases (All IsPoint) (is_some (box_of a m.boxes)) (λ e. (e, rest (next_at m d a) (all_points hops))) (λ _. tt)
     where
       rest : (o : Option Address) → ((b : Address) → All IsPoint (met m d hops b)) → All IsPoint (met_by m d o (met m d hops))
-      rest none h = tt
-      rest (some b) h = h b
+      rest None h = tt
+      rest (Some b) h = h b
 
   -- All tables have one length, and no walk along valid rows meets a point twice.
   module _ (long : ℕ) (alike : All (λ (l : Lent). length l.table ≡ long) m.boxes)
@@ -197,7 +197,7 @@ module _ (m : Mesh) (c : ℕ) (d : Address) where
         (ends_or_meets (length m.boxes) a 0 point)
 
     -- An accepted walk starts at a point, because refusal 10 did not apply.
-    walk_ends : (from : Address) (w : Walked) → walk_over m c from d ≡ accepted w → Ends w
+    walk_ends : (from : Address) (w : Walked) → walk_over m c from d ≡ Ok w → Ends w
     unfolding walk_over walk
     walk_ends from w e =
         let s : List ℕ = flat_map (λ (l : Lent). l.table) m.boxes in
@@ -227,7 +227,7 @@ fresh_lengths rows (p ∷ points) h =
 module _ (d : Address) (base : ℕ) (small : base < 2 ^ 32) (points : List Point) (events : List Event) (fit : all event_fits events ≡ true)
     (within : throughout (happen decision) (all_within d base) (start points) events ≡ true) where
   pub never_too_long : (rows : ℕ) → All (λ (p : Point). p.rows ≡ rows) points → (c : ℕ) (from : Address) (w : Walked)
-      → walk_over (run (happen decision) (start points) events) c from d ≡ accepted w → (w.answer ≡ 0) ⊎ (w.answer ≡ 41)
+      → walk_over (run (happen decision) (start points) events) c from d ≡ Ok w → (w.answer ≡ 0) ⊎ (w.answer ≡ 41)
   never_too_long rows alike c =
       let m : Mesh = run (happen decision) (start points) events in
       let long = (ends_good d base small points events fit within).long in

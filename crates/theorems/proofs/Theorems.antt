@@ -1,4 +1,5 @@
 -- The theorems about the rules of `docs/PROTOCOL.md` and about its bench. `specs/Statements.antt` has the statements.
+use Rattle.std.specs.Prelude.{Err, Ok}
 use Prim.Native.Nat.{ℕ}
 use mathlib.Core.Path.{◌≡◌, refl, sym, ap, ◌∙◌}
 use mathlib.Core.List.{List, map, flat_map}
@@ -6,7 +7,7 @@ use lib.ListN.{length}
 use Rattle.table.proofs.WellFormed.{true_not_false, false_of, legal_is}
 use Rattle.element.specs.Entries.{All}
 use Rattle.element.proofs.ReadBack.{passes_6, passes_7, passes_8}
-use Rattle.rules.specs.Decision.{Decision, refused, accepted}
+use Rattle.rules.specs.Decision.{Decision}
 use Rattle.rules.specs.Exit.{Frame, Effect, at_exit, frames_in, frames_at, element_in, read_frame}
 use Rattle.rules.specs.Receive.{is_stale, receive}
 use Rattle.rules.specs.Break.{broken_off, break_neighbour}
@@ -88,8 +89,8 @@ reads_back l octets output call fit x ends = by (decision l (length output) call
   where
     by : (d : Decision Effect) → decision l (length output) call ≡ d → at_exit l output d ≡ x
         → All (λ (s : List ℕ). ReadsAsElement (element_in s)) (frames_at x)
-    by (refused n) is ends = rw (← ends) tt
-    by (accepted e) is ends =
+    by (Err n) is ends = rw (← ends) tt
+    by (Ok e) is ends =
         rw (← ends, cut_output output e.frames (output_room l octets output call fit e is))
         (all_map (λ (s : List ℕ). ReadsAsElement (element_in s)) FrameFits written reads_written e.frames
         (call_kept l octets (length output) call fit e is).frames)

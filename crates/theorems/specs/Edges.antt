@@ -1,6 +1,7 @@
 -- Defines three lists of tests of the definitions: `edges` for P1 to P8, `shut_out` for the trainees' errors, and
 -- `further_cases` for U1 to U6. PROTOCOL, 'Edges'. Tables and elements are octets.
-use Rattle.std.specs.Prelude.{ℕ, ◌+◌, ◌-◌, ◌*◌, Bool, true, false, ◌&&◌, ◌||◌, not}
+use Rattle.refusals.specs.Numbers.{number_of}
+use Rattle.std.specs.Prelude.{ℕ, ◌+◌, ◌-◌, ◌*◌, Bool, true, false, ◌&&◌, ◌||◌, not, Err, Ok}
 use Rattle.std.specs.Prelude.{List, [], ◌∷◌, ◌++◌, eqb, length, get_or, set, drop}
 use Rattle.octets.specs.LittleEndian.{number_octets, zeros}
 use Rattle.counters.specs.Numbers.{newer, older}
@@ -20,8 +21,8 @@ use Rattle.element.specs.Layout.{fits}
 use Rattle.element.specs.Entries.{each}
 use Rattle.element.specs.Lists.{all_ones}
 use Rattle.element.specs.Octets.{wrong_length, other_id, misfit, write_element}
-use Rattle.rules.specs.Decision.{Decision, refused, accepted}
-use Rattle.rules.specs.Lists.{all, is_some_and}
+use Rattle.rules.specs.Decision.{Decision}
+use Rattle.rules.specs.Lists.{is_some_and, all}
 use Rattle.rules.specs.Exit.{Frame, lend, Effect, least_output}
 use Rattle.rules.specs.Errors.{own_error}
 use Rattle.rules.specs.Receive.{receive}
@@ -150,13 +151,13 @@ fitting long s = eqb (get_or s 1 0) long && not (wrong_length s || other_id s ||
 
 -- Reports whether a call is refused with n.
 abbrev refused_with : ℕ → Decision Effect → Bool
-refused_with n (refused m) = eqb m n
-refused_with n (accepted e) = false
+refused_with n (Err r) = eqb (number_of r) n
+refused_with n (Ok e) = false
 
 -- Reports whether a call is accepted and its effect passes this test.
 abbrev accepted_with : (Effect → Bool) → Decision Effect → Bool
-accepted_with test (refused m) = false
-accepted_with test (accepted e) = test e
+accepted_with test (Err m) = false
+accepted_with test (Ok e) = test e
 
 -- Reports whether an effect leaves the originator a row with this status, number n and this metric.
 abbrev leaves_row : ℕ → ℕ → ℕ → Effect → Bool

@@ -5,10 +5,10 @@
 --   points_fit, event_fits                  what demand 3 asks of points and of operands
 --   after_call, happen, run, throughout     the mesh after a call, an event and a list of events; a test passed all along
 --   valid_next, next_at, met                the next hop of a valid row; the points that the walk along valid rows meets
-use Rattle.std.specs.Prelude.{ℕ, zero, suc, ◌+◌, ◌*◌, ◌^◌, Bool, true, ◌&&◌, not, cond, eqb, leb, ltb, length}
+use Rattle.rules.specs.Lists.{all}
+use Rattle.std.specs.Prelude.{ℕ, zero, suc, ◌+◌, ◌*◌, ◌^◌, Bool, true, ◌&&◌, not, cond, eqb, leb, ltb, length, Err, Ok}
+use Rattle.std.specs.Prelude.{Option, None, Some, is_some, slice_get}
 use mathlib.Core.List.{List, [], ◌∷◌, ◌++◌, map, flat_map}
-use Rattle.std.proofs.Math.Option.{Option, none, some}
-use Rattle.std.proofs.Math.ListN.{get_elem?}
 use Rattle.counters.specs.declared.SequenceNumber.{SequenceNumber}
 use Rattle.counters.specs.declared.Metric.{Metric}
 use Rattle.layout.specs.declared.address.Address.{Address}
@@ -17,8 +17,7 @@ use Rattle.layout.specs.Address.{individual, same}
 use Rattle.table.specs.Table.{own, row_for, fresh}
 use Rattle.element.specs.Octets.{write_element}
 use Rattle.element.specs.Lists.{has_duplicate}
-use Rattle.rules.specs.Lists.{all, is_some}
-use Rattle.rules.specs.Decision.{Decision, refused, accepted}
+use Rattle.rules.specs.Decision.{Decision}
 use Rattle.rules.specs.Exit.{Frame, Lent, lend, Effect}
 use Rattle.rules.specs.Calls.{OwnCall, asks, announces, requests_as_root, breaks, Call}
 use Rattle.rules.specs.Walk.{Walked, walk}
@@ -56,8 +55,8 @@ start points = record { boxes = map fresh_box points; log = [] }
 
 -- Returns what the point with own address a lends, or none if there is no point a.
 unfoldable pub box_of : Address → List Lent → Option Lent
-box_of a [] = none
-box_of a (l ∷ boxes) = cond (same (own l.table) a) (some l) (box_of a boxes)
+box_of a [] = None
+box_of a (l ∷ boxes) = cond (same (own l.table) a) (Some l) (box_of a boxes)
 
 -- Returns the list with k in place of what the point with own address a lends.
 unfoldable pub with_box : Address → Lent → List Lent → List Lent
@@ -86,16 +85,16 @@ pub record Event : Type 0 where
 
 -- Returns the call that receives an element of the log at clock c, or none if there is no element.
 abbrev pub delivery_of : ℕ → Metric → Option Sent → Option Call
-delivery_of c link none = none
-delivery_of c link (some s) = some (Call.receives (record { clock = c; transmitter = s.sender; link = link }) s.octets)
+delivery_of c link None = None
+delivery_of c link (Some s) = Some (Call.receives (record { clock = c; transmitter = s.sender; link = link }) s.octets)
 
 -- Returns the call that may write the table of the point. There is none if the log has no element at the place. There is none
 -- for a next hop or a walk either: `next_hop` and `walk` of crate `rules` leave no table.
 unfoldable pub call_of : List Sent → Action → Option Call
-call_of log (delivers place c link) = delivery_of c link (get_elem? log place)
-call_of log (makes call) = some (Call.makes call)
-call_of log (finds_next_hop c d) = none
-call_of log (walks c from d) = none
+call_of log (delivers place c link) = delivery_of c link (slice_get log place)
+call_of log (makes call) = Some (Call.makes call)
+call_of log (finds_next_hop c d) = None
+call_of log (walks c from d) = None
 
 -- Returns the decision on a walk over the tables of all points, side by side in the order of the points.
 unfoldable pub walk_over : Mesh → ℕ → Address → Address → Decision Walked
@@ -142,8 +141,8 @@ sent_by a frames = map (λ (f : Frame). record { sender = a; octets = write_elem
 -- Returns the mesh after a call of the point a. A refused call changes nothing. An accepted call replaces what the point lends,
 -- and adds the elements of its frames to the end of the log.
 unfoldable pub after_call : Mesh → Address → Decision Effect → Mesh
-after_call m a (refused n) = m
-after_call m a (accepted e) = record { boxes = with_box a e.lent m.boxes; log = m.log ++ sent_by a e.frames }
+after_call m a (Err n) = m
+after_call m a (Ok e) = record { boxes = with_box a e.lent m.boxes; log = m.log ++ sent_by a e.frames }
 
 -- Rules by which points act: the decision on a call, given what the call is lent and the length of its output. `LoopFree` is
 -- about the rules of `docs/PROTOCOL.md`, `decision` of crate `rules`. Each counterexample of `Runs.antt` is about wrong rules.
@@ -154,9 +153,9 @@ module _ (rules : Rules) where
   -- Returns the mesh after a call. The mesh stays as it was if the point lends nothing, because it is no point of the mesh, or if
   -- there is no call.
   abbrev pub calls : Mesh → Event → Option Lent → Option Call → Mesh
-  calls m e none call = m
-  calls m e (some l) none = m
-  calls m e (some l) (some call) = after_call m e.point (rules l e.room call)
+  calls m e None call = m
+  calls m e (Some l) None = m
+  calls m e (Some l) (Some call) = after_call m e.point (rules l e.room call)
 
   -- Returns the mesh after one event: the point with the address of the event, if there is one, makes the call.
   unfoldable pub happen : Mesh → Event → Mesh
@@ -181,14 +180,14 @@ module _ {K : Type 0} (happens : Mesh → K → Mesh) where
 
 -- Returns the next hop of a row that is there and valid, or none.
 abbrev pub valid_next : Option Row → Option Address
-valid_next none = none
-valid_next (some r) = cond (eqb r.status 1) (some r.next) none
+valid_next None = None
+valid_next (Some r) = cond (eqb r.status 1) (Some r.next) None
 
 module _ (m : Mesh) (d : Address) where
   -- Returns the next hop of the valid row for d in the table of a point, or none.
   abbrev pub next_in : Option Lent → Option Address
-  next_in none = none
-  next_in (some l) = valid_next (row_for l.table d)
+  next_in None = None
+  next_in (Some l) = valid_next (row_for l.table d)
 
   -- Returns the next hop of the valid row for d in the table of the point a, or none.
   unfoldable pub next_at : Address → Option Address
@@ -196,8 +195,8 @@ module _ (m : Mesh) (d : Address) where
 
   -- Returns what a walk meets from this next hop on, or nothing if there is no next hop.
   abbrev pub met_by : Option Address → (Address → List Address) → List Address
-  met_by none further = []
-  met_by (some b) further = further b
+  met_by None further = []
+  met_by (Some b) further = further b
 
   -- Returns the points that a walk from a towards d meets in at most this many hops, a included. The walk ends at a point
   -- without a valid row for d, and before a next hop that is no point. It ends at d too, because d has no row for itself.

@@ -1,7 +1,7 @@
 -- Defines the premise of demand 3: all numbers held or carried for a destination lie in one window. PROTOCOL, 'Demands'.
-use Rattle.std.specs.Prelude.{ℕ, ◌^◌, Bool, cond, eqb, ltb}
+use Rattle.rules.specs.Lists.{all}
+use Rattle.std.specs.Prelude.{ℕ, ◌^◌, Bool, cond, eqb, ltb, Option, None, Some}
 use mathlib.Core.List.{List, [], ◌∷◌, ◌++◌, flat_map}
-use Rattle.std.proofs.Math.Option.{Option, none, some}
 use Rattle.counters.specs.Numbers.{wrapped}
 use Rattle.counters.specs.declared.SequenceNumber.{SequenceNumber}
 use Rattle.layout.specs.declared.address.Address.{Address}
@@ -15,7 +15,6 @@ use Rattle.element.specs.declared.Target.{Target}
 use Rattle.element.specs.Element.{Element, rann, rreq, rrep, rerr}
 use Rattle.element.specs.Flags.{number_unknown}
 use Rattle.element.specs.Octets.{read_element}
-use Rattle.rules.specs.Lists.{all}
 use Rattle.rules.specs.Exit.{Lent}
 use Rattle.theorems.specs.Mesh.{Sent, Mesh}
 
@@ -25,8 +24,8 @@ beside d a n = cond (same a d) (n ∷ []) []
 
 -- Returns the number of a row if the row is there and its number is known.
 abbrev pub known_in : Option Row → List SequenceNumber
-known_in none = []
-known_in (some r) = cond (eqb r.known 1) (r.number ∷ []) []
+known_in None = []
+known_in (Some r) = cond (eqb r.known 1) (r.number ∷ []) []
 
 -- Returns the numbers held for d in the table t: the own number if t is the table of d, and the number of the row for d, valid
 -- or not, if it is known.

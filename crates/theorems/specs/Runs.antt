@@ -14,15 +14,16 @@
 -- Comments in the runs name elements by their place in the log: 'A forwards 1' says that the element that A forwards is element
 -- 1. 'A 1/5 via D' says that the row of A for D now has number 1, metric 5 and next hop D. 'largest' is the metric
 -- 4,294,967,295.
-use Rattle.std.specs.Prelude.{ℕ, ◌+◌, ◌-◌, ◌*◌, ◌^◌, Bool, true, false, ◌&&◌, List, [], ◌∷◌, ◌++◌, map, eqb, ltb, length, take}
-use Rattle.std.proofs.Math.Option.{Option, none, some}
+use Rattle.refusals.specs.Numbers.{number_of}
+use Rattle.rules.specs.Lists.{all}
+use Rattle.std.specs.Prelude.{ℕ, ◌+◌, ◌-◌, ◌*◌, ◌^◌, Bool, true, false, ◌&&◌, List, [], ◌∷◌, ◌++◌, map, eqb, ltb, length}
+use Rattle.std.specs.Prelude.{take, Err, Ok, Option, None, Some}
 use Rattle.octets.specs.LittleEndian.{number_octets}
 use Rattle.counters.specs.declared.SequenceNumber.{SequenceNumber}
 use Rattle.layout.specs.declared.address.Address.{Address}
 use Rattle.layout.specs.Address.{same}
 use Rattle.element.specs.Lists.{has_duplicate}
-use Rattle.rules.specs.Lists.{all}
-use Rattle.rules.specs.Decision.{Decision, refused, accepted}
+use Rattle.rules.specs.Decision.{Decision}
 use Rattle.rules.specs.Exit.{Lent, lend, with_table, Effect, Exit, at_exit, least_output}
 use Rattle.rules.specs.Fresh.{make_fresh}
 use Rattle.rules.specs.Forget.{forget}
@@ -176,8 +177,8 @@ abbrev pub call_line : Decision Effect → List ℕ
 call_line o = let x : Exit = at_exit (lend []) [] o in x.answer ∷ x.frames ∷ []
 
 abbrev pub hop_line : Decision Address → List ℕ
-hop_line (refused n) = n ∷ 0 ∷ []
-hop_line (accepted next) = 0 ∷ next.0 ∷ []
+hop_line (Err r) = number_of r ∷ 0 ∷ []
+hop_line (Ok next) = 0 ∷ next.0 ∷ []
 
 abbrev pub walk_line : Decision Walked → List ℕ
 walk_line o = let w : Walked = walked_at_exit o in w.answer ∷ w.hops ∷ []
@@ -185,16 +186,16 @@ walk_line o = let w : Walked = walked_at_exit o in w.answer ∷ w.hops ∷ []
 module _ (rules : Rules) where
   -- Returns the two numbers of a delivery. They are 0 and 0 if the log has no element at the place.
   abbrev pub delivery_line : Lent → ℕ → Option Call → List ℕ
-  delivery_line l room none = 0 ∷ 0 ∷ []
-  delivery_line l room (some call) = call_line (rules l room call)
+  delivery_line l room None = 0 ∷ 0 ∷ []
+  delivery_line l room (Some call) = call_line (rules l room call)
 
   -- Returns the two numbers of an action. They are 0 and 0 if there is no point with the address.
   abbrev pub line_at : Mesh → ℕ → Option Lent → Action → List ℕ
-  line_at m room none action = 0 ∷ 0 ∷ []
-  line_at m room (some l) (delivers place c link) = delivery_line l room (call_of m.log (delivers place c link))
-  line_at m room (some l) (makes call) = call_line (rules l room (Call.makes call))
-  line_at m room (some l) (finds_next_hop c d) = hop_line (next_hop l.table c d)
-  line_at m room (some l) (walks c from d) = walk_line (walk_over m c from d)
+  line_at m room None action = 0 ∷ 0 ∷ []
+  line_at m room (Some l) (delivers place c link) = delivery_line l room (call_of m.log (delivers place c link))
+  line_at m room (Some l) (makes call) = call_line (rules l room (Call.makes call))
+  line_at m room (Some l) (finds_next_hop c d) = hop_line (next_hop l.table c d)
+  line_at m room (Some l) (walks c from d) = walk_line (walk_over m c from d)
 
   unfoldable pub lines_from : Mesh → List Event → List ℕ
   lines_from m [] = []
@@ -451,13 +452,13 @@ pub data WiderEvent : Type 0 where
 
 -- Returns the mesh after the point a, which lends l, has called fresh or forget on its table, given the decision on the call.
 abbrev pub after_table_call : Mesh → Address → Lent → Decision (List ℕ) → Mesh
-after_table_call m a l (refused n) = m
-after_table_call m a l (accepted t) = record { boxes = with_box a (with_table t l) m.boxes; log = m.log }
+after_table_call m a l (Err n) = m
+after_table_call m a l (Ok t) = record { boxes = with_box a (with_table t l) m.boxes; log = m.log }
 
 -- Returns the mesh after the point a has called fresh or forget. The mesh stays as it was if there is no point a.
 abbrev pub table_called : Mesh → Address → (List ℕ → Decision (List ℕ)) → Option Lent → Mesh
-table_called m a call none = m
-table_called m a call (some l) = after_table_call m a l (call l.table)
+table_called m a call None = m
+table_called m a call (Some l) = after_table_call m a l (call l.table)
 
 -- Returns the mesh after one event under the rules.
 unfoldable pub happen_wider : Mesh → WiderEvent → Mesh

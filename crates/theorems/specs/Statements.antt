@@ -26,7 +26,8 @@
 --   accepted e                 the call is accepted; its effect e is the `Lent` that it leaves and the frames that it emits
 --   read_element s             the element that the octets s are read as; `rreq f targets` is a RREQ with these destinations
 --   at_exit l output decision  answer, frames and octets reported, and all lent octets, when the call has ended
-use Rattle.std.specs.Prelude.{ℕ, ◌+◌, ◌^◌, ◌<◌, ◌≤◌, ◌≡◌, true, false, ◌⊎◌, length, take}
+use Rattle.rules.specs.Lists.{all, any}
+use Rattle.std.specs.Prelude.{ℕ, ◌+◌, ◌^◌, ◌<◌, ◌≤◌, ◌≡◌, true, false, ◌⊎◌, length, take, Ok}
 use mathlib.Core.List.{List, ◌∷◌, ◌++◌, map, flat_map}
 use Rattle.octets.specs.LittleEndian.{Octets}
 use Rattle.counters.specs.declared.SequenceNumber.{SequenceNumber}
@@ -42,8 +43,6 @@ use Rattle.element.specs.Entries.{All}
 use Rattle.element.specs.Flags.{number_unknown}
 use Rattle.element.specs.Octets.{wrong_length, other_id, misfit, read_element}
 use Rattle.element.specs.Lists.{has_duplicate}
-use Rattle.rules.specs.Decision.{accepted}
-use Rattle.rules.specs.Lists.{all, any}
 use Rattle.rules.specs.declared.Arrival.{Arrival}
 use Rattle.rules.specs.Exit.{Frame, Lent, Effect, frame_octets, least_output, Exit, at_exit, frames_at, element_in, read_frame}
 use Rattle.rules.specs.Fresh.{make_fresh}
@@ -97,7 +96,7 @@ UnknownJustSteps =
     (l : Lent) → Octets l.table → (room : ℕ) (a : Arrival) (s : List ℕ) → OperandsFit (receives a s)
     → (f : RreqFields) (before after : List Target) (q : Target) → read_element s ≡ rreq f (before ++ q ∷ after)
     → same q.address (own l.table) ≡ true → number_unknown q ≡ true
-    → (e : Effect) → decision l room (receives a s) ≡ accepted e
+    → (e : Effect) → decision l room (receives a s) ≡ Ok e
     → number e.lent.table ≡ next_number (number l.table)
 
 -- `keeps_the_mark`: Each destination k that a point keeps of a destination q, to forward it, has the address, the number and the
@@ -112,7 +111,7 @@ KeepsTheMark =
 -- refuses (10) a frame of another point because of the mark.
 abbrev pub OnlyZeroIsUnknown : Type 0
 OnlyZeroIsUnknown =
-    (l : Lent) (room : ℕ) (call : Call) (e : Effect) → decision l room call ≡ accepted e
+    (l : Lent) (room : ℕ) (call : Call) (e : Effect) → decision l room call ≡ Ok e
     → All (λ (f : Frame). any is_mismarked (targets_of f.element) ≡ false) e.frames
 
 -- ---- stays a table
@@ -123,7 +122,7 @@ OnlyZeroIsUnknown =
 abbrev pub StaysTable : Type 0
 StaysTable =
     (l : Lent) → Octets l.table → (room : ℕ) (call : Call) → OperandsFit call
-    → (e : Effect) → decision l room call ≡ accepted e
+    → (e : Effect) → decision l room call ≡ Ok e
     → Octets e.lent.table × (is_table e.lent.table ≡ true) × (length e.lent.table ≡ length l.table)
 
 -- `fresh_is_a_table`: If the call for a fresh table is accepted, it leaves a table of octets that passes refusal 21 and is as
@@ -131,13 +130,13 @@ StaysTable =
 abbrev pub FreshIsTable : Type 0
 FreshIsTable =
     (t u : List ℕ) (own : Address) (number : SequenceNumber) → own.0 < 256 ^ 6 → number.0 < 256 ^ 4
-    → make_fresh t own number ≡ accepted u → Octets u × (is_table u ≡ true) × (length u ≡ length t)
+    → make_fresh t own number ≡ Ok u → Octets u × (is_table u ≡ true) × (length u ≡ length t)
 
 -- `forget_stays_a_table`: If a forget is accepted, it leaves a table of octets that passes refusal 21 and is as long as before.
 -- This holds for any octets as the table and for any destination.
 abbrev pub ForgetStaysTable : Type 0
 ForgetStaysTable =
-    (t u : List ℕ) (d : Address) → Octets t → forget t d ≡ accepted u → Octets u × (is_table u ≡ true) × (length u ≡ length t)
+    (t u : List ℕ) (d : Address) → Octets t → forget t d ≡ Ok u → Octets u × (is_table u ≡ true) × (length u ≡ length t)
 
 -- ---- has room
 
@@ -146,7 +145,7 @@ ForgetStaysTable =
 abbrev pub HasRoom : Type 0
 HasRoom =
     (l : Lent) → Octets l.table → (room : ℕ) (call : Call) → OperandsFit call
-    → (e : Effect) → decision l room call ≡ accepted e
+    → (e : Effect) → decision l room call ≡ Ok e
     → length (frame_octets e.frames) ≤ least_output
 
 -- ---- frames in the output
@@ -157,7 +156,7 @@ HasRoom =
 abbrev pub FramesInOutput : Type 0
 FramesInOutput =
     (l : Lent) → Octets l.table → (output : List ℕ) (call : Call) → OperandsFit call
-    → (e : Effect) → decision l (length output) call ≡ accepted e
+    → (e : Effect) → decision l (length output) call ≡ Ok e
     → (x : Exit) → at_exit l output (decision l (length output) call) ≡ x
     → (map read_frame (frames_at x) ≡ e.frames) × (flat_map (λ (s : List ℕ). s) (frames_at x) ≡ take x.octets x.output)
 
@@ -179,7 +178,7 @@ ReadsBack =
 
 -- `hops_at_most`: An accepted walk, whether it answers 0, 41 or 42, counts at most as many hops as there are points.
 abbrev pub HopsAtMost : Type 0
-HopsAtMost = (s : List ℕ) (count c : ℕ) (from d : Address) (w : Walked) → walk s count c from d ≡ accepted w → w.hops ≤ count
+HopsAtMost = (s : List ℕ) (count c : ℕ) (from d : Address) (w : Walked) → walk s count c from d ≡ Ok w → w.hops ≤ count
 
 -- ---- loop free: demand 3
 
@@ -216,7 +215,7 @@ NeverTooLong =
     → (d : Address) (base : ℕ) → base < 2 ^ 32
     → throughout (happen decision) (all_within d base) (start points) events ≡ true
     → (rows : ℕ) → All (λ (p : Point). p.rows ≡ rows) points
-    → (c : ℕ) (from : Address) (w : Walked) → walk_over (run (happen decision) (start points) events) c from d ≡ accepted w
+    → (c : ℕ) (from : Address) (w : Walked) → walk_over (run (happen decision) (start points) events) c from d ≡ Ok w
     → (w.answer ≡ 0) ⊎ (w.answer ≡ 41)
 
 -- ---- not vacuous

@@ -1,6 +1,7 @@
 -- These are NOT the rules. Each wrong rule changes one sentence of `docs/PROTOCOL.md` and is otherwise put together from the
 -- rules' own parts. The wrong rules serve only to show, by lists of calls (`Runs.antt`), that demand 3 excludes them. The first
 -- and the third are errors of trainees (PROTOCOL, 'Edges').
+use Rattle.refusals.specs.Numbers.{number_of}
 use Rattle.std.specs.Prelude.{ℕ, Bool, true, false, not, ◌&&◌, cond, List, map, eqb, ltb}
 use Rattle.layout.specs.declared.address.Address.{Address}
 use Rattle.layout.specs.declared.row.Row.{Row}
@@ -20,11 +21,12 @@ use Rattle.theorems.specs.Mesh.{Rules}
 
 -- ---- the rules with one thing changed
 
--- Returns a ruling in which the check number n has another test. The other checks and the effect stay.
+-- Returns a ruling in which the check of the refusal with number n has another test. The other checks and the effect stay.
 abbrev pub with_check : {A : Type 0} → ℕ → Bool → Ruling A → Ruling A
 with_check n test r =
     record {
-      checks = map (λ (k : Check). cond (eqb k.number n) (record { number = n; applies = test }) k) r.checks;
+      checks =
+          map (λ (k : Check). cond (eqb (number_of k.refusal) n) (record { refusal = k.refusal; applies = test }) k) r.checks;
       otherwise = r.otherwise;
     }
 

@@ -1,6 +1,6 @@
 -- `table::legal::rows_pass_by` meets its contract. Invariant: every row before the current one passes, and its destination is
 -- marked.
-use Rattle.std.proofs.Common.{◌+◌, ◌≤◌, ◌-◌, ◌≡◌, true, length}
+use Rattle.std.proofs.Common.{◌+◌, ◌≡◌, true, length}
 use Rattle.table.specs.Places.{every}
 use Rattle.table.specs.Table.{passes}
 use Rattle.layout.proofs.Marks.{Marked}
@@ -9,8 +9,5 @@ use Rattle.table.proofs.legal.rows_pass_by.Given as goal
 
 abbrev pub invariant-loop-i : goal.invariant-loop-i
 invariant-loop-i l =
-    (l.i ≤ l.n) × (length l.seen ≡ l.last + 1) × Marked (destination_in l.table) l.seen l.last 0 l.i
+    (length l.seen ≡ l.last + 1) × Marked (destination_in l.table) l.seen l.last 0 l.i
     × (every (passes l.table l.own) l.i ≡ true)
-
-abbrev pub decreases-loop-i : goal.decreases-loop-i
-decreases-loop-i l = l.n - l.i

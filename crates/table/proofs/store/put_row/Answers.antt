@@ -5,8 +5,8 @@ use Rattle.table.proofs.store.put_row.Goals as goal
 pub write_row-requires : goal.write_row-requires
 write_row-requires c = search place_within
 
-pub returns-in-At : goal.returns-in-At
-returns-in-At c = search stored_row
+pub returns-in-Some : goal.returns-in-Some
+returns-in-Some c = search stored_row
 
-pub returns-in-Nothing : goal.returns-in-Nothing
-returns-in-Nothing c = search stored_none
+pub returns-in_default : goal.returns-in_default
+returns-in_default c = search stored_none
