@@ -1,5 +1,7 @@
 -- Laws of an ask, as the proofs of its functions need them: the search through its items, its destinations as they are
 -- written, and the exit.
+use Rattle.refusals.specs.declared.Refusal.{Refusal}
+use Rattle.std.specs.Prelude.{Ok, ⊤, Err, Option, Some, None}
 use Prim.Native.Nat.{ℕ, ◌+◌, ◌-◌, ◌*◌, ◌/◌, ◌%◌, ◌<◌, ◌≤◌}
 use mathlib.Core.Path.{◌≡◌, refl, sym, ap, ◌∙◌}
 use mathlib.Core.Bool.{Bool, true, ◌&&◌, and-eq-true_iff}
@@ -12,8 +14,6 @@ use Rattle.octets.specs.LittleEndian.{overwrite}
 use Rattle.layout.specs.declared.address.Address.{Address}
 use Rattle.layout.specs.declared.row.Head.{Head}
 use Rattle.layout.specs.declared.row.Row.{Row}
-use Rattle.table.specs.declared.search.Found.{Found}
-use Rattle.table.specs.declared.search.Found.TheVariants.{At, Nothing}
 use Rattle.layout.specs.Layout.{head_at, put_head, row_at, Sized}
 use Rattle.table.specs.Table.{own, find_row}
 use Rattle.table.proofs.Cases.{row_at_lem, row_none}
@@ -26,15 +26,12 @@ use Rattle.element.specs.Lists.{all_ones, contains}
 use Rattle.element.specs.Octets.{frame_start, write_frame}
 use Rattle.element.proofs.Scans.{each_length}
 use Rattle.writing.proofs.Written.{entries_more, target_length}
-use Rattle.rules.specs.Decision.{accepted, Check}
+use Rattle.rules.specs.Decision.{Check, Decision}
 use Rattle.rules.specs.Lists.{any}
 use Rattle.rules.specs.Exit.{lend, Exit, at_exit}
 use Rattle.rules.specs.Originate.{numbered_head, own_request, requested, items_fit, has_high_flags, with_known, without_known, asked_by, asked_for, item_checks, asking, ask}
 use Rattle.rules.proofs.AnyOf.{any_found, any_more}
 use Rattle.rules.proofs.Rulings.{listed, Passed, passed_check}
-use Rattle.calls.specs.declared.Outcome.{Outcome}
-use Rattle.calls.specs.declared.Answer.{Answer}
-use Rattle.calls.specs.declared.Answer.TheVariants.{Accepted, Refused}
 use Rattle.calls.specs.declared.Emitted.{Emitted}
 use Rattle.calls.specs.Answers.{answer_to, exit_of}
 use Rattle.calls.proofs.Checks.{table_sized, output_long, answer_passed, passed_first, refusal, acceptance}
@@ -51,12 +48,12 @@ module _ (s : List ℕ) (n i : ℕ) (g : Bool) (l : i < n) (x : Item) (xe : x �
 
 -- ---- a destination, by the row of its address
 
-module _ (t : List ℕ) (x : Item) (f : Found) (fe : f ≡ find_row t x.address) (q : Target) where
-  pub number_absent : f ≡ Nothing → q ≡ without_known x → q ≡ asked_for t x
+module _ (t : List ℕ) (x : Item) (f : Option ℕ) (fe : f ≡ find_row t x.address) (q : Target) where
+  pub number_absent : f ≡ None → q ≡ without_known x → q ≡ asked_for t x
   unfolding asked_for asked_by
   number_absent e qe = rw (row_none t x.address f fe e) qe
 
-  module _ (i : ℕ) (at_i : f ≡ At i) (r : Row) (re : r ≡ row_at t i) where
+  module _ (i : ℕ) (at_i : f ≡ Some i) (r : Row) (re : r ≡ row_at t i) where
     pub number_unknown : (r.known ≡ 1 → ⊥) → q ≡ without_known x → q ≡ asked_for t x
     unfolding asked_for asked_by
     number_unknown k qe = rw (row_at_lem t x.address f fe i at_i r re, ne_eqb r.known 1 k) qe
@@ -103,7 +100,7 @@ module _ (t s output u v : List ℕ) (octets : ℕ) (size : octets ≡ 34 + 11 *
   pub asked_exit : (lifetime : ℕ) (h₀ h : Head) → h₀ ≡ head_at t → h ≡ numbered_head true h₀
       → v ≡ overwrite output 0 (write_frame all_ones (rreq (own_request h 0 lifetime) (map (asked_for t) (items_in s)))) → u ≡ put_head t h
       → (em : Emitted) → em ≡ record { frames = 1; octets = octets }
-      → exit_of (Outcome.Accepted em) (lend u) v ≡ at_exit (lend t) output (accepted (requested (lend t) 0 lifetime (map (asked_for t) (items_in s))))
+      → exit_of (Ok em) (lend u) v ≡ at_exit (lend t) output (Ok (requested (lend t) 0 lifetime (map (asked_for t) (items_in s))))
   asked_exit lifetime h₀ h e₀ he ve ue =
       requested_exit t output u v 0 lifetime h₀ h e₀ he ue (map (asked_for t) (items_in s)) (length s / 7) (asked_many t s) ve octets size
 
@@ -114,22 +111,22 @@ pub own_named : (t : List ℕ) (h : Head) → h ≡ head_at t → (l : List Addr
 own_named t h he l b be v bv = ap (λ (k : Head). contains l k.own) (sym he) ∙ sym be ∙ bv
 
 -- If the checks of the items pass, the checks after them decide.
-pub items_passed : (s : List ℕ) (a : Answer) → a ≡ answer_to (item_checks s) → (checks : List Check) → a ≡ Accepted → (r : Answer) → r ≡ answer_to checks
+pub items_passed : (s : List ℕ) (a : Decision ⊤) → a ≡ answer_to (item_checks s) → (checks : List Check) → (done : ⊤) → a ≡ Ok done → (r : Decision ⊤) → r ≡ answer_to checks
     → r ≡ answer_to (item_checks s ++ checks)
 items_passed s = passed_first (item_checks s)
 
-module _ (t output s : List ℕ) (lifetime : ℕ) (a : Answer) (ae : a ≡ answer_to (asking (lend t) (length output) lifetime s).checks) where
-  module _ (ok : a ≡ Accepted) where
+module _ (t output s : List ℕ) (lifetime : ℕ) (a : Decision ⊤) (ae : a ≡ answer_to (asking (lend t) (length output) lifetime s).checks) where
+  module _ (done : ⊤) (ok : a ≡ Ok done) where
     ask_passed : Passed (asking (lend t) (length output) lifetime s).checks
-    ask_passed = answer_passed (asking (lend t) (length output) lifetime s).checks (sym ok ∙ ae)
+    ask_passed = answer_passed (asking (lend t) (length output) lifetime s).checks done (sym ok ∙ ae)
 
     pub ask_table_sized : Sized t
     unfolding asking
-    ask_table_sized = table_sized t output _ a ae ok
+    ask_table_sized = table_sized t output _ a ae done ok
 
     pub ask_output_long : 1560 ≤ length output
     unfolding asking
-    ask_output_long = output_long t output _ a ae ok
+    ask_output_long = output_long t output _ a ae done ok
 
     -- An accepted ask has 1 to 20 items.
     items_fit_lem : ((eqb (length s % 7) 0 && leb 7 (length s)) ≡ true) × (leb (length s) 140 ≡ true)
@@ -144,11 +141,11 @@ module _ (t output s : List ℕ) (lifetime : ℕ) (a : Answer) (ae : a ≡ answe
     pub items_few : length s ≤ 140
     items_few = leb-true (length s) 140 items_fit_lem.1
 
-  pub ask_refused : (n : ℕ) → a ≡ Refused n → exit_of (Outcome.Refused n) (lend t) output ≡ at_exit (lend t) output (ask (lend t) (length output) lifetime s)
+  pub ask_refused : (n : Refusal) → a ≡ Err n → exit_of (Err n) (lend t) output ≡ at_exit (lend t) output (ask (lend t) (length output) lifetime s)
   unfolding ask
   ask_refused = refusal (lend t) output (asking (lend t) (length output) lifetime s) a ae
 
-  pub ask_accepted : a ≡ Accepted → (x : Exit) → x ≡ at_exit (lend t) output (accepted (requested (lend t) 0 lifetime (map (asked_for t) (items_in s))))
+  pub ask_accepted : (done : ⊤) → a ≡ Ok done → (x : Exit) → x ≡ at_exit (lend t) output (Ok (requested (lend t) 0 lifetime (map (asked_for t) (items_in s))))
       → x ≡ at_exit (lend t) output (ask (lend t) (length output) lifetime s)
   unfolding asking ask
   ask_accepted = acceptance (lend t) output (asking (lend t) (length output) lifetime s) a ae

@@ -1,7 +1,7 @@
 // Ask: the point sends a RREQ of its own for 1 to 20 destinations.
 #![tactic(auto)]
 
-ghost use Rattle.std.specs.Prelude.{◌≡◌, ◌+◌, ◌*◌, ◌/◌, ◌≤◌, length};
+ghost use Rattle.std.specs.Prelude.{◌≡◌, ◌+◌, ◌*◌, ◌/◌, ◌≤◌, length, Ok};
 ghost use mathlib.Core.List.{flat_map, map};
 ghost use Rattle.octets.specs.LittleEndian.{overwrite};
 ghost use Rattle.layout.specs.Layout.{Sized};
@@ -9,7 +9,6 @@ ghost use Rattle.element.specs.Element.{rreq};
 ghost use Rattle.element.specs.Entries.{items_in, target_octets};
 ghost use Rattle.element.specs.Lists.{all_ones};
 ghost use Rattle.element.specs.Octets.{write_frame};
-ghost use Rattle.rules.specs.Decision.{accepted};
 ghost use Rattle.rules.specs.Lists.{any};
 ghost use Rattle.rules.specs.Exit.{at_exit, lend, least_output};
 ghost use Rattle.rules.specs.Exits.{ask_exit};
@@ -26,14 +25,14 @@ ghost use Rattle.rules.specs.Originate.{
 };
 ghost use Rattle.calls.specs.Answers.{answer_to, exit_of};
 
-use calls::{Answer, Emitted, Outcome};
+use calls::Emitted;
 use counters::SequenceNumber;
 use element::list::ListKind;
 use element::{Item, Target, flags, list};
 use layout::row;
 use layout::row::Head;
 use originate::common;
-use table::search::Found;
+use refusals::Refusal;
 use table::{legal, search};
 
 // Reports whether the octets are 1 to 20 items of 7 octets each.
@@ -47,65 +46,60 @@ fn has_high_flags(items: &[u8]) -> bool
     ensures { result ≡ any has_high_flags (items_in items.now) }
 {
     let n = items.len() / list::ITEM;
-    let mut i = 0;
-    while i < n {
+    for i in 0..n {
         if 3 < list::item_at(items, i).flags {
             return true;
         }
-        i += 1;
     }
     false
 }
 
 // Checks the items alone: refusals 8 to 10.
-fn check_items(items: &[u8]) -> Answer
+fn check_items(items: &[u8]) -> Result<(), Refusal>
     ensures { result ≡ answer_to (item_checks items.now) }
 {
     if !is_item_list(items) {
-        return Answer::Refused(refusals::BAD_COUNT);
+        return Err(Refusal::BadCount);
     }
     if list::has_forbidden(items, ListKind::Items) {
-        return Answer::Refused(refusals::BAD_ADDRESS);
+        return Err(Refusal::BadAddress);
     }
     if list::has_duplicate(items, ListKind::Items) | has_high_flags(items) {
-        return Answer::Refused(refusals::BAD_LIST);
+        return Err(Refusal::BadList);
     }
-    Answer::Accepted
+    Ok(())
 }
 
-fn check(table: &[u8], output: &[u8], lifetime: u32, items: &[u8]) -> Answer
+fn check(table: &[u8], output: &[u8], lifetime: u32, items: &[u8]) -> Result<(), Refusal>
     ensures { result ≡ answer_to
         (asking (lend table.now) (length output.now) lifetime items.now).checks }
 {
     if !legal::is_sized(table) {
-        return Answer::Refused(refusals::TABLE_LENGTH);
+        return Err(Refusal::TableLength);
     }
     if output.len() < calls::LEAST_OUTPUT {
-        return Answer::Refused(refusals::SHORT_OUTPUT);
+        return Err(Refusal::ShortOutput);
     }
-    if let Answer::Refused(n) = check_items(items) {
-        return Answer::Refused(n);
-    }
+    check_items(items)?;
     if lifetime == 0 {
-        return Answer::Refused(refusals::NO_LIFETIME);
+        return Err(Refusal::NoLifetime);
     }
     if !legal::is_table(table) {
-        return Answer::Refused(refusals::NOT_A_TABLE);
+        return Err(Refusal::NotATable);
     }
     if list::contains(items, ListKind::Items, row::read_head(table).own) {
-        return Answer::Refused(refusals::ABOUT_ITSELF);
+        return Err(Refusal::AboutItself);
     }
-    Answer::Accepted
+    Ok(())
 }
 
 // Returns the destination for an item whose number is known.
 fn with_known(item: Item, number: SequenceNumber) -> Target
     ensures { result ≡ with_known item number }
 {
-    let address = item.address;
     Target {
         flags: item.flags,
-        address,
+        address: item.address,
         number,
     }
 }
@@ -114,10 +108,9 @@ fn with_known(item: Item, number: SequenceNumber) -> Target
 fn without_known(item: Item) -> Target
     ensures { result ≡ without_known item }
 {
-    let address = item.address;
     Target {
         flags: flags::with_unknown(item.flags),
-        address,
+        address: item.address,
         number: SequenceNumber(0),
     }
 }
@@ -128,7 +121,7 @@ fn asked_for(table: &[u8], item: Item) -> Target
     requires { Sized table.now }
     ensures { result ≡ asked_for table.now item }
 {
-    let Found::At(i) = search::find_row(table, item.address) else {
+    let Some(i) = search::find_row(table, item.address) else {
         return without_known(item);
     };
     let r = row::read_row(table, i);
@@ -149,10 +142,8 @@ fn write_targets(output: &mut [u8], at: usize, table: &[u8], items: &[u8]) -> us
 {
     let n = items.len() / list::ITEM;
     let mut place = at;
-    let mut i = 0;
-    while i < n {
+    for i in 0..n {
         place = writing::write_target(output, place, asked_for(table, list::item_at(items, i)));
-        i += 1;
     }
     place
 }
@@ -174,28 +165,36 @@ fn write_request(output: &mut [u8], head: Head, lifetime: u32, table: &[u8], ite
 }
 
 // Writes the table and the frame of an accepted ask.
-fn send(table: &mut [u8], output: &mut [u8], lifetime: u32, items: &[u8]) -> Outcome
+fn send(
+    table: &mut [u8],
+    output: &mut [u8],
+    lifetime: u32,
+    items: &[u8],
+) -> Result<Emitted, Refusal>
     requires sized { Sized table.old }
     requires least_output_in_bounds { least_output ≤ length output.old }
     requires in_bounds { 7 ≤ length items.now }
     requires len_bound { length items.now ≤ 140 }
     ensures { exit_of result (lend table.new) output.new
         ≡ at_exit (lend table.old) output.old
-        (accepted (requested (lend table.old) 0 lifetime
+        (Ok (requested (lend table.old) 0 lifetime
         (map (asked_for table.old) (items_in items.now)))) }
 {
     let head = common::number_head(row::read_head(table), true);
     let octets = write_request(output, head, lifetime, table, items);
     row::write_head(table, head);
-    Outcome::Accepted(Emitted::one_frame(octets))
+    Ok(Emitted::one_frame(octets))
 }
 
-pub fn ask(table: &mut [u8], output: &mut [u8], lifetime: u32, items: &[u8]) -> Outcome
+pub fn ask(
+    table: &mut [u8],
+    output: &mut [u8],
+    lifetime: u32,
+    items: &[u8],
+) -> Result<Emitted, Refusal>
     ensures { exit_of result (lend table.new) output.new
         ≡ ask_exit (lend table.old) output.old lifetime items.now }
 {
-    match check(table, output, lifetime, items) {
-        Answer::Accepted => send(table, output, lifetime, items),
-        Answer::Refused(n) => Outcome::Refused(n),
-    }
+    check(table, output, lifetime, items)?;
+    send(table, output, lifetime, items)
 }

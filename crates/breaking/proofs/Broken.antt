@@ -1,4 +1,7 @@
 -- Laws of a break, as the proofs of its functions need them: the rows that break, and the exit.
+use Rattle.rules.specs.Decision.{Decision}
+use Rattle.refusals.specs.declared.Refusal.{Refusal}
+use Rattle.std.specs.Prelude.{Ok, ⊤, Err}
 use Prim.Native.Nat.{ℕ, zero, suc, ◌+◌, ◌-◌, ◌<◌, ◌≤◌}
 use mathlib.Core.Path.{◌≡◌, refl, sym, ap, ap₂, ◌∙◌}
 use mathlib.Core.Bool.{Bool, true, false, not, cond}
@@ -14,9 +17,9 @@ use Rattle.layout.specs.declared.address.Address.{Address}
 use Rattle.layout.specs.declared.row.Head.{Head}
 use Rattle.layout.specs.declared.row.Row.{Row}
 use Rattle.layout.specs.Row.{head_with, invalidated, raised, is_through}
-use Rattle.layout.specs.Layout.{head_at, put_head, rows, place, row_at, put_row, row_octets, Sized, most_rows}
+use Rattle.layout.specs.Layout.{head_at, put_head, rows, place, row_at, row_octets, Sized, most_rows}
 use Rattle.table.specs.Table.{change_at, change_below, change_where}
-use Rattle.table.proofs.Changes.{row_stays, row_changed, below_start, below_more, below_all}
+use Rattle.table.proofs.Changes.{row_stays, below_start, below_more, below_all}
 use Rattle.counters.specs.declared.SequenceNumber.{SequenceNumber}
 use Rattle.counters.specs.Numbers.{next_number}
 use Rattle.element.specs.declared.LostDestination.{LostDestination}
@@ -25,11 +28,7 @@ use Rattle.element.proofs.Scans.{each_length, each_next, each_end}
 use Rattle.rules.specs.Errors.{broken, broken_entry, broken_entries, errors_taken, errors_for}
 use Rattle.rules.specs.Exit.{lend, Exit, frame_octets, at_exit}
 use Rattle.rules.specs.Break.{broken_off, breaking, break_neighbour}
-use Rattle.rules.specs.Decision.{accepted}
 use Rattle.rules.proofs.Room.{entry_one, entries_few}
-use Rattle.calls.specs.declared.Outcome.{Outcome}
-use Rattle.calls.specs.declared.Answer.{Answer}
-use Rattle.calls.specs.declared.Answer.TheVariants.{Accepted, Refused}
 use Rattle.calls.specs.declared.Emitted.{Emitted}
 use Rattle.calls.specs.Answers.{answer_to, exit_of}
 use Rattle.breaking.specs.Reports.{octets_for, begun_after, filled_by, reported_after, reported_from, closed}
@@ -57,9 +56,6 @@ module _ (test : Row → Bool) (t : List ℕ) (i : ℕ) (r : Row) (re : r ≡ ro
   tested = ap test (sym re) ∙ sym be
 
   module _ (stays : not b ≡ true) where
-    pub no_row : t ≡ change_at test broken i t
-    no_row = row_stays test broken t i r re (sym be ∙ not-true b stays)
-
     none_lost : broken_entry test (row_at t i) ≡ []
     unfolding broken_entry
     none_lost = rw (tested ∙ not-true b stays)
@@ -77,9 +73,6 @@ module _ (test : Row → Bool) (t : List ℕ) (i : ℕ) (r : Row) (re : r ≡ ro
     none_added k at s = rw none_lost
 
   module _ (falls : not b ≡ false) (fallen : Row) (fe : fallen ≡ broken r) where
-    pub one_row : (u : List ℕ) → u ≡ put_row t i fallen → u ≡ change_at test broken i t
-    one_row = row_changed test broken t i r re (sym be ∙ not-false b falls) fallen fe
-
     one_lost : broken_entry test (row_at t i) ≡ record { address = r.destination; number = fallen.number } ∷ []
     unfolding broken_entry
     one_lost = rw (tested ∙ not-false b falls, ← re, ← fe)
@@ -259,7 +252,7 @@ pub broken_exit : (t output w u v : List ℕ) (c : ℕ) (test : Row → Bool) (h
     → (r : Reported) → r ≡ reported_from 0 (broken_entries test t) → r.lost ≤ most_rows
     → w ≡ change_where test broken t → v ≡ overwrite output 0 (frame_octets (errors_for (broken_entries test t)))
     → u ≡ put_head w (head_with h.number h.request c h) → (e : Emitted) → e ≡ record { frames = errors_taken r.lost; octets = octets_for r.lost }
-    → exit_of (Outcome.Accepted e) (lend u) v ≡ at_exit (lend t) output (accepted (broken_off (lend t) c test))
+    → exit_of (Ok e) (lend u) v ≡ at_exit (lend t) output (Ok (broken_off (lend t) c test))
 unfolding broken_off
 broken_exit t output w u v c test h he r re few we ve ue e ee =
     let entries : List LostDestination = broken_entries test t in
@@ -273,21 +266,21 @@ broken_exit t output w u v c test h he r re few we ve ue e ee =
 
 -- ---- from the answer of the check
 
-module _ (t output : List ℕ) (c : ℕ) (neighbour : Address) (a : Answer) (ae : a ≡ answer_to (breaking (lend t) (length output) c neighbour).checks) where
-  module _ (ok : a ≡ Accepted) where
+module _ (t output : List ℕ) (c : ℕ) (neighbour : Address) (a : Decision ⊤) (ae : a ≡ answer_to (breaking (lend t) (length output) c neighbour).checks) where
+  module _ (done : ⊤) (ok : a ≡ Ok done) where
     pub break_table_sized : Sized t
     unfolding listed
-    break_table_sized = table_sized t output _ a ae ok
+    break_table_sized = table_sized t output _ a ae done ok
 
     pub break_output_long : 1560 ≤ length output
     unfolding listed
-    break_output_long = output_long t output _ a ae ok
+    break_output_long = output_long t output _ a ae done ok
 
-  pub break_refused : (n : ℕ) → a ≡ Refused n → exit_of (Outcome.Refused n) (lend t) output ≡ at_exit (lend t) output (break_neighbour (lend t) (length output) c neighbour)
+  pub break_refused : (n : Refusal) → a ≡ Err n → exit_of (Err n) (lend t) output ≡ at_exit (lend t) output (break_neighbour (lend t) (length output) c neighbour)
   unfolding break_neighbour
   break_refused = refusal (lend t) output (breaking (lend t) (length output) c neighbour) a ae
 
-  pub break_accepted : a ≡ Accepted → (x : Exit) → x ≡ at_exit (lend t) output (accepted (broken_off (lend t) c (is_through c neighbour)))
+  pub break_accepted : (done : ⊤) → a ≡ Ok done → (x : Exit) → x ≡ at_exit (lend t) output (Ok (broken_off (lend t) c (is_through c neighbour)))
       → x ≡ at_exit (lend t) output (break_neighbour (lend t) (length output) c neighbour)
   unfolding breaking break_neighbour
   break_accepted = acceptance (lend t) output (breaking (lend t) (length output) c neighbour) a ae

@@ -36,9 +36,10 @@ pub fn emitted(lost: usize, octets: usize) -> Emitted
     requires octets_value { octets ≡ octets_for lost }
     ensures { result ≡ record { frames = errors_taken lost; octets = octets_for lost } }
 {
-    let frames = errors_taken(lost);
-    let octets = octets as u32;
-    Emitted { frames, octets }
+    Emitted {
+        frames: errors_taken(lost),
+        octets: octets as u32,
+    }
 }
 
 // Begins a RERR of n destinations at place `at`. Returns the place of its list.
@@ -48,8 +49,7 @@ fn begin(out: &mut [u8], at: usize, n: usize) -> usize
     ensures value { result ≡ at + 10 }
     ensures out_after { out.new ≡ overwrite out.old at (error_start n) }
 {
-    let fields = RerrFields { flags: 0 };
-    writing::start_rerr(out, at, Address(list::ALL_ONES), fields, n)
+    writing::start_rerr(out, at, Address(list::ALL_ONES), RerrFields { flags: 0 }, n)
 }
 
 // Begins a RERR after the destinations reported before, if they fill the RERRs begun so far.
@@ -64,9 +64,11 @@ fn begin_if_full(out: &mut [u8], before: Reported) -> Reported
         return before;
     }
     let place = begin(out, before.place, MOST_LOST);
-    let lost = before.lost;
-    let full = before.full + MOST_LOST;
-    Reported { lost, place, full }
+    Reported {
+        place,
+        full: before.full + MOST_LOST,
+        ..before
+    }
 }
 
 // Adds a destination to those reported before.
@@ -79,9 +81,11 @@ pub fn add(out: &mut [u8], before: Reported, entry: LostDestination) -> Reported
 {
     let begun = begin_if_full(out, before);
     let place = writing::write_lost(out, begun.place, entry);
-    let lost = before.lost + 1;
-    let full = begun.full;
-    Reported { lost, place, full }
+    Reported {
+        lost: before.lost + 1,
+        place,
+        full: begun.full,
+    }
 }
 
 // Gives the last RERR its count, if that is not 25. The first RERR starts at place `at`.

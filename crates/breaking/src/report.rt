@@ -38,9 +38,11 @@ fn report_row(
     if !r.is_through(clock, neighbour) {
         return before;
     }
-    let address = r.destination;
-    let number = rows::broken(r).number;
-    errors::add(output, before, LostDestination { address, number })
+    let entry = LostDestination {
+        address: r.destination,
+        number: rows::broken(r).number,
+    };
+    errors::add(output, before, entry)
 }
 
 // Reports every active row through the neighbour among the first n rows, starting at place `at` of the output.
@@ -66,10 +68,8 @@ fn report_rows(
         place: at,
         full: 0,
     };
-    let mut i = 0;
-    while i < n {
+    for i in 0..n {
         reported = report_row(output, table, i, clock, neighbour, reported);
-        i += 1;
     }
     reported
 }
@@ -91,8 +91,7 @@ pub fn report(
         ≡ overwrite output.old at
         (frame_octets (errors_for (broken_entries (is_through clock neighbour) table.now))) }
 {
-    let n = search::rows_of(table);
-    let reported = report_rows(output, at, table, n, clock, neighbour);
+    let reported = report_rows(output, at, table, search::rows_of(table), clock, neighbour);
     errors::close(output, at, reported);
     reported
 }

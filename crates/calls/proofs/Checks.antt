@@ -10,72 +10,69 @@ use Rattle.octets.proofs.Tests.{clash}
 use Rattle.octets.specs.LittleEndian.{overwrite}
 use Rattle.layout.specs.Layout.{sized, Sized}
 use Rattle.table.proofs.Cases.{of_size}
-use Rattle.rules.specs.Decision.{Decision, refused, accepted, Check, Ruling, judged, decide}
+use Rattle.std.specs.Prelude.{⊤, Ok, Err}
+use Rattle.refusals.specs.declared.Refusal.{Refusal}
+use Rattle.rules.specs.Decision.{Decision, Check, Ruling, judged, decide}
 use Rattle.rules.specs.Checks.{buffer_checks}
 use Rattle.rules.specs.Exit.{Lent, Effect, frame_octets, Exit, at_exit}
 use Rattle.rules.proofs.Rulings.{Passed, passed}
-use Rattle.calls.specs.declared.Outcome.{Outcome}
-use Rattle.calls.specs.declared.Answer.{Answer}
-use Rattle.calls.specs.declared.Answer.TheVariants.{Accepted, Refused}
 use Rattle.calls.specs.declared.Emitted.{Emitted}
 use Rattle.calls.specs.Answers.{answer_to, emitted, exit_of}
 
+-- The value of an answer that accepts.
+done : ⊤
+done = tt
+
 -- ---- one check after another
 
-module _ (n : ℕ) (b : Bool) (checks : List Check) where
-  pub applies : b ≡ true → Refused n ≡ answer_to (record { number = n; applies = b } ∷ checks)
+module _ (n : Refusal) (b : Bool) (checks : List Check) where
+  pub applies : b ≡ true → Err n ≡ answer_to (record { refusal = n; applies = b } ∷ checks)
   unfolding answer_to
   applies e = rw e
 
-  pub passes : b ≡ false → (r : Answer) → r ≡ answer_to checks → r ≡ answer_to (record { number = n; applies = b } ∷ checks)
+  pub passes : b ≡ false → (r : Decision ⊤) → r ≡ answer_to checks → r ≡ answer_to (record { refusal = n; applies = b } ∷ checks)
   unfolding answer_to
   passes e r h = rw e h
 
-pub all_passed : Accepted ≡ answer_to []
+pub all_passed : (u : ⊤) → Ok u ≡ answer_to []
 unfolding answer_to
-all_passed = refl
+all_passed u = refl
 
 -- Part of the list, taken alone.
-pub part_refused : (part checks : List Check) (n : ℕ) → Refused n ≡ answer_to part → Refused n ≡ answer_to (part ++ checks)
+pub part_refused : (part checks : List Check) (n : Refusal) → Err n ≡ answer_to part → Err n ≡ answer_to (part ++ checks)
 unfolding answer_to
 part_refused [] checks n e = clash cc
 part_refused (k ∷ part) checks n e = by k.applies e (part_refused part checks n)
   where
-    by : (b : Bool) → Refused n ≡ cond b (Refused k.number) (answer_to part) → (Refused n ≡ answer_to part → Refused n ≡ answer_to (part ++ checks))
-        → Refused n ≡ cond b (Refused k.number) (answer_to (part ++ checks))
+    by : (b : Bool) → Err n ≡ cond b (Err k.refusal) (judged part done) → (Err n ≡ judged part done → Err n ≡ judged (part ++ checks) done)
+        → Err n ≡ cond b (Err k.refusal) (judged (part ++ checks) done)
     by true e rest = e
     by false e rest = rest e
 
-part_passed : (part checks : List Check) → Accepted ≡ answer_to part → answer_to checks ≡ answer_to (part ++ checks)
+pub part_decided : {A : Type 0} (x : A) (part checks : List Check) (u : ⊤) → Ok u ≡ answer_to part → judged checks x ≡ judged (part ++ checks) x
 unfolding answer_to
-part_passed [] checks e = refl
-part_passed (k ∷ part) checks e = by k.applies e (part_passed part checks)
+part_decided x [] checks u e = refl
+part_decided x (k ∷ part) checks u e = by k.applies e (part_decided x part checks u)
   where
-    by : (b : Bool) → Accepted ≡ cond b (Refused k.number) (answer_to part) → (Accepted ≡ answer_to part → answer_to checks ≡ answer_to (part ++ checks))
-        → answer_to checks ≡ cond b (Refused k.number) (answer_to (part ++ checks))
+    by : (b : Bool) → Ok u ≡ cond b (Err k.refusal) (judged part done) → (Ok u ≡ judged part done → judged checks x ≡ judged (part ++ checks) x)
+        → judged checks x ≡ cond b (Err k.refusal) (judged (part ++ checks) x)
     by true e rest = clash cc
     by false e rest = rest e
 
-pub part_decided : {A : Type 0} (x : A) (part checks : List Check) → Accepted ≡ answer_to part → judged checks x ≡ judged (part ++ checks) x
+part_passed : (part checks : List Check) (u : ⊤) → Ok u ≡ answer_to part → answer_to checks ≡ answer_to (part ++ checks)
 unfolding answer_to
-part_decided x [] checks e = refl
-part_decided x (k ∷ part) checks e = by k.applies e (part_decided x part checks)
-  where
-    by : (b : Bool) → Accepted ≡ cond b (Refused k.number) (answer_to part) → (Accepted ≡ answer_to part → judged checks x ≡ judged (part ++ checks) x)
-        → judged checks x ≡ cond b (refused k.number) (judged (part ++ checks) x)
-    by true e rest = clash cc
-    by false e rest = rest e
+part_passed part checks u e = part_decided done part checks u e
 
 -- For a check that begins with the check of another function.
-module _ (part : List Check) (a : Answer) (ae : a ≡ answer_to part) (checks : List Check) where
-  pub refused_first : (n : ℕ) → a ≡ Refused n → Refused n ≡ answer_to (part ++ checks)
+module _ (part : List Check) (a : Decision ⊤) (ae : a ≡ answer_to part) (checks : List Check) where
+  pub refused_first : (n : Refusal) → a ≡ Err n → Err n ≡ answer_to (part ++ checks)
   refused_first n e = part_refused part checks n (sym e ∙ ae)
 
-  pub passed_first : a ≡ Accepted → (r : Answer) → r ≡ answer_to checks → r ≡ answer_to (part ++ checks)
-  passed_first e r h = h ∙ part_passed part checks (sym e ∙ ae)
+  pub passed_first : (u : ⊤) → a ≡ Ok u → (r : Decision ⊤) → r ≡ answer_to checks → r ≡ answer_to (part ++ checks)
+  passed_first u e r h = h ∙ part_passed part checks u (sym e ∙ ae)
 
 -- A part that nothing follows.
-pub part_last : (part : List Check) (r : Answer) → r ≡ answer_to part → r ≡ answer_to (part ++ [])
+pub part_last : (part : List Check) (r : Decision ⊤) → r ≡ answer_to part → r ≡ answer_to (part ++ [])
 part_last part r e = e ∙ ap answer_to (sym (append-nil part))
 
 -- The test of a check, by the test in the code.
@@ -96,37 +93,38 @@ pub ruleset checking = (applies, passes, all_passed, as_tested, as_denied, eithe
 
 module _ {A : Type 0} (x : A) where
   -- Returns the decision that an answer stands for, where x is what an accepted call does.
-  abbrev pub as_decision : Answer → Decision A
-  as_decision Accepted = accepted x
-  as_decision (Refused n) = refused n
+  abbrev pub as_decision : Decision ⊤ → Decision A
+  as_decision (Ok u) = Ok x
+  as_decision (Err n) = Err n
 
-  answer_decides : (checks : List Check) (a : Answer) → a ≡ answer_to checks → judged checks x ≡ as_decision a
+  answer_decides : (checks : List Check) (a : Decision ⊤) → a ≡ answer_to checks → judged checks x ≡ as_decision a
   unfolding answer_to
   answer_decides [] a e = rw e
   answer_decides (k ∷ checks) a e = by k.applies e (answer_decides checks a)
     where
-      by : (b : Bool) → a ≡ cond b (Refused k.number) (answer_to checks) → (a ≡ answer_to checks → judged checks x ≡ as_decision a)
-          → cond b (refused k.number) (judged checks x) ≡ as_decision a
+      by : (b : Bool) → a ≡ cond b (Err k.refusal) (judged checks done) → (a ≡ judged checks done → judged checks x ≡ as_decision a)
+          → cond b (Err k.refusal) (judged checks x) ≡ as_decision a
       by true e rest = rw e
       by false e rest = rest e
 
-pub answer_passed : (checks : List Check) → Accepted ≡ answer_to checks → Passed checks
-answer_passed checks e = (passed {A = ℕ} (record { checks = checks; otherwise = 0 }) 0 (answer_decides 0 checks Accepted e)).0
+pub answer_passed : (checks : List Check) (u : ⊤) → Ok u ≡ answer_to checks → Passed checks
+unfolding answer_to
+answer_passed checks u e = (passed (record { checks = checks; otherwise = done }) u (sym e)).0
 
-pub decided_as : {A : Type 0} (r : Ruling A) (a : Answer) → a ≡ answer_to r.checks → decide r ≡ as_decision r.otherwise a
+pub decided_as : {A : Type 0} (r : Ruling A) (a : Decision ⊤) → a ≡ answer_to r.checks → decide r ≡ as_decision r.otherwise a
 decided_as r a ae = answer_decides r.otherwise r.checks a ae
 
-module _ (l : Lent) (output : List ℕ) (r : Ruling Effect) (a : Answer) (ae : a ≡ answer_to r.checks) where
-  pub refusal : (n : ℕ) → a ≡ Refused n → exit_of (Outcome.Refused n) l output ≡ at_exit l output (decide r)
+module _ (l : Lent) (output : List ℕ) (r : Ruling Effect) (a : Decision ⊤) (ae : a ≡ answer_to r.checks) where
+  pub refusal : (n : Refusal) → a ≡ Err n → exit_of (Err n) l output ≡ at_exit l output (decide r)
   unfolding at_exit
   refusal n e = sym (ap (at_exit l output) (decided_as r a ae ∙ ap (as_decision r.otherwise) e))
 
-  pub acceptance : a ≡ Accepted → (x : Exit) → x ≡ at_exit l output (accepted r.otherwise) → x ≡ at_exit l output (decide r)
-  acceptance e x h = h ∙ sym (ap (at_exit l output) (decided_as r a ae ∙ ap (as_decision r.otherwise) e))
+  pub acceptance : (u : ⊤) → a ≡ Ok u → (x : Exit) → x ≡ at_exit l output (Ok r.otherwise) → x ≡ at_exit l output (decide r)
+  acceptance u e x h = h ∙ sym (ap (at_exit l output) (decided_as r a ae ∙ ap (as_decision r.otherwise) e))
 
 -- The exit of an accepted call, by the `Lent` and the output that it leaves, and by its frames.
 pub accepted_exit : (l : Lent) (output : List ℕ) (x : Effect) (m : Lent) (v : List ℕ) (e : Emitted) → m ≡ x.lent
-    → v ≡ overwrite output 0 (frame_octets x.frames) → e ≡ emitted x.frames → exit_of (Outcome.Accepted e) m v ≡ at_exit l output (accepted x)
+    → v ≡ overwrite output 0 (frame_octets x.frames) → e ≡ emitted x.frames → exit_of (Ok e) m v ≡ at_exit l output (Ok x)
 unfolding at_exit
 accepted_exit l output x m v e me ve ee = rw (me, ve, ee)
 
@@ -135,9 +133,9 @@ pub passes_1 : (t : List ℕ) (a : Bool) → a ≡ sized t → not a ≡ false �
 passes_1 t a ae yes_a = of_size t a ae (not-false a yes_a)
 
 -- The first two checks of every call that has an output. If they pass, both buffers are long enough for what follows.
-module _ (t output : List ℕ) (checks : List Check) (a : Answer) (ae : a ≡ answer_to (buffer_checks t (length output) ++ checks)) (ok : a ≡ Accepted) where
+module _ (t output : List ℕ) (checks : List Check) (a : Decision ⊤) (ae : a ≡ answer_to (buffer_checks t (length output) ++ checks)) (u : ⊤) (ok : a ≡ Ok u) where
   first_two : Passed (buffer_checks t (length output) ++ checks)
-  first_two = answer_passed (buffer_checks t (length output) ++ checks) (sym ok ∙ ae)
+  first_two = answer_passed (buffer_checks t (length output) ++ checks) u (sym ok ∙ ae)
 
   pub table_sized : Sized t
   table_sized = of_size t (sized t) refl (not-false (sized t) first_two.0)

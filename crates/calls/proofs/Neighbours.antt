@@ -11,14 +11,14 @@ use Rattle.table.specs.Table.{number}
 use Rattle.counters.specs.declared.SequenceNumber.{SequenceNumber}
 use Rattle.rules.specs.Checks.{operand_checks}
 use Rattle.rules.specs.Exit.{under_head}
-use Rattle.calls.specs.declared.Answer.{Answer}
-use Rattle.calls.specs.declared.Answer.TheVariants.{Accepted}
+use Rattle.std.specs.Prelude.{⊤, Ok}
+use Rattle.rules.specs.Decision.{Decision}
 use Rattle.calls.specs.Answers.{answer_to}
 use Rattle.calls.proofs.Checks.{table_sized}
 
 -- ---- the operands
 
-pub operands_table_sized : (t output : List ℕ) (c : ℕ) (neighbour : Address) (a : Answer) → a ≡ answer_to (operand_checks t (length output) c neighbour) → a ≡ Accepted
+pub operands_table_sized : (t output : List ℕ) (c : ℕ) (neighbour : Address) (a : Decision ⊤) → a ≡ answer_to (operand_checks t (length output) c neighbour) → (u : ⊤) → a ≡ Ok u
     → Sized t
 unfolding operand_checks
 operands_table_sized t output c neighbour a = table_sized t output _ a

@@ -8,21 +8,16 @@ ghost use Rattle.std.specs.Prelude.{◌≡◌, [], ◌≤◌};
 ghost use Rattle.rules.specs.Exit.{least_output};
 ghost use Rattle.calls.specs.Answers.{answer_of, emitted};
 
+use refusals::Refusal;
+
 // An output of 1,560 octets holds the frames of any call.
 pub const LEAST_OUTPUT: usize = 1560;
 
 // The TTL of every new element and of every reply.
 pub const INITIAL_TTL: u8 = 31;
 
-// The answer of a call that writes no frame, or of the check of a call that may write frames.
-#[derive(Clone, Copy)]
-pub enum Answer {
-    Accepted,
-    Refused(u32),
-}
-
 // How many frames and octets a call has written to the output.
-#[derive(Clone, Copy)]
+#[derive(Clone, Copy, PartialEq, Eq)]
 pub struct Emitted {
     pub frames: u32,
     pub octets: u32,
@@ -49,19 +44,12 @@ impl Emitted {
     }
 }
 
-// The outcome of a call that may emit frames.
-#[derive(Clone, Copy)]
-pub enum Outcome {
-    Accepted(Emitted),
-    Refused(u32),
-}
-
 // Returns the number of an answer: 0 for an acceptance, otherwise the number of the refusal.
-pub fn number_of(a: Answer) -> u32
-    ensures { result ≡ answer_of a }
+pub fn number_of(answer: Result<(), Refusal>) -> u32
+    ensures { result ≡ answer_of answer }
 {
-    match a {
-        Answer::Accepted => 0,
-        Answer::Refused(n) => n,
+    match answer {
+        Ok(()) => 0,
+        Err(refusal) => u32::from(refusal),
     }
 }

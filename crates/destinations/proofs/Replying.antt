@@ -1,26 +1,24 @@
 -- Laws of the replies, case by case and one after another, as the proofs of the functions need them.
-use Prim.Native.Nat.{ℕ, ◌+◌, ◌-◌, ◌*◌, ◌/◌, ◌<◌, ◌≤◌}
+use Rattle.std.specs.Prelude.{None, Some, Option}
+use Prim.Native.Nat.{ℕ, ◌+◌, ◌-◌, ◌*◌, ◌<◌, ◌≤◌}
 use mathlib.Core.Path.{◌≡◌, refl, sym, ap, ap₂, ◌∙◌}
 use mathlib.Core.Bool.{Bool, true, false, not, ◌&&◌}
 use mathlib.Core.List.{List, [], ◌∷◌, ◌++◌, append-nil, flat_map}
-use mathlib.Core.Option.{none, some}
 use lib.ListN.{length, length-append}
 use native.Mathlib.Omega.{arith}
 use native.Mathlib.Nat.{sub-zero, add-zero, zero-add}
-use borrow.Author.Tests.{eq-eqb, ne_eqb, not-true, not-false}
+use borrow.Author.Tests.{not-true, not-false}
 use Rattle.octets.specs.LittleEndian.{overwrite}
 use Rattle.octets.proofs.OctetLists.{overwrite_append}
 use Rattle.counters.specs.declared.SequenceNumber.{SequenceNumber}
-use Rattle.counters.specs.declared.RequestId.{RequestId}
-use Rattle.counters.specs.declared.own.OwnCounters.{OwnCounters}
-use Rattle.counters.specs.Numbering.{advanced_for}
 use Rattle.counters.specs.Numbers.{next_number, newer}
 use Rattle.layout.specs.declared.address.Address.{Address}
 use Rattle.layout.specs.declared.row.Head.{Head}
 use Rattle.layout.specs.declared.row.Row.{Row}
+use Rattle.layout.specs.Address.{same}
 use Rattle.layout.specs.Layout.{head_at}
 use Rattle.table.specs.Table.{own, row_for}
-use Rattle.table.proofs.ByHead.{is_own, is_other}
+use Rattle.table.proofs.ByHead.{own_is}
 use Rattle.element.specs.declared.Kind.TheVariants.{Rrep}
 use Rattle.element.specs.declared.PathInfo.{PathInfo}
 use Rattle.element.specs.declared.Target.{Target}
@@ -28,6 +26,7 @@ use Rattle.element.specs.declared.RrepFields.{RrepFields}
 use Rattle.element.specs.Element.{rrep, rrep_numbers, kind_of, count_of}
 use Rattle.element.specs.Layout.{length_with}
 use Rattle.element.specs.Entries.{each, All, target_at}
+use Rattle.element.specs.Lists.{all_ones}
 use Rattle.element.specs.Octets.{frame_start, write_frame}
 use Rattle.element.proofs.Scans.{each_next, each_end}
 use Rattle.element.proofs.Sizes.{frame_length}
@@ -38,10 +37,8 @@ use Rattle.rules.specs.Exit.{Frame, frame_octets}
 use Rattle.rules.specs.Destinations.{Answered, reply, reply_fields, own_reply, newer_of, answered_number, for_oneself, for_all_ones, for_another, answered, all_answered}
 use Rattle.rules.proofs.Emitting.{Emits, one_answered, replies_emitted}
 use Rattle.rules.proofs.FrameOctets.{one_frame, frames_append}
-use Rattle.answering.specs.declared.Answering.{Answering}
-use Rattle.answering.specs.declared.Answering.TheVariants.{By, Nobody}
 use Rattle.destinations.specs.declared.replies.Replied.{Replied}
-use Rattle.answering.specs.Answering.{answering_in, answering_row}
+use Rattle.answering.specs.Answering.{answering_row}
 use Rattle.destinations.specs.Replies.{replied_after, replied_from}
 use Rattle.answering.proofs.AnsweringRows.{another_by, answering_is}
 
@@ -68,11 +65,6 @@ module _ (self : SequenceNumber) (q : Target) (u : Bool) (ue : u ≡ number_unkn
   pub stays_own : (not u && b) ≡ false → self ≡ newer_of self q
   stays_own e = rw (← ue, ← be, e)
 
-pub reply_numbered : (n : SequenceNumber) (request : RequestId) (c : OwnCounters) → c ≡ advanced_for false (record { number = n; request = request })
-    → c.number ≡ next_number n
-unfolding advanced_for
-reply_numbered n request c e = ap (λ (k : OwnCounters). k.number) e
-
 -- A point's reply for itself is the reply of the rules.
 module _ (t s v : List ℕ) (a : Arrival) (p : PathInfo) (n m : SequenceNumber) (me : m ≡ n) (at : ℕ) (h : Head) (he : h ≡ head_at t)
     (f : RrepFields) (fe : f ≡ reply_fields p h.own m (record { 0 = 0 }) (record { 0 = 0 })) where
@@ -82,10 +74,6 @@ module _ (t s v : List ℕ) (a : Arrival) (p : PathInfo) (n m : SequenceNumber) 
   oneself_written ve =
       ve ∙ ap (λ (g : RrepFields). overwrite s at (frame_octets (reply_frame a.transmitter g ∷ [])))
       (fe ∙ ap₂ (λ (k : Head) (x : SequenceNumber). reply_fields p k.own x (record { 0 = 0 }) (record { 0 = 0 })) he me)
-
-pub oneself_place : (n m : SequenceNumber) → m ≡ n → (frames at place : ℕ) → place ≡ at + 40
-    → ◌≡◌ {A = Replied} (record { number = m; frames = frames; place = place }) (record { number = n; frames = frames; place = at + 40 })
-oneself_place n m me frames at place e = rw (me, e)
 
 -- ---- the result x for a destination, where the replies before it end at `before`
 
@@ -112,16 +100,16 @@ module _ (before : Replied) where
 
 -- ---- to another, by the row that answers
 
-module _ (t : List ℕ) (a : Arrival) (p : PathInfo) (q : Target) (before : Replied) (x : Answering) (xe : answering_in x ≡ answering_row t a.clock q) where
+module _ (t : List ℕ) (a : Arrival) (p : PathInfo) (q : Target) (before : Replied) (x : Option Row) (xe : x ≡ answering_row t a.clock q) where
   abbrev to_another : Answered
   to_another = for_another t a p before.number q (row_for t q.address)
 
-  another_is : to_another ≡ another_by t a p before.number q (answering_in x)
+  another_is : to_another ≡ another_by t a p before.number q x
   another_is = answering_is t a p before.number q ∙ ap (another_by t a p before.number q) (sym xe)
 
-  module _ (e : x ≡ Nobody) where
-    unanswered : to_another ≡ another_by t a p before.number q none
-    unanswered = another_is ∙ ap (λ (y : Answering). another_by t a p before.number q (answering_in y)) e
+  module _ (e : x ≡ None) where
+    unanswered : to_another ≡ another_by t a p before.number q None
+    unanswered = another_is ∙ ap (another_by t a p before.number q) e
 
     pub another_silent_place : before ≡ replied_after before to_another
     another_silent_place = silent_place before to_another (ap (λ (y : Answered). y.replies) unanswered) (ap (λ (y : Answered). y.number) unanswered)
@@ -129,9 +117,9 @@ module _ (t : List ℕ) (a : Arrival) (p : PathInfo) (q : Target) (before : Repl
     pub another_silent_output : (s : List ℕ) → s ≡ overwrite s before.place (frame_octets to_another.replies)
     another_silent_output = silent_output before to_another (ap (λ (y : Answered). y.replies) unanswered) (ap (λ (y : Answered). y.number) unanswered)
 
-  module _ (r : Row) (e : x ≡ By r) (f : RrepFields) (fe : f ≡ reply_fields p r.destination r.number r.hops r.metric) where
-    row_answer : to_another ≡ another_by t a p before.number q (some r)
-    row_answer = another_is ∙ ap (λ (y : Answering). another_by t a p before.number q (answering_in y)) e
+  module _ (r : Row) (e : x ≡ Some r) (f : RrepFields) (fe : f ≡ reply_fields p r.destination r.number r.hops r.metric) where
+    row_answer : to_another ≡ another_by t a p before.number q (Some r)
+    row_answer = another_is ∙ ap (another_by t a p before.number q) e
 
     row_said : to_another.replies ≡ record { receiver = a.transmitter; element = rrep f [] } ∷ []
     unfolding reply
@@ -147,7 +135,8 @@ module _ (t : List ℕ) (a : Arrival) (p : PathInfo) (q : Target) (before : Repl
 
 -- ---- to a destination, by its address
 
-module _ (t : List ℕ) (a : Arrival) (p : PathInfo) (q : Target) (before : Replied) (h : Head) (he : h ≡ head_at t) where
+module _ (t : List ℕ) (a : Arrival) (p : PathInfo) (q : Target) (before : Replied) (h : Head) (he : h ≡ head_at t)
+    (b : Bool) (be : b ≡ same q.address h.own) where
   abbrev to_this : Answered
   to_this = answered t a p before.number q
 
@@ -168,10 +157,10 @@ module _ (t : List ℕ) (a : Arrival) (p : PathInfo) (q : Target) (before : Repl
     own_said_output : (s v : List ℕ) → v ≡ overwrite s before.place (frame_octets (own_reply a p (own t) m ∷ [])) → v ≡ overwrite s before.place (frame_octets to_this.replies)
     own_said_output s v ve = ve ∙ ap (λ (l : List Frame). overwrite s before.place (frame_octets l)) (sym replies_are)
 
-  module _ (is_self : q.address.0 ≡ h.own.0) (m : SequenceNumber) (me : m ≡ newer_of before.number q) where
+  module _ (is_self : b ≡ true) (m : SequenceNumber) (me : m ≡ newer_of before.number q) where
     self_answer : to_this ≡ for_oneself t a p before.number q
     unfolding answered
-    self_answer = rw (is_own t h he q.address is_self)
+    self_answer = rw (own_is t h he q.address b true be is_self)
 
     self_next : answered_number before.number q ≡ next_number m
     unfolding answered_number
@@ -191,11 +180,11 @@ module _ (t : List ℕ) (a : Arrival) (p : PathInfo) (q : Target) (before : Repl
     pub self_output : (s v : List ℕ) → v ≡ overwrite s before.place (frame_octets (own_reply a p (own t) (next_number m) ∷ [])) → v ≡ overwrite s before.place (frame_octets to_this.replies)
     self_output = own_said_output (next_number m) self_number self_replies
 
-  module _ (not_self : q.address.0 ≡ h.own.0 → ⊥) where
-    module _ (not_ones : q.address.0 ≡ 281474976710655 → ⊥) where
+  module _ (not_self : b ≡ false) (o : Bool) (oe : o ≡ not (same q.address all_ones)) where
+    module _ (not_ones : o ≡ true) where
       other_answer : to_this ≡ for_another t a p before.number q (row_for t q.address)
       unfolding answered
-      other_answer = rw (is_other t h he q.address not_self, ne_eqb q.address.0 281474976710655 not_ones)
+      other_answer = rw (own_is t h he q.address b false be not_self, not-true (same q.address all_ones) (sym oe ∙ not_ones))
 
       pub other_place : (r : Replied) → r ≡ replied_after before (for_another t a p before.number q (row_for t q.address))
           → r ≡ replied_after before to_this
@@ -205,15 +194,15 @@ module _ (t : List ℕ) (a : Arrival) (p : PathInfo) (q : Target) (before : Repl
           → v ≡ overwrite s before.place (frame_octets to_this.replies)
       other_output = answer_output _ other_answer
 
-    module _ (is_ones : q.address.0 ≡ 281474976710655) (b : Bool) (be : b ≡ reply_wanted p) where
+    module _ (is_ones : o ≡ false) (w : Bool) (we : w ≡ reply_wanted p) where
       ones_answer : to_this ≡ for_all_ones t a p before.number q
       unfolding answered
-      ones_answer = rw (is_other t h he q.address not_self, eq-eqb q.address.0 281474976710655 is_ones)
+      ones_answer = rw (own_is t h he q.address b false be not_self, not-false (same q.address all_ones) (sym oe ∙ is_ones))
 
-      module _ (no_reply : not b ≡ true) where
+      module _ (no_reply : not w ≡ true) where
         unwanted : for_all_ones t a p before.number q ≡ record { number = before.number; replies = []; kept = q ∷ [] }
         unfolding for_all_ones
-        unwanted = rw (← be, not-true b no_reply)
+        unwanted = rw (← we, not-true w no_reply)
 
         pub unwanted_place : before ≡ replied_after before to_this
         unwanted_place =
@@ -223,13 +212,13 @@ module _ (t : List ℕ) (a : Arrival) (p : PathInfo) (q : Target) (before : Repl
         unwanted_output =
             silent_output before to_this (ap (λ (y : Answered). y.replies) (ones_answer ∙ unwanted)) (ap (λ (y : Answered). y.number) (ones_answer ∙ unwanted))
 
-      module _ (wants_reply : not b ≡ false) where
+      module _ (wants_reply : not w ≡ false) where
         abbrev next : SequenceNumber
         next = next_number before.number
 
         wanted : for_all_ones t a p before.number q ≡ record { number = next; replies = own_reply a p (own t) next ∷ []; kept = q ∷ [] }
         unfolding for_all_ones
-        wanted = rw (← be, not-false b wants_reply)
+        wanted = rw (← we, not-false w wants_reply)
 
         pub wanted_place : (r : Replied) → r ≡ record { number = next; frames = before.frames + 1; place = before.place + 40 } → r ≡ replied_after before to_this
         wanted_place = own_said_place next (ap (λ (y : Answered). y.number) (ones_answer ∙ wanted)) (ap (λ (y : Answered). y.replies) (ones_answer ∙ wanted))
@@ -301,12 +290,6 @@ module _ (t : List ℕ) (a : Arrival) (p : PathInfo) (part out₀ : List ℕ) (a
       }
 
   module _ (i : ℕ) (replied : Replied) (out : List ℕ) (so_far : Replying i replied out) where
-    pub replying_room : i < n → n ≡ length part / 11 → length part ≤ 220 → at + 800 ≤ length out₀ → length out ≡ length out₀ → replied.place + 40 ≤ length out
-    replying_room l ne short room same_length = omega (arith, so_far.short)
-
-    pub replying_few : i < n → n ≡ length part / 11 → length part ≤ 220 → replied.frames < 20
-    replying_few l ne short = omega (arith, so_far.few)
-
     pub replying_more : i < n → (q : Target) → q ≡ target_at part i → (next : Replied) → next ≡ replied_after replied (answered t a p replied.number q)
         → (out' : List ℕ) → out' ≡ overwrite out replied.place (frame_octets (answered t a p replied.number q).replies) → Replying (i + 1) next out'
     unfolding all_answered

@@ -12,7 +12,6 @@ ghost use Rattle.rules.specs.Destinations.{all_answered, answered, for_another, 
 ghost use Rattle.rules.specs.Exit.{frame_octets};
 ghost use Rattle.destinations.specs.Replies.{replied_after, replied_from};
 
-use answering::Answering;
 use counters::own::OwnCounters;
 use counters::{HopCount, Metric, SequenceNumber, own};
 use element::{NumberedAddress, PathInfo, RrepFields, Target, flags, list};
@@ -39,22 +38,21 @@ fn reply_fields(
 ) -> RrepFields
     ensures { result ≡ reply_fields p destination number hops metric }
 {
-    let path = PathInfo {
-        flags: 0,
-        hops,
-        ttl: calls::INITIAL_TTL,
-        subject: destination,
-        number,
-        lifetime: p.lifetime,
-        metric,
-    };
-    let address = p.subject;
-    let source_number = p.number;
-    let source = NumberedAddress {
-        address,
-        number: source_number,
-    };
-    RrepFields { path, source }
+    RrepFields {
+        path: PathInfo {
+            flags: 0,
+            hops,
+            ttl: calls::INITIAL_TTL,
+            subject: destination,
+            number,
+            lifetime: p.lifetime,
+            metric,
+        },
+        source: NumberedAddress {
+            address: p.subject,
+            number: p.number,
+        },
+    }
 }
 
 // Returns the fields of a point's reply for itself: own address and number, hop count 0, metric 0.
@@ -85,21 +83,24 @@ fn write_reply(output: &mut [u8], at: usize, a: Arrival, f: RrepFields) -> usize
 fn newer_of(own: SequenceNumber, q: Target) -> SequenceNumber
     ensures { result ≡ newer_of own q }
 {
-    let requested = q.number;
     let unknown = flags::is_number_unknown(q);
-    if !unknown & requested.is_newer(own) {
-        return requested;
+    if !unknown & q.number.is_newer(own) {
+        return q.number;
     }
     own
 }
 
 // Returns the number of a point's reply for itself, where `number` is the own number before the reply. The counters of the point
 // advance as for a RANN, which takes no request ID.
+#[tactic(auto, unfolding(counters::specs::Numbering::advanced_for))]
 fn reply_number(head: Head, number: SequenceNumber) -> SequenceNumber
     ensures { result ≡ next_number number }
 {
-    let request = head.request;
-    own::numbered(OwnCounters { number, request }, false).number
+    let counters = OwnCounters {
+        number,
+        request: head.request,
+    };
+    own::numbered(counters, false).number
 }
 
 // Writes a point's reply for itself, where `number` is the own number before the reply.
@@ -121,12 +122,10 @@ fn reply_as_oneself(
 {
     let head = row::read_head(table);
     let next = reply_number(head, number);
-    let f = own_fields(p, head.own, next);
-    let place = write_reply(output, before.place, a, f);
-    let frames = before.frames + 1;
+    let place = write_reply(output, before.place, a, own_fields(p, head.own, next));
     Replied {
         number: next,
-        frames,
+        frames: before.frames + 1,
         place,
     }
 }
@@ -150,16 +149,14 @@ fn reply_for_another(
         (frame_octets (for_another table.now a p before.number q
         (row_for table.now q.address)).replies) }
 {
-    let Answering::By(r) = answering::answering_row(table, a.clock, q) else {
+    let Some(r) = answering::answering_row(table, a.clock, q) else {
         return before;
     };
     let place = write_reply(output, before.place, a, row_fields(p, r));
-    let number = before.number;
-    let frames = before.frames + 1;
     Replied {
-        number,
-        frames,
+        frames: before.frames + 1,
         place,
+        ..before
     }
 }
 
@@ -181,17 +178,16 @@ fn reply_to(
         ≡ overwrite output.old before.place
         (frame_octets (answered table.now a p before.number q).replies) }
 {
-    let number = before.number;
-    if q.address.0 == row::read_head(table).own.0 {
-        return reply_as_oneself(output, table, a, p, newer_of(number, q), before);
+    if q.address == row::read_head(table).own {
+        return reply_as_oneself(output, table, a, p, newer_of(before.number, q), before);
     }
-    if q.address.0 != list::ALL_ONES {
+    if q.address != Address(list::ALL_ONES) {
         return reply_for_another(output, table, a, p, q, before);
     }
     if !flags::is_reply_wanted(p) {
         return before;
     }
-    reply_as_oneself(output, table, a, p, number, before)
+    reply_as_oneself(output, table, a, p, before.number, before)
 }
 
 // Writes the replies to the destinations in `part`, starting at place `at`. `number` is the own number before the first reply.
@@ -218,10 +214,8 @@ pub fn write_replies(
         frames: 0,
         place: at,
     };
-    let mut i = 0;
-    while i < n {
+    for i in 0..n {
         replied = reply_to(output, table, a, p, list::target_at(part, i), replied);
-        i += 1;
     }
     replied
 }

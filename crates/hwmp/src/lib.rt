@@ -15,17 +15,17 @@ ghost use Rattle.rules.specs.Exits.{
   walk_exit,
 };
 ghost use Rattle.rules.specs.NextHop.{next_hop};
-ghost use Rattle.table_calls.specs.Answers.{hop_decision};
 ghost use Rattle.walk.specs.Answers.{numbers_of};
 ghost use Rattle.hwmp.specs.ForC.{hop_for_c, exit_for_c, outcome_for_c};
 
 use breaking::break_neighbour;
-use calls::Outcome;
+use calls::Emitted;
 use counters::{Metric, SequenceNumber};
 use layout::address;
+use layout::address::Address;
 use originate::{announce, root_request};
+use refusals::Refusal;
 use rules::Arrival;
-use table_calls::next_hop::Hop;
 use table_calls::{forget, fresh, next_hop};
 use walk::Walked;
 
@@ -44,38 +44,42 @@ pub struct HwmpOutcome {
     pub octets: u32,
 }
 
-// Returns a next hop in the form for C: answer 0 and the address, or the refusal's number and zeros.
-fn hop_for_c(hop: Hop) -> HwmpHop
-    ensures { result ≡ hop_for_c (hop_decision hop) }
-{
-    match hop {
-        Hop::Via(next) => {
-            let address = next.octets();
-            HwmpHop { answer: 0, address }
-        }
-        Hop::Refused(answer) => {
-            let address = [0u8; 6];
-            HwmpHop { answer, address }
+// A next hop for C: answer 0 and the address, or the refusal's number and zeros.
+impl From<Result<Address, Refusal>> for HwmpHop {
+    ghost from_gives = { λ hop c. c ≡ hop_for_c hop };
+
+    fn from(hop: Result<Address, Refusal>) -> HwmpHop {
+        match hop {
+            Ok(next) => HwmpHop {
+                answer: 0,
+                address: next.octets(),
+            },
+            Err(refusal) => HwmpHop {
+                answer: u32::from(refusal),
+                address: [0u8; 6],
+            },
         }
     }
 }
 
-// Returns the result of a call that may emit frames in the form for C: answer 0 with the counts of frames and octets written,
-// or the refusal's number and zeros.
-fn outcome_for_c(outcome: Outcome) -> HwmpOutcome
-    ensures { result ≡ outcome_for_c outcome }
-{
-    match outcome {
-        Outcome::Accepted(emitted) => HwmpOutcome {
-            answer: 0,
-            frames: emitted.frames,
-            octets: emitted.octets,
-        },
-        Outcome::Refused(answer) => HwmpOutcome {
-            answer,
-            frames: 0,
-            octets: 0,
-        },
+// The result of a call that may emit frames, for C: answer 0 with the counts of frames and octets written, or the refusal's
+// number and zeros.
+impl From<Result<Emitted, Refusal>> for HwmpOutcome {
+    ghost from_gives = { λ outcome c. c ≡ outcome_for_c outcome };
+
+    fn from(outcome: Result<Emitted, Refusal>) -> HwmpOutcome {
+        match outcome {
+            Ok(emitted) => HwmpOutcome {
+                answer: 0,
+                frames: emitted.frames,
+                octets: emitted.octets,
+            },
+            Err(refusal) => HwmpOutcome {
+                answer: u32::from(refusal),
+                frames: 0,
+                octets: 0,
+            },
+        }
     }
 }
 
@@ -99,7 +103,7 @@ pub extern "C" fn hwmp_forget(table: &mut [u8], destination: &[u8; 6]) -> u32
 pub extern "C" fn hwmp_next_hop(table: &[u8], clock: u64, destination: &[u8; 6]) -> HwmpHop
     ensures { result ≡ hop_for_c (next_hop table.now clock (address_of destination.now)) }
 {
-    hop_for_c(next_hop::next_hop(table, clock, address::read(destination)))
+    HwmpHop::from(next_hop::next_hop(table, clock, address::read(destination)))
 }
 
 #[unsafe(no_mangle)]
@@ -121,7 +125,7 @@ pub extern "C" fn hwmp_receive(
         transmitter: address::read(transmitter),
         link: Metric(link),
     };
-    outcome_for_c(receive::receive(table, output, arrival, element))
+    HwmpOutcome::from(receive::receive(table, output, arrival, element))
 }
 
 #[unsafe(no_mangle)]
@@ -134,7 +138,7 @@ pub extern "C" fn hwmp_ask(
     ensures { exit_for_c result (lend table.new) output.new
         ≡ ask_exit (lend table.old) output.old lifetime items.now }
 {
-    outcome_for_c(ask::ask(table, output, lifetime, items))
+    HwmpOutcome::from(ask::ask(table, output, lifetime, items))
 }
 
 #[unsafe(no_mangle)]
@@ -147,7 +151,7 @@ pub extern "C" fn hwmp_announce(
     ensures { exit_for_c result (lend table.new) output.new
         ≡ announce_exit (lend table.old) output.old flags lifetime }
 {
-    outcome_for_c(announce::announce(table, output, flags, lifetime))
+    HwmpOutcome::from(announce::announce(table, output, flags, lifetime))
 }
 
 #[unsafe(no_mangle)]
@@ -160,7 +164,7 @@ pub extern "C" fn hwmp_root_request(
     ensures { exit_for_c result (lend table.new) output.new
         ≡ root_request_exit (lend table.old) output.old flags lifetime }
 {
-    outcome_for_c(root_request::root_request(table, output, flags, lifetime))
+    HwmpOutcome::from(root_request::root_request(table, output, flags, lifetime))
 }
 
 #[unsafe(no_mangle)]
@@ -173,7 +177,12 @@ pub extern "C" fn hwmp_break(
     ensures { exit_for_c result (lend table.new) output.new
         ≡ break_exit (lend table.old) output.old clock (address_of neighbour.now) }
 {
-    outcome_for_c(break_neighbour::break_neighbour(table, output, clock, address::read(neighbour)))
+    HwmpOutcome::from(break_neighbour::break_neighbour(
+        table,
+        output,
+        clock,
+        address::read(neighbour),
+    ))
 }
 
 #[unsafe(no_mangle)]
@@ -190,5 +199,5 @@ pub extern "C" fn hwmp_walk(
 {
     let from = address::read(start);
     let to = address::read(destination);
-    walk::in_numbers(walk::walk(tables, count, clock, from, to))
+    Walked::from(walk::walk(tables, count, clock, from, to))
 }

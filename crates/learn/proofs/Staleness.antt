@@ -1,4 +1,5 @@
 -- Laws of refusal 25, case by case, as the proofs of the functions need them.
+use Rattle.std.specs.Prelude.{Option, Some, None}
 use Prim.Native.Nat.{ℕ, ◌+◌}
 use mathlib.Core.Path.{◌≡◌}
 use mathlib.Core.Bool.{Bool, true, false, ◌&&◌}
@@ -7,8 +8,6 @@ use lib.Dec.{eqb, leb}
 use borrow.Author.Tests.{eq-eqb, ne_eqb}
 use Rattle.counters.specs.Numbers.{older}
 use Rattle.layout.specs.declared.row.Row.{Row}
-use Rattle.table.specs.declared.search.Found.{Found}
-use Rattle.table.specs.declared.search.Found.TheVariants.{At, Nothing}
 use Rattle.layout.specs.Layout.{row_at}
 use Rattle.table.specs.Table.{find_row}
 use Rattle.table.proofs.Cases.{row_at_lem, row_none}
@@ -26,16 +25,16 @@ module _ (a : Arrival) (p : PathInfo) (r : Row) where
     unfolding is_stale_for
     stale_older e = rw (eq-eqb r.known 1 k, ← be, e)
 
-    pub stale_by_metric : b ≡ false → (m : ℕ) → m ≡ p.metric.0 + a.link.0
-        → (eqb p.number.0 r.number.0 && leb r.metric.0 m) ≡ is_stale_for a p r
+    pub stale_by_metric : b ≡ false → (m : ℕ) → m ≡ p.metric.0 + a.link.0 → (q : Bool) → q ≡ eqb p.number.0 r.number.0
+        → (q && leb r.metric.0 m) ≡ is_stale_for a p r
     unfolding is_stale_for
-    stale_by_metric e m me = rw (eq-eqb r.known 1 k, ← be, e, me)
+    stale_by_metric e m me q qe = rw (eq-eqb r.known 1 k, ← be, e, me, qe)
 
-module _ (t : List ℕ) (a : Arrival) (p : PathInfo) (f : Found) (fe : f ≡ find_row t p.subject) where
-  pub stale_absent : f ≡ Nothing → false ≡ is_stale t a p
+module _ (t : List ℕ) (a : Arrival) (p : PathInfo) (f : Option ℕ) (fe : f ≡ find_row t p.subject) where
+  pub stale_absent : f ≡ None → false ≡ is_stale t a p
   unfolding is_stale
   stale_absent e = rw (row_none t p.subject f fe e)
 
-  pub stale_found : (i : ℕ) → f ≡ At i → (r : Row) → r ≡ row_at t i → (b : Bool) → b ≡ is_stale_for a p r → b ≡ is_stale t a p
+  pub stale_found : (i : ℕ) → f ≡ Some i → (r : Row) → r ≡ row_at t i → (b : Bool) → b ≡ is_stale_for a p r → b ≡ is_stale t a p
   unfolding is_stale
   stale_found i e r re b be = rw (row_at_lem t p.subject f fe i e r re) be

@@ -5,8 +5,7 @@ mod room;
 mod stale;
 mod steps;
 
-ghost use Rattle.std.specs.Prelude.{◌≡◌, false, ◌≤◌};
-ghost use Rattle.std.proofs.Math.Option.{some};
+ghost use Rattle.std.specs.Prelude.{◌≡◌, false, ◌≤◌, Some};
 ghost use Rattle.layout.specs.Layout.{Sized};
 ghost use Rattle.layout.specs.Row.{max_clock};
 ghost use Rattle.rules.specs.Learn.{Extends};
@@ -14,30 +13,30 @@ ghost use Rattle.rules.specs.Receive.{row_checks};
 ghost use Rattle.calls.specs.Answers.{answer_to};
 ghost use Rattle.learn.specs.Learnt.{learnt_if};
 
-use calls::Answer;
 use element::PathInfo;
 use layout::row;
+use refusals::Refusal;
 use rules::Arrival;
 use table::search;
 
 // Checks refusals 24, 25 and 27. If none applies, does steps 1 and 2. It looks for the subject's row only once.
-pub fn learn_by_rows(table: &mut [u8], a: Arrival, p: PathInfo) -> Answer
+pub fn learn_by_rows(table: &mut [u8], a: Arrival, p: PathInfo) -> Result<(), Refusal>
     requires sized { Sized table.old }
     requires clock_le_max_clock { a.clock ≤ max_clock }
     requires extends { Extends a p }
-    ensures value { result ≡ answer_to (row_checks table.old a false (some p)) }
+    ensures value { result ≡ answer_to (row_checks table.old a false (Some p)) }
     ensures table_after { table.new ≡ learnt_if result a p table.old }
 {
-    if p.subject.0 == row::read_head(table).own.0 {
-        return Answer::Refused(refusals::ABOUT_ITSELF);
+    if p.subject == row::read_head(table).own {
+        return Err(Refusal::AboutItself);
     }
     let found = search::find_row(table, p.subject);
     if stale::is_stale(table, found, a, p) {
-        return Answer::Refused(refusals::STALE);
+        return Err(Refusal::Stale);
     }
     if room::lacks_rows(table, found, a, p) {
-        return Answer::Refused(refusals::NO_ROOM);
+        return Err(Refusal::NoRoom);
     }
     steps::learn(table, found, a, p);
-    Answer::Accepted
+    Ok(())
 }

@@ -1,20 +1,18 @@
 // Does steps 1 and 2 (docs/PROTOCOL.md, 'Learning'): makes or changes the subject's row and the transmitter's row.
-ghost use Rattle.std.specs.Prelude.{◌≡◌, ◌||◌, ◌≤◌};
+ghost use Rattle.std.specs.Prelude.{◌≡◌, ◌||◌, ◌≤◌, is_none};
 ghost use Rattle.layout.specs.Row.{max_clock};
-ghost use Rattle.table.specs.Places.{is_nothing};
 ghost use Rattle.table.specs.Table.{find_row, row_for};
 ghost use Rattle.layout.specs.Layout.{Sized};
 ghost use Rattle.rules.specs.Learn.{expiry_of, Extends, learnt, new_row, row_or_new, row_takes_link};
 ghost use Rattle.rules.specs.Learn.{subject_learnt, subject_row, transmitter_learnt, transmitter_row};
 
 use calls::here;
-use counters::{HopCount, Metric, SequenceNumber};
+use counters::HopCount;
 use element::PathInfo;
 use layout::address::Address;
 use layout::row;
 use layout::row::Row;
 use rules::Arrival;
-use table::search::Found;
 use table::{search, store};
 
 // Returns the row that a step starts from if the destination has none. Its number is unknown.
@@ -22,27 +20,20 @@ fn new_row(destination: Address) -> Row
     ensures { result ≡ new_row destination }
 {
     Row {
-        status: 0,
-        known: 0,
-        hops: HopCount(0),
-        zero: 0,
         destination,
-        next: Address(0),
-        number: SequenceNumber(0),
-        metric: Metric(0),
-        expiry: 0,
+        ..Row::free()
     }
 }
 
 // Returns the row that a step starts from: the row at `found`, otherwise a new row.
-fn row_or_new(table: &[u8], found: Found, destination: Address) -> Row
+fn row_or_new(table: &[u8], found: Option<usize>, destination: Address) -> Row
     requires sized { Sized table.now }
     requires found_value { found ≡ find_row table.now destination }
     ensures { result ≡ row_or_new destination (row_for table.now destination) }
 {
     match found {
-        Found::At(i) => row::read_row(table, i),
-        Found::Nothing => new_row(destination),
+        Some(i) => row::read_row(table, i),
+        None => new_row(destination),
     }
 }
 
@@ -51,10 +42,9 @@ fn expiry_of(clock: u64, lifetime: u32, r: Row) -> u64
     requires { clock ≤ max_clock }
     ensures { result ≡ expiry_of clock lifetime r }
 {
-    let stored = r.expiry;
     let expiry = clock + lifetime as u64;
-    if r.is_active(clock) & (expiry < stored) {
-        return stored;
+    if r.is_active(clock) & (expiry < r.expiry) {
+        return r.expiry;
     }
     expiry
 }
@@ -72,7 +62,7 @@ fn subject_row(a: Arrival, p: PathInfo, r: Row) -> Row
     renewed.numbered(p.number)
 }
 
-fn learn_subject(table: &mut [u8], found: Found, a: Arrival, p: PathInfo)
+fn learn_subject(table: &mut [u8], found: Option<usize>, a: Arrival, p: PathInfo)
     requires sized { Sized table.old }
     requires found_value { found ≡ find_row table.old p.subject }
     requires clock_le_max_clock { a.clock ≤ max_clock }
@@ -95,10 +85,10 @@ fn row_takes_link(a: Arrival, r: Row) -> bool
 }
 
 // Reports whether step 2 makes or changes the row. An absent row is always made.
-fn takes_link(a: Arrival, found: Found, r: Row) -> bool
-    ensures { result ≡ (is_nothing found || row_takes_link a r) }
+fn takes_link(a: Arrival, found: Option<usize>, r: Row) -> bool
+    ensures { result ≡ (is_none found || row_takes_link a r) }
 {
-    search::is_nothing(found) | row_takes_link(a, r)
+    found.is_none() | row_takes_link(a, r)
 }
 
 // Step 2: makes the row valid, with the transmitter as its next hop, the link metric as its metric and hop count 1. If the row
@@ -126,7 +116,7 @@ fn learn_transmitter(table: &mut [u8], a: Arrival, lifetime: u32)
 
 // Does step 1, and step 2 if the transmitter is not the subject. `found` is the result of the search for the subject's row.
 // Step 1 comes first, so that the subject's row takes the lower of two free rows.
-pub fn learn(table: &mut [u8], found: Found, a: Arrival, p: PathInfo)
+pub fn learn(table: &mut [u8], found: Option<usize>, a: Arrival, p: PathInfo)
     requires sized { Sized table.old }
     requires found_value { found ≡ find_row table.old p.subject }
     requires clock_le_max_clock { a.clock ≤ max_clock }
@@ -134,7 +124,7 @@ pub fn learn(table: &mut [u8], found: Found, a: Arrival, p: PathInfo)
     ensures { table.new ≡ learnt a p table.old }
 {
     learn_subject(table, found, a, p);
-    if a.transmitter.0 != p.subject.0 {
+    if a.transmitter != p.subject {
         learn_transmitter(table, a, p.lifetime);
     }
 }

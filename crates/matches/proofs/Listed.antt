@@ -1,4 +1,5 @@
 -- Laws of writing the matches one after another, and of the RERR that they make, as the proofs of the functions need them.
+use Rattle.std.specs.Prelude.{Option, Some, None}
 use Prim.Native.Nat.{ℕ, ◌+◌, ◌-◌, ◌*◌, ◌/◌, ◌<◌, ◌≤◌}
 use mathlib.Core.Path.{◌≡◌, refl, sym, ap, ◌∙◌}
 use mathlib.Core.Bool.{Bool, true, false, not, cond}
@@ -9,8 +10,6 @@ use borrow.Author.Tests.{not-true, not-false}
 use Rattle.octets.specs.LittleEndian.{overwrite}
 use Rattle.layout.specs.declared.row.Row.{Row}
 use Rattle.layout.specs.Layout.{row_at}
-use Rattle.table.specs.declared.search.Found.{Found}
-use Rattle.table.specs.declared.search.Found.TheVariants.{At, Nothing}
 use Rattle.table.specs.Table.{find_row}
 use Rattle.element.specs.declared.Kind.TheVariants.{Rerr}
 use Rattle.element.specs.declared.LostDestination.{LostDestination}
@@ -58,12 +57,12 @@ module _ (a : Arrival) (r : Row) (m : LostDestination) (b : Bool) (be : b ≡ is
   lost_place e at p pe = taken_place octets_by_row (lost_octets m) (row_lost e) at p 10 pe (lost_length m)
 
 module _ (t : List ℕ) (a : Arrival) (m : LostDestination) where
-  module _ (f : Found) (fe : f ≡ find_row t m.address) where
-    pub no_row : f ≡ Nothing → [] ≡ match_octets t a m
+  module _ (f : Option ℕ) (fe : f ≡ find_row t m.address) where
+    pub no_row : f ≡ None → [] ≡ match_octets t a m
     unfolding match_octets octets_if
     no_row e = rw (← match_absent t a.clock a.transmitter m f fe e)
 
-    pub by_row : (i : ℕ) → f ≡ At i → (r : Row) → r ≡ row_at t i → octets_if (is_lost_by a.clock a.transmitter r) m ≡ match_octets t a m
+    pub by_row : (i : ℕ) → f ≡ Some i → (r : Row) → r ≡ row_at t i → octets_if (is_lost_by a.clock a.transmitter r) m ≡ match_octets t a m
     unfolding match_octets
     by_row i e r re = ap (λ (b : Bool). octets_if b m) (match_found t a.clock a.transmitter m f fe i e r re _ refl)
 
@@ -76,7 +75,7 @@ module _ (t : List ℕ) (a : Arrival) (m : LostDestination) where
 
 pub matches_octets : (t : List ℕ) (a : Arrival) (named : List LostDestination)
     → flat_map (match_octets t a) named ≡ flat_map lost_octets (matched t a named)
-unfolding match_octets octets_if filter flat_map
+unfolding match_octets octets_if flat_map
 matches_octets t a [] = refl
 matches_octets t a (m ∷ named) = by (matches t a.clock a.transmitter m) (matches_octets t a named)
   where

@@ -1,4 +1,5 @@
 -- Laws of which destinations match, case by case and one after another, as the proofs of the functions need them.
+use Rattle.std.specs.Prelude.{Option, Some, None}
 use Prim.Native.Nat.{ℕ, ◌+◌, ◌-◌, ◌<◌, ◌≤◌}
 use mathlib.Core.Path.{◌≡◌, sym, ap, ◌∙◌}
 use mathlib.Core.Bool.{Bool, true, false, not, ◌&&◌}
@@ -6,8 +7,6 @@ use mathlib.Core.List.{List}
 use lib.Dec.{eqb}
 use Rattle.layout.specs.declared.address.Address.{Address}
 use Rattle.layout.specs.declared.row.Row.{Row}
-use Rattle.table.specs.declared.search.Found.{Found}
-use Rattle.table.specs.declared.search.Found.TheVariants.{At, Nothing}
 use Rattle.layout.specs.Layout.{row_at}
 use Rattle.table.specs.Table.{find_row}
 use Rattle.table.proofs.Cases.{row_at_lem, row_none}
@@ -22,12 +21,12 @@ pub lost_is : (c : ℕ) (hop : Address) (r : Row) (b : Bool) → b ≡ is_throug
 unfolding is_lost_by
 lost_is c hop r b e = ap (λ (x : Bool). x && eqb r.known 1) e
 
-module _ (t : List ℕ) (c : ℕ) (hop : Address) (m : LostDestination) (f : Found) (fe : f ≡ find_row t m.address) where
-  pub match_absent : f ≡ Nothing → false ≡ matches t c hop m
+module _ (t : List ℕ) (c : ℕ) (hop : Address) (m : LostDestination) (f : Option ℕ) (fe : f ≡ find_row t m.address) where
+  pub match_absent : f ≡ None → false ≡ matches t c hop m
   unfolding matches
   match_absent e = rw (row_none t m.address f fe e)
 
-  pub match_found : (i : ℕ) → f ≡ At i → (r : Row) → r ≡ row_at t i → (b : Bool) → b ≡ is_lost_by c hop r → b ≡ matches t c hop m
+  pub match_found : (i : ℕ) → f ≡ Some i → (r : Row) → r ≡ row_at t i → (b : Bool) → b ≡ is_lost_by c hop r → b ≡ matches t c hop m
   unfolding matches
   match_found i e r re b be = rw (row_at_lem t m.address f fe i e r re) be
 

@@ -10,7 +10,6 @@ use layout::row;
 use layout::row::Row;
 use rules::Arrival;
 use table::search;
-use table::search::Found;
 
 // Reports whether the row is active, has a known number, and has the transmitter as its next hop.
 pub fn is_lost_by(a: Arrival, r: Row) -> bool
@@ -23,7 +22,7 @@ pub fn is_match(table: &[u8], a: Arrival, m: LostDestination) -> bool
     requires { Sized table.now }
     ensures { result ≡ matches table.now a.clock a.transmitter m }
 {
-    let Found::At(i) = search::find_row(table, m.address) else {
+    let Some(i) = search::find_row(table, m.address) else {
         return false;
     };
     is_lost_by(a, row::read_row(table, i))
@@ -35,12 +34,10 @@ pub fn matches_nothing(table: &[u8], a: Arrival, part: &[u8]) -> bool
     ensures { result ≡ not (any (matches table.now a.clock a.transmitter) (lost_in part.now)) }
 {
     let n = part.len() / list::LOST;
-    let mut i = 0;
-    while i < n {
+    for i in 0..n {
         if is_match(table, a, list::lost_at(part, i)) {
             return false;
         }
-        i += 1;
     }
     true
 }

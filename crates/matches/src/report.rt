@@ -21,7 +21,6 @@ use layout::row;
 use layout::row::Row;
 use rules::Arrival;
 use table::search;
-use table::search::Found;
 
 // Writes the destination m if its row r is lost by the RERR. Returns the place after what it wrote.
 fn write_if_lost(output: &mut [u8], at: usize, a: Arrival, r: Row, m: LostDestination) -> usize
@@ -50,8 +49,8 @@ fn write_if_match(
     ensures output_after { output.new ≡ overwrite output.old at (match_octets table.now a m) }
 {
     match search::find_row(table, m.address) {
-        Found::At(i) => write_if_lost(output, at, a, row::read_row(table, i), m),
-        Found::Nothing => at,
+        Some(i) => write_if_lost(output, at, a, row::read_row(table, i), m),
+        None => at,
     }
 }
 
@@ -69,10 +68,8 @@ fn write_matches(output: &mut [u8], at: usize, table: &[u8], a: Arrival, part: &
 {
     let n = part.len() / list::LOST;
     let mut place = at;
-    let mut i = 0;
-    while i < n {
+    for i in 0..n {
         place = write_if_match(output, place, table, a, list::lost_at(part, i));
-        i += 1;
     }
     place
 }

@@ -1,9 +1,9 @@
 -- Laws of forwarding, case by case, as the proofs of the functions need them.
+use Rattle.std.specs.Prelude.{Option, None, Some}
 use Prim.Native.Nat.{ℕ, ◌+◌, ◌-◌, ◌/◌, ◌%◌, ◌<◌, ◌≤◌}
 use mathlib.Core.Path.{◌≡◌, refl, sym, ap, ap₂, ◌∙◌}
 use mathlib.Core.Bool.{Bool, true, false, cond}
 use mathlib.Core.List.{List, [], ◌∷◌}
-use mathlib.Core.Option.{Option, none}
 use lib.ListN.{length}
 use native.Mathlib.Omega.{arith}
 use borrow.Author.Tests.{lt-ltb, le-ltb}
@@ -11,13 +11,8 @@ use Rattle.octets.specs.LittleEndian.{overwrite}
 use Rattle.counters.specs.declared.HopCount.{HopCount}
 use Rattle.counters.specs.declared.Metric.{Metric}
 use Rattle.layout.specs.declared.address.Address.{Address}
-use Rattle.layout.specs.declared.row.Head.{Head}
-use Rattle.table.specs.declared.search.NextHop.{NextHop}
-use Rattle.table.specs.declared.search.NextHop.TheVariants.{To, Nobody}
 use Rattle.layout.specs.Address.{same}
-use Rattle.layout.specs.Layout.{head_at}
-use Rattle.table.specs.Table.{own, row_for, active_next, hop_in}
-use Rattle.table.proofs.ByHead.{is_own, is_other}
+use Rattle.table.specs.Table.{own, row_for, active_next}
 use Rattle.element.specs.declared.NumberedAddress.{NumberedAddress}
 use Rattle.element.specs.declared.PathInfo.{PathInfo}
 use Rattle.element.specs.declared.RrepFields.{RrepFields}
@@ -35,7 +30,7 @@ use Rattle.rules.specs.Exit.{Frame, frame_octets}
 use Rattle.rules.proofs.FrameOctets.{no_frame, one_frame}
 use Rattle.calls.specs.declared.Emitted.{Emitted}
 use Rattle.calls.specs.Answers.{emitted}
-use Rattle.onward.specs.Sent.{reply_receiver, rrep_forward}
+use Rattle.onward.specs.Sent.{reply_receiver}
 
 -- ---- the three changes
 
@@ -90,68 +85,47 @@ module _ (a : Arrival) (p : PathInfo) where
 
 -- ---- a RREP
 
-module _ (g : RrepFields) (part : List ℕ) (x : NextHop) where
-  abbrev sent_reply : List Frame
-  sent_reply = sent_to (rrep g (numbered_in part)) (hop_in x)
-
-  sent_by : (y : NextHop) → x ≡ y → sent_reply ≡ sent_to (rrep g (numbered_in part)) (hop_in y)
-  sent_by y e = ap (λ (z : NextHop). sent_to (rrep g (numbered_in part)) (hop_in z)) e
-
-  module _ (e : x ≡ Nobody) where
-    pub reply_none : (em : Emitted) → em ≡ emitted [] → em ≡ emitted sent_reply
-    reply_none = none_counted sent_reply (sent_by Nobody e)
-
-    pub reply_unwritten : (s : List ℕ) (at : ℕ) → s ≡ overwrite s at (frame_octets sent_reply)
-    reply_unwritten = none_written sent_reply (sent_by Nobody e)
-
-  module _ (to : Address) (e : x ≡ To to) where
-    pub reply_counted : (at end : ℕ) → end ≡ at + 40 + length part → length part % 10 ≡ 0 → (em : Emitted) → em ≡ record { frames = 1; octets = end - at }
-        → em ≡ emitted sent_reply
-    reply_counted at end size whole =
-        one_counted sent_reply to (rrep g (numbered_in part)) (sent_by (To to) e) (end - at)
-        (omega (arith, size, whole, each_length (numbered_at part) 0 (length part / 10)))
-
-    pub reply_written : (s v : List ℕ) (at : ℕ) → v ≡ overwrite s at (write_frame to (rrep g (numbered_in part))) → v ≡ overwrite s at (frame_octets sent_reply)
-    reply_written = one_written sent_reply to (rrep g (numbered_in part)) (sent_by (To to) e)
-
-pub reply_room : (at end k : ℕ) → end ≡ at + 40 + k → k ≤ 220 → end - at ≤ 1560
-reply_room at end k e l = omega arith
-
-module _ (t : List ℕ) (c : ℕ) (source : Address) (h : Head) (he : h ≡ head_at t) where
-  pub source_own : source.0 ≡ h.own.0 → none ≡ reply_receiver t c source
-  unfolding reply_receiver
-  source_own e = rw (is_own t h he source e)
-
-  pub source_other : (source.0 ≡ h.own.0 → ⊥) → (x : NextHop) → hop_in x ≡ active_next c (row_for t source)
-      → hop_in x ≡ reply_receiver t c source
-  unfolding reply_receiver
-  source_other e x xe = rw (is_other t h he source e) xe
-
-module _ (t : List ℕ) (a : Arrival) (f : RrepFields) (part : List ℕ) where
+module _ (t : List ℕ) (a : Arrival) (f : RrepFields) (part : List ℕ) (x : Option Address) (xe : x ≡ reply_receiver t a.clock f.source.address) where
   abbrev dependents : List NumberedAddress
   dependents = numbered_in part
 
-  reply_is : rrep_onward t a f dependents ≡ sent_to (rrep (rrep_forward a f) dependents) (reply_receiver t a.clock f.source.address)
+  abbrev element_by : PathInfo → Element
+  element_by p = rrep (record { path = p; source = f.source }) dependents
+
+  -- The RREP goes to its receiver.
+  reply_is : rrep_onward t a f dependents ≡ sent_to (element_by (onward a f.path)) x
   unfolding rrep_onward reply_receiver
-  reply_is = by (same f.source.address (own t))
+  reply_is = by (same f.source.address (own t)) ∙ ap (sent_to e) (sym xe)
     where
       e : Element
-      e = rrep (rrep_forward a f) dependents
+      e = element_by (onward a f.path)
 
       o : Option Address
       o = active_next a.clock (row_for t f.source.address)
 
-      by : (b : Bool) → cond b [] (sent_to e o) ≡ sent_to e (cond b none o)
+      by : (b : Bool) → cond b [] (sent_to e o) ≡ sent_to e (cond b None o)
       by true = refl
       by false = refl
 
-  module _ (x : NextHop) (xe : hop_in x ≡ reply_receiver t a.clock f.source.address) (g : RrepFields) (ge : g ≡ rrep_forward a f) where
-    replied_by : sent_to (rrep g dependents) (hop_in x) ≡ rrep_onward t a f dependents
-    replied_by = ap₂ (λ (k : RrepFields) (y : Option Address). sent_to (rrep k dependents) y) ge xe ∙ sym reply_is
+  module _ (e : x ≡ None) where
+    no_receiver : rrep_onward t a f dependents ≡ []
+    no_receiver = reply_is ∙ ap (sent_to (element_by (onward a f.path))) e
 
-    pub reply_goes_counted : (em : Emitted) → em ≡ emitted (sent_to (rrep g dependents) (hop_in x)) → em ≡ emitted (rrep_onward t a f dependents)
-    reply_goes_counted em eme = eme ∙ ap emitted replied_by
+    pub reply_none : (em : Emitted) → em ≡ emitted [] → em ≡ emitted (rrep_onward t a f dependents)
+    reply_none = none_counted (rrep_onward t a f dependents) no_receiver
 
-    pub reply_goes_written : (s v : List ℕ) (at : ℕ) → v ≡ overwrite s at (frame_octets (sent_to (rrep g dependents) (hop_in x)))
-        → v ≡ overwrite s at (frame_octets (rrep_onward t a f dependents))
-    reply_goes_written s v at ve = ve ∙ ap (λ (l : List Frame). overwrite s at (frame_octets l)) replied_by
+    pub reply_unwritten : (s : List ℕ) (at : ℕ) → s ≡ overwrite s at (frame_octets (rrep_onward t a f dependents))
+    reply_unwritten = none_written (rrep_onward t a f dependents) no_receiver
+
+  module _ (to : Address) (e : x ≡ Some to) (p : PathInfo) (pe : p ≡ onward a f.path) where
+    reply_goes : rrep_onward t a f dependents ≡ record { receiver = to; element = element_by p } ∷ []
+    reply_goes = reply_is ∙ ap₂ (λ (q : PathInfo) (y : Option Address). sent_to (element_by q) y) (sym pe) e
+
+    pub reply_counted : (at end : ℕ) → end ≡ at + 40 + length part → length part % 10 ≡ 0 → (em : Emitted) → em ≡ record { frames = 1; octets = end - at }
+        → em ≡ emitted (rrep_onward t a f dependents)
+    reply_counted at end size whole =
+        one_counted (rrep_onward t a f dependents) to (element_by p) reply_goes (end - at)
+        (omega (arith, size, whole, each_length (numbered_at part) 0 (length part / 10)))
+
+    pub reply_written : (s v : List ℕ) (at : ℕ) → v ≡ overwrite s at (write_frame to (element_by p)) → v ≡ overwrite s at (frame_octets (rrep_onward t a f dependents))
+    reply_written = one_written (rrep_onward t a f dependents) to (element_by p) reply_goes

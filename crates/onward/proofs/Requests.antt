@@ -1,17 +1,15 @@
 -- Laws of forwarding a RREQ, case by case, as the proofs of the functions need them.
+use Rattle.std.specs.Prelude.{Option, None, Some, filter_map}
 use Prim.Native.Nat.{ℕ, ◌+◌, ◌-◌, ◌*◌, ◌/◌, ◌<◌, ◌≤◌}
-use mathlib.Core.Path.{◌≡◌, refl, sym, ap, subst, ◌∙◌}
-use mathlib.Core.Bool.{Bool, true, false, not, cond}
-use mathlib.Core.List.{List, [], ◌∷◌, append-nil, flat_map}
-use mathlib.Core.Option.{Option, none, some}
+use mathlib.Core.Path.{◌≡◌, refl, sym, ap, ap₂, subst, ◌∙◌}
+use mathlib.Core.Bool.{Bool, true, false, cond}
+use mathlib.Core.List.{List, [], ◌∷◌, flat_map}
 use lib.ListN.{length}
 use native.Mathlib.Omega.{arith}
-use borrow.Author.Tests.{lt-ltb, le-ltb, ltb-false, not-true, not-false}
+use borrow.Author.Tests.{lt-ltb, le-ltb, ltb-false}
 use Rattle.octets.specs.LittleEndian.{overwrite}
 use Rattle.layout.specs.declared.address.Address.{Address}
-use Rattle.table.specs.declared.search.NextHop.{NextHop}
-use Rattle.table.specs.declared.search.NextHop.TheVariants.{To, Nobody}
-use Rattle.table.specs.Table.{row_for, active_next, hop_in}
+use Rattle.table.specs.Table.{row_for, active_next}
 use Rattle.element.specs.declared.Kind.TheVariants.{Rreq}
 use Rattle.element.specs.declared.PathInfo.{PathInfo}
 use Rattle.element.specs.declared.RreqFields.{RreqFields}
@@ -30,20 +28,8 @@ use Rattle.calls.specs.declared.Emitted.{Emitted}
 use Rattle.calls.specs.Answers.{emitted}
 use Rattle.onward.specs.Kept.{kept_of, kept_among}
 use Rattle.onward.proofs.KeptOnes.{kept_address, kept_few}
-use Rattle.onward.specs.Sent.{request_receiver, rreq_forward, sent_with, kept_sent_to, request_sent, unicast_to_several}
+use Rattle.onward.specs.Sent.{request_receiver, sent_with, unicast_to_several}
 use Rattle.onward.proofs.Going.{none_counted, none_written, one_counted, one_written}
-
--- ---- the receiver
-
-module _ (t : List ℕ) (c : ℕ) (p : PathInfo) (part : List ℕ) (b : Bool) (be : b ≡ unicast p) where
-  pub to_all_lem : not b ≡ true → some all_ones ≡ request_receiver t c p part
-  unfolding request_receiver
-  to_all_lem e = rw (← be, not-true b e)
-
-  pub to_one : not b ≡ false → (q : Target) → q ≡ target_at part 0 → (x : NextHop) → hop_in x ≡ active_next c (row_for t q.address)
-      → hop_in x ≡ request_receiver t c p part
-  unfolding request_receiver
-  to_one e q qe x xe = rw (← be, not-false b e, ← qe) xe
 
 -- ---- the kept destinations, and the start after them
 
@@ -100,29 +86,6 @@ module _ (t : List ℕ) (c : ℕ) (part : List ℕ) (to : Address) (f : RreqFiel
         one_written (sent_with to f (kept_among t c part)) to (rreq f (kept_among t c part)) sent_one out w at
         (started_last to out v w at (at + 34) (rreq f (kept_among t c part)) ((end - (at + 34)) / 11) (omega (arith, ee)) refl ve we)
 
--- ---- to its receiver, if there is one
-
-module _ (t : List ℕ) (c : ℕ) (f : RreqFields) (part : List ℕ) (x : NextHop)
-    (xe : hop_in x ≡ request_receiver t c f.path part) where
-  sent_by : (y : NextHop) → x ≡ y → request_sent t c f part ≡ kept_sent_to f (kept_among t c part) (hop_in y)
-  unfolding request_sent
-  sent_by y e = ap (kept_sent_to f (kept_among t c part)) (sym xe ∙ ap hop_in e)
-
-  module _ (e : x ≡ Nobody) where
-    pub request_none : (em : Emitted) → em ≡ emitted [] → em ≡ emitted (request_sent t c f part)
-    request_none = none_counted (request_sent t c f part) (sent_by Nobody e)
-
-    pub request_unwritten : (s : List ℕ) (at : ℕ) → s ≡ overwrite s at (frame_octets (request_sent t c f part))
-    request_unwritten = none_written (request_sent t c f part) (sent_by Nobody e)
-
-  module _ (to : Address) (e : x ≡ To to) where
-    pub request_one : (em : Emitted) → em ≡ emitted (sent_with to f (kept_among t c part)) → em ≡ emitted (request_sent t c f part)
-    request_one em eme = eme ∙ ap emitted (sym (sent_by (To to) e))
-
-    pub request_one_written : (s v : List ℕ) (at : ℕ) → v ≡ overwrite s at (frame_octets (sent_with to f (kept_among t c part)))
-        → v ≡ overwrite s at (frame_octets (request_sent t c f part))
-    request_one_written s v at ve = ve ∙ ap (λ (l : List Frame). overwrite s at (frame_octets l)) (sym (sent_by (To to) e))
-
 -- ---- the whole
 
 module _ (t : List ℕ) (a : Arrival) (f : RreqFields) where
@@ -138,59 +101,82 @@ module _ (t : List ℕ) (a : Arrival) (f : RreqFields) where
     pub request_low_unwritten : (s : List ℕ) (at : ℕ) → s ≡ overwrite s at (frame_octets (rreq_onward t a f kept))
     request_low_unwritten s at = none_written (rreq_onward t a f kept) (low_ttl low kept) s at
 
+  abbrev fields_by : PathInfo → RreqFields
+  fields_by p = record { request = f.request; path = p }
+
+  -- Returns the frame with the kept destinations to a receiver, or no frame if there is no receiver.
+  abbrev sent_by : PathInfo → List Target → Option Address → List Frame
+  sent_by p kept None = []
+  sent_by p kept (Some to) = sent_with to (fields_by p) kept
+
+  abbrev path : PathInfo
+  path = onward a f.path
+
   -- A unicast RREQ whose kept destinations all have the address d is forwarded to the active next hop for d.
   module _ (left : 2 ≤ f.path.ttl) (d : Address) where
     abbrev receiver_for : Bool → Option Address
-    receiver_for b = cond b (active_next a.clock (row_for t d)) (some all_ones)
+    receiver_for b = cond b (active_next a.clock (row_for t d)) (Some all_ones)
 
-    sent_as : (q : Target) (qs : List Target) (x : Option Address) → sent_to (rreq (rreq_forward a f) (q ∷ qs)) x ≡ kept_sent_to (rreq_forward a f) (q ∷ qs) x
+    sent_as : (q : Target) (qs : List Target) (x : Option Address) → sent_to (rreq (fields_by path) (q ∷ qs)) x ≡ sent_by path (q ∷ qs) x
     unfolding sent_with
-    sent_as q qs (some to) = refl
-    sent_as q qs none = refl
+    sent_as q qs (Some to) = refl
+    sent_as q qs None = refl
 
     goes_by : (kept : List Target) → (unicast f.path ≡ true → All (λ (k : Target). k.address ≡ d) kept)
-        → rreq_onward t a f kept ≡ kept_sent_to (rreq_forward a f) kept (receiver_for (unicast f.path))
+        → rreq_onward t a f kept ≡ sent_by path kept (receiver_for (unicast f.path))
     unfolding rreq_onward sent_with All
     goes_by [] h = by (receiver_for (unicast f.path))
       where
-        by : (x : Option Address) → [] ≡ kept_sent_to (rreq_forward a f) [] x
-        by (some to) = refl
-        by none = refl
+        by : (x : Option Address) → [] ≡ sent_by path [] x
+        by (Some to) = refl
+        by None = refl
     goes_by (q ∷ qs) h = rw (le-ltb f.path.ttl 2 left) (by (unicast f.path) h)
       where
         e : Element
-        e = rreq (rreq_forward a f) (q ∷ qs)
+        e = rreq (fields_by path) (q ∷ qs)
 
         by : (b : Bool) → (b ≡ true → All (λ (k : Target). k.address ≡ d) (q ∷ qs))
-            → cond b (sent_to e (active_next a.clock (row_for t q.address))) (to_all e) ≡ kept_sent_to (rreq_forward a f) (q ∷ qs) (receiver_for b)
+            → cond b (sent_to e (active_next a.clock (row_for t q.address))) (to_all e) ≡ sent_by path (q ∷ qs) (receiver_for b)
         by true h =
             ap (λ (k : Address). sent_to e (active_next a.clock (row_for t k))) (h refl).0
             ∙ sent_as q qs (active_next a.clock (row_for t d))
         by false h = refl
 
-  module _ (part : List ℕ) (left : 2 ≤ f.path.ttl) (some_target : 11 ≤ length part) (one_target : unicast_to_several f.path part ≡ false) where
+  module _ (part : List ℕ) (left : 2 ≤ f.path.ttl) (some_target : 11 ≤ length part) (one_target : unicast_to_several f.path part ≡ false)
+      (x : Option Address) (xe : x ≡ request_receiver t a.clock f.path part) where
     abbrev kept : List Target
     kept = kept_among t a.clock part
 
     -- The only destination of a unicast RREQ is kept with its address, if it is kept.
     kept_one : unicast f.path ≡ true → All (λ (k : Target). k.address ≡ (target_at part 0).address) kept
-    unfolding kept_among flat_map each unicast_to_several
+    unfolding kept_among each unicast_to_several
     kept_one u =
         let few : length part / 11 ≡ 1 = omega (arith, some_target, ltb-false 1 (length part / 11) (rw u at one_target)) in
-        subst (λ (n : ℕ). All (λ (k : Target). k.address ≡ (target_at part 0).address) (flat_map (kept_of t a.clock) (each (target_at part) 0 n))) (sym few)
-        (subst (All (λ (k : Target). k.address ≡ (target_at part 0).address)) (sym (append-nil (kept_of t a.clock (target_at part 0))))
-        (kept_address t a.clock (target_at part 0)))
+        subst (λ (n : ℕ). All (λ (k : Target). k.address ≡ (target_at part 0).address) (filter_map (kept_of t a.clock) (each (target_at part) 0 n))) (sym few)
+        (kept_address t a.clock (target_at part 0))
 
-    request_is : rreq_onward t a f kept ≡ request_sent t a.clock (rreq_forward a f) part
-    unfolding request_sent request_receiver onward
-    request_is = goes_by left (target_at part 0).address kept kept_one
+    -- The RREQ goes to its receiver.
+    request_is : rreq_onward t a f kept ≡ sent_by path kept x
+    unfolding request_receiver
+    request_is = goes_by left (target_at part 0).address kept kept_one ∙ ap (sent_by path kept) (sym xe)
 
-    module _ (g : RreqFields) (ge : g ≡ rreq_forward a f) where
-      requested_by : request_sent t a.clock g part ≡ rreq_onward t a f kept
-      requested_by = ap (λ (k : RreqFields). request_sent t a.clock k part) ge ∙ sym request_is
+    module _ (e : x ≡ None) where
+      no_receiver : rreq_onward t a f kept ≡ []
+      no_receiver = request_is ∙ ap (sent_by path kept) e
 
-      pub request_counted : (em : Emitted) → em ≡ emitted (request_sent t a.clock g part) → em ≡ emitted (rreq_onward t a f kept)
-      request_counted em eme = eme ∙ ap emitted requested_by
+      pub request_none : (em : Emitted) → em ≡ emitted [] → em ≡ emitted (rreq_onward t a f kept)
+      request_none = none_counted (rreq_onward t a f kept) no_receiver
 
-      pub request_written : (s v : List ℕ) (at : ℕ) → v ≡ overwrite s at (frame_octets (request_sent t a.clock g part)) → v ≡ overwrite s at (frame_octets (rreq_onward t a f kept))
-      request_written s v at ve = ve ∙ ap (λ (l : List Frame). overwrite s at (frame_octets l)) requested_by
+      pub request_unwritten : (s : List ℕ) (at : ℕ) → s ≡ overwrite s at (frame_octets (rreq_onward t a f kept))
+      request_unwritten = none_written (rreq_onward t a f kept) no_receiver
+
+    module _ (to : Address) (e : x ≡ Some to) (p : PathInfo) (pe : p ≡ path) where
+      request_goes : sent_with to (fields_by p) kept ≡ rreq_onward t a f kept
+      request_goes = ap₂ (λ (q : PathInfo) (y : Option Address). sent_by q kept y) pe (sym e) ∙ sym request_is
+
+      pub request_counted : (em : Emitted) → em ≡ emitted (sent_with to (fields_by p) kept) → em ≡ emitted (rreq_onward t a f kept)
+      request_counted em eme = eme ∙ ap emitted request_goes
+
+      pub request_written : (s v : List ℕ) (at : ℕ) → v ≡ overwrite s at (frame_octets (sent_with to (fields_by p) kept))
+          → v ≡ overwrite s at (frame_octets (rreq_onward t a f kept))
+      request_written s v at ve = ve ∙ ap (λ (l : List Frame). overwrite s at (frame_octets l)) request_goes

@@ -3,39 +3,33 @@ ghost use Rattle.std.specs.Prelude.{◌≡◌, ◌+◌, ◌*◌, ◌≤◌, leng
 ghost use mathlib.Core.List.{flat_map};
 ghost use Rattle.octets.specs.LittleEndian.{overwrite};
 ghost use Rattle.element.specs.Entries.{target_octets};
-ghost use Rattle.onward.specs.Kept.{kept_among, kept_in, kept_octets, kept_of};
+ghost use Rattle.onward.specs.Kept.{kept_among, kept_octets, kept_of};
 ghost use Rattle.layout.specs.Layout.{Sized};
 
-use answering::Answering;
 use element::{Target, flags, list};
+use layout::address::Address;
 use layout::row;
 
-// What becomes of a destination in the forwarded RREQ: it is kept in this form, or struck out.
-#[derive(Clone, Copy)]
-pub enum Kept {
-    As(Target),
-    Struck,
-}
-
-// Returns what is kept of a destination. The own address is struck out. A destination that a row answers for is struck out
-// too, unless RF = 1. With RF = 1 it is kept, with DO set.
-fn kept_of(table: &[u8], clock: u64, q: Target) -> Kept
+// Returns the form in which a destination is kept in the forwarded RREQ, or None if it is struck out. The own address is struck
+// out. A destination that a row answers for is struck out too, unless RF = 1. With RF = 1 it is kept, with DO set.
+#[tactic(auto, unfolding(crate::specs::Kept::kept_of))]
+fn kept_of(table: &[u8], clock: u64, q: Target) -> Option<Target>
     requires { Sized table.now }
-    ensures { kept_in result ≡ kept_of table.now clock q }
+    ensures { result ≡ kept_of table.now clock q }
 {
-    if q.address.0 == row::read_head(table).own.0 {
-        return Kept::Struck;
+    if q.address == row::read_head(table).own {
+        return None;
     }
-    if q.address.0 == list::ALL_ONES {
-        return Kept::As(q);
+    if q.address == Address(list::ALL_ONES) {
+        return Some(q);
     }
-    let Answering::By(_) = answering::answering_row(table, clock, q) else {
-        return Kept::As(q);
-    };
+    if answering::answering_row(table, clock, q).is_none() {
+        return Some(q);
+    }
     if !flags::has_rf(q) {
-        return Kept::Struck;
+        return None;
     }
-    Kept::As(flags::with_do(q))
+    Some(flags::with_do(q))
 }
 
 // Writes the destination if it is kept. Returns the place after what was written.
@@ -46,8 +40,8 @@ fn write_if_kept(output: &mut [u8], at: usize, table: &[u8], clock: u64, q: Targ
     ensures output_after { output.new ≡ overwrite output.old at (kept_octets table.now clock q) }
 {
     match kept_of(table, clock, q) {
-        Kept::As(k) => writing::write_target(output, at, k),
-        Kept::Struck => at,
+        Some(k) => writing::write_target(output, at, k),
+        None => at,
     }
 }
 
@@ -61,10 +55,8 @@ pub fn write_kept(output: &mut [u8], at: usize, table: &[u8], clock: u64, part: 
 {
     let n = part.len() / list::TARGET;
     let mut place = at;
-    let mut i = 0;
-    while i < n {
+    for i in 0..n {
         place = write_if_kept(output, place, table, clock, list::target_at(part, i));
-        i += 1;
     }
     place
 }

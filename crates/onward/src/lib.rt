@@ -20,17 +20,10 @@ fn onward(a: Arrival, p: PathInfo) -> PathInfo
     requires le_ttl { 1 ≤ p.ttl }
     ensures { result ≡ onward a p }
 {
-    let hops = here::hops_here(p);
-    let metric = here::metric_here(a, p);
-    let subject = p.subject;
-    let number = p.number;
     PathInfo {
-        flags: p.flags,
-        hops,
+        hops: here::hops_here(p),
         ttl: p.ttl - 1,
-        subject,
-        number,
-        lifetime: p.lifetime,
-        metric,
+        metric: here::metric_here(a, p),
+        ..p
     }
 }

@@ -9,36 +9,36 @@ ghost use Rattle.element.specs.Octets.{frame_start};
 ghost use Rattle.rules.specs.Originate.{originating, own_path, own_request, numbered_head};
 ghost use Rattle.calls.specs.Answers.{answer_to};
 
-use calls::Answer;
 use counters::own::OwnCounters;
 use counters::{HopCount, Metric, own};
 use element::{PathInfo, RreqFields, list};
 use layout::address::Address;
 use layout::row::Head;
+use refusals::Refusal;
 use table::legal;
 
 // Checks an announcement or a root request. `barred` says whether the flags are barred, since the two calls bar different
 // flags.
-pub fn check(table: &[u8], output: &[u8], barred: bool, lifetime: u32) -> Answer
+pub fn check(table: &[u8], output: &[u8], barred: bool, lifetime: u32) -> Result<(), Refusal>
     ensures { result ≡ answer_to
         (originating {A = Unit {0}} table.now (length output.now) barred lifetime tt).checks }
 {
     if !legal::is_sized(table) {
-        return Answer::Refused(refusals::TABLE_LENGTH);
+        return Err(Refusal::TableLength);
     }
     if output.len() < calls::LEAST_OUTPUT {
-        return Answer::Refused(refusals::SHORT_OUTPUT);
+        return Err(Refusal::ShortOutput);
     }
     if barred {
-        return Answer::Refused(refusals::BAD_LIST);
+        return Err(Refusal::BadList);
     }
     if lifetime == 0 {
-        return Answer::Refused(refusals::NO_LIFETIME);
+        return Err(Refusal::NoLifetime);
     }
     if !legal::is_table(table) {
-        return Answer::Refused(refusals::NOT_A_TABLE);
+        return Err(Refusal::NotATable);
     }
-    Answer::Accepted
+    Ok(())
 }
 
 // Numbers a new element, which is a RREQ or not. The element has the counters of the head that is returned.

@@ -1,6 +1,5 @@
 // Root request: the point sends a RREQ of its own for all ones.
-ghost use Rattle.std.specs.Prelude.{◌≡◌, [], ◌∷◌, ◌≤◌, length};
-ghost use Rattle.rules.specs.Decision.{accepted};
+ghost use Rattle.std.specs.Prelude.{◌≡◌, [], ◌∷◌, ◌≤◌, length, Ok};
 ghost use Rattle.rules.specs.Exit.{at_exit, lend, least_output};
 ghost use Rattle.rules.specs.Exits.{root_request_exit};
 ghost use Rattle.rules.specs.Originate.{is_root_flags, requested, root_target};
@@ -8,11 +7,12 @@ ghost use Rattle.calls.specs.Answers.{exit_of};
 ghost use Rattle.layout.specs.Layout.{Sized};
 
 use crate::common;
-use calls::{Answer, Emitted, Outcome};
+use calls::Emitted;
 use counters::SequenceNumber;
 use element::{Target, list};
 use layout::address::Address;
 use layout::row;
+use refusals::Refusal;
 
 // Reports whether a root request may have the flags. Portal and reply wanted may be set. Unicast and the reserved bits may not
 // be set.
@@ -34,26 +34,29 @@ fn root_target() -> Target
 }
 
 // Writes the table and the frame of an accepted root request.
-fn send(table: &mut [u8], output: &mut [u8], flags: u8, lifetime: u32) -> Outcome
+fn send(table: &mut [u8], output: &mut [u8], flags: u8, lifetime: u32) -> Result<Emitted, Refusal>
     requires sized { Sized table.old }
     requires least_output_in_bounds { least_output ≤ length output.old }
     ensures { exit_of result (lend table.new) output.new
         ≡ at_exit (lend table.old) output.old
-        (accepted (requested (lend table.old) flags lifetime (root_target ∷ []))) }
+        (Ok (requested (lend table.old) flags lifetime (root_target ∷ []))) }
 {
     let head = common::number_head(row::read_head(table), true);
     row::write_head(table, head);
     let place = common::start_request(output, head, flags, lifetime, 1);
     let octets = writing::write_target(output, place, root_target());
-    Outcome::Accepted(Emitted::one_frame(octets))
+    Ok(Emitted::one_frame(octets))
 }
 
-pub fn root_request(table: &mut [u8], output: &mut [u8], flags: u8, lifetime: u32) -> Outcome
+pub fn root_request(
+    table: &mut [u8],
+    output: &mut [u8],
+    flags: u8,
+    lifetime: u32,
+) -> Result<Emitted, Refusal>
     ensures { exit_of result (lend table.new) output.new
         ≡ root_request_exit (lend table.old) output.old flags lifetime }
 {
-    match common::check(table, output, !is_root_flags(flags), lifetime) {
-        Answer::Accepted => send(table, output, flags, lifetime),
-        Answer::Refused(n) => Outcome::Refused(n),
-    }
+    common::check(table, output, !is_root_flags(flags), lifetime)?;
+    send(table, output, flags, lifetime)
 }

@@ -1,9 +1,13 @@
 -- Laws of the numbers of an element: the numbers of its fixed part, and then the numbers of its entries.
-use Prim.Native.Nat.{ℕ, zero, suc, ◌/◌}
+use Prim.Native.Nat.{ℕ, zero, suc, ◌/◌, ◌+◌, ◌≤◌}
 use mathlib.Core.Path.{◌≡◌, refl, sym, ap, ap₂, ◌∙◌}
-use mathlib.Core.List.{List, ◌++◌, flat_map}
-use lib.ListN.{length}
+use mathlib.Core.List.{List, ◌++◌, append_assoc, flat_map}
+use lib.ListN.{length, take, drop}
+use lib.Seq.{drop-drop}
+use borrow.Rule.Slice.PartMut.{put_mid}
+use Rattle.std.proofs.lemmas.List.Edits.{sets-eq}
 use native.Mathlib.Nat.{zero-add}
+use Rattle.std.specs.Prelude.{Result, Ok, Err}
 use Rattle.octets.specs.LittleEndian.{overwrite}
 use Rattle.octets.proofs.OctetLists.{overwrite_append}
 use Rattle.element.specs.declared.Kind.TheVariants.{Rann, Rreq, Rrep, Rerr}
@@ -11,14 +15,21 @@ use Rattle.element.specs.declared.PathInfo.{PathInfo}
 use Rattle.element.specs.declared.RreqFields.{RreqFields}
 use Rattle.element.specs.declared.RrepFields.{RrepFields}
 use Rattle.element.specs.declared.RerrFields.{RerrFields}
-use Rattle.reading.specs.declared.Reading.{Reading}
-use Rattle.reading.specs.declared.Reading.TheVariants.{Refused}
+use Rattle.refusals.specs.declared.Refusal.{Refusal}
+use Rattle.refusals.specs.Numbers.{number_of}
+use Rattle.reading.specs.declared.Fields.{Fields}
 use Rattle.element.specs.Element.{Element, rann, rreq, rrep, rerr, kind_of, count_of, field_numbers, lost_numbers, numbered_numbers, rann_numbers, rerr_numbers, rrep_numbers, rreq_numbers, target_numbers}
 use Rattle.element.specs.Entries.{each, lost_at, lost_in, numbered_at, numbered_in, target_at, targets_in}
 use Rattle.element.specs.Octets.{fixed_numbers, read_element}
-use Rattle.reading.specs.Reading.{fixed_fields, reading}
+use Rattle.reading.specs.Reading.{reading}
 use Rattle.element.proofs.Scans.{each_length}
-use Rattle.probe.specs.Probes.{Probed, entry_numbers, element_numbers, read_numbers, unless_refused}
+use Rattle.probe.specs.Probes.{entry_numbers, element_numbers, read_numbers}
+
+-- Copying values into the part of s from place `at` on is writing them there.
+pub values_put : (s u p : List ℕ) (at n : ℕ) → at + length p ≤ length s → u ≡ p → n ≡ length p → put_mid at n s u ≡ overwrite s at p
+unfolding overwrite
+values_put s u p at n l e k =
+    rw (e, k, drop-drop (length p) at s, ← append_assoc (take at s) p (drop (at + length p) s)) (sym (sets-eq p s at l))
 
 -- Octets read as dependents of a RREP and as destinations of a RERR give the same numbers.
 same_numbers : (part : List ℕ) (i n : ℕ) → flat_map numbered_numbers (each (numbered_at part) i n) ≡ flat_map lost_numbers (each (lost_at part) i n)
@@ -58,18 +69,12 @@ module _ (s t ys : List ℕ) (te : t ≡ overwrite s 0 ys) where
 
 -- ---- each result of the reader
 
-pub not_refused : (e : Element) (was : List ℕ) (made : Probed) → unless_refused (fixed_fields e) was made ≡ made
-not_refused (rann p) was made = refl
-not_refused (rreq f targets) was made = refl
-not_refused (rrep f dependents) was made = refl
-not_refused (rerr f destinations) was made = refl
-
-module _ (s numbers : List ℕ) (r : Reading) (re : r ≡ reading s) where
-  pub read_refused : (n : ℕ) → r ≡ Refused n → record { answer = n; memory = numbers } ≡ read_numbers s numbers
+module _ (s numbers : List ℕ) (r : Result Fields Refusal) (re : r ≡ reading s) where
+  pub read_refused : (x : Refusal) → r ≡ Err x → record { answer = number_of x; memory = numbers } ≡ read_numbers s numbers
   unfolding read_numbers
-  read_refused n e = rw (← re, e) refl
+  read_refused x e = rw (← re, e) refl
 
-  pub read_element_lem : (a : ℕ) → a ≡ 0 → (e : Element) (u : List ℕ) → u ≡ overwrite numbers 0 (element_numbers e) → r ≡ fixed_fields e → read_element s ≡ e
-      → record { answer = a; memory = u } ≡ read_numbers s numbers
+  pub read_element_lem : (f : Fields) → r ≡ Ok f → (e : Element) (u : List ℕ) → u ≡ overwrite numbers 0 (element_numbers e) → read_element s ≡ e
+      → record { answer = 0; memory = u } ≡ read_numbers s numbers
   unfolding read_numbers
-  read_element_lem a ae e u ue fe ee = rw (ae, ue, ← re, fe, ee, not_refused e)
+  read_element_lem f fe e u ue ee = rw (ue, ← re, fe, ee)

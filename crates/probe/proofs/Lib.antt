@@ -1,3 +1,3 @@
-pub mod Entries
-pub mod Elements
-pub mod Frames
+mod Entries
+mod Elements
+mod Frames

@@ -1,12 +1,14 @@
 -- Defines what the entries for tests and benchmarks answer, and what they leave in their lent memory.
-use Rattle.std.specs.Prelude.{ℕ, ◌+◌, cond, leb, length}
+use Rattle.std.specs.Prelude.{ℕ, ◌+◌, cond, leb, length, Result, Ok, Err}
 use mathlib.Core.List.{List, [], ◌++◌, flat_map}
 use Rattle.octets.specs.LittleEndian.{overwrite}
 use Rattle.layout.specs.declared.address.Address.{Address}
 use Rattle.element.specs.declared.list.ListKind.{ListKind}
 use Rattle.element.specs.declared.list.ListKind.TheVariants.{Targets, Dependents, LostDestinations}
-use Rattle.reading.specs.declared.Reading.{Reading}
-use Rattle.reading.specs.declared.Reading.TheVariants.{Announcement, Request, Reply, Error, Refused}
+use Rattle.refusals.specs.declared.Refusal.{Refusal}
+use Rattle.refusals.specs.Numbers.{number_of}
+use Rattle.reading.specs.declared.Fields.{Fields}
+use Rattle.reading.specs.declared.Fields.TheVariants.{Announcement, Request, Reply, Error}
 use Rattle.element.specs.Element.{
   Element,
   rann,
@@ -28,13 +30,15 @@ pub record Probed : Type 0 where
   pub answer : ℕ
   pub memory : List ℕ
 
+-- Returns the answer of an entry: 0, or the number of the refusal.
+abbrev pub answer_of : Result (Unit {0}) Refusal → ℕ
+answer_of (Ok x) = 0
+answer_of (Err r) = number_of r
+
 -- A refusal answers its number and leaves the memory unchanged.
-abbrev pub unless_refused : Reading → List ℕ → Probed → Probed
-unless_refused (Announcement p) was made = made
-unless_refused (Request f) was made = made
-unless_refused (Reply f) was made = made
-unless_refused (Error f) was made = made
-unless_refused (Refused n) was made = record { answer = n; memory = was }
+abbrev pub unless_refused : Result Fields Refusal → List ℕ → Probed → Probed
+unless_refused (Ok f) was made = made
+unless_refused (Err r) was made = record { answer = number_of r; memory = was }
 
 -- ---- an element as numbers
 
@@ -72,12 +76,16 @@ abbrev pub faults : ListKind → Address → List Address → ℕ
 faults k a l =
     cond (any_forbidden k l) 1 0 + cond (has_duplicate l) 2 0 + cond (ones_beside_others l) 4 0 + cond (contains l a) 8 0
 
-abbrev pub faults_read : Reading → List ℕ → Address → ℕ
-faults_read (Announcement p) part a = faults Dependents a (addresses_in Dependents part)
-faults_read (Request f) part a = faults Targets a (addresses_in Targets part)
-faults_read (Reply f) part a = faults Dependents a (addresses_in Dependents part)
-faults_read (Error f) part a = faults LostDestinations a (addresses_in LostDestinations part)
-faults_read (Refused n) part a = 0
+-- Returns the kind of the list that the element has. The list part of a RANN is empty, so its kind makes no difference.
+abbrev pub list_kind : Fields → ListKind
+list_kind (Announcement p) = Dependents
+list_kind (Request f) = Targets
+list_kind (Reply f) = Dependents
+list_kind (Error f) = LostDestinations
+
+abbrev pub faults_read : Result Fields Refusal → List ℕ → Address → ℕ
+faults_read (Ok f) part a = faults (list_kind f) a (addresses_in (list_kind f) part)
+faults_read (Err r) part a = 0
 
 unfoldable pub faults_in : List ℕ → Address → ℕ
 faults_in s a = faults_read (reading s) (list_part s) a

@@ -8,13 +8,24 @@ mod numbers;
 ghost use Rattle.std.specs.Prelude.{◌≡◌, cond, ◌≤◌};
 ghost use Rattle.layout.specs.Address.{address_of};
 ghost use Rattle.element.specs.Lists.{addresses_in};
-ghost use Rattle.probe.specs.Probes.{faults, faults_in, read_numbers, written_again};
+ghost use Rattle.probe.specs.Probes.{answer_of, faults, faults_in, list_kind, read_numbers, written_again};
 
 use element::list;
 use element::list::ListKind;
 use layout::address;
 use layout::address::Address;
-use reading::Reading;
+use reading::Fields;
+use refusals::Refusal;
+
+// Returns the answer of an entry: 0, or the number of the refusal.
+fn answer_of(outcome: Result<(), Refusal>) -> u32
+    ensures { result ≡ answer_of outcome }
+{
+    match outcome {
+        Ok(()) => 0,
+        Err(refusal) => u32::from(refusal),
+    }
+}
 
 // Writes the numbers of the element and of its entries, in the order of the octets, and answers 0. For a refused element it
 // answers 6, 7 or 8 and writes nothing.
@@ -23,12 +34,41 @@ pub extern "C" fn probe_read(element: &[u8], numbers: &mut [u64; 71]) -> u32
     ensures { record { answer = result; memory = numbers.new }
         ≡ read_numbers element.now numbers.old }
 {
+    // Matches the whole result, as `write_again` does: a `?` moves all fields before the match, in up to 18 instructions more.
     match reading::read(element) {
-        Reading::Announcement(path) => numbers::put_rann(numbers, path),
-        Reading::Request(f) => numbers::put_rreq(numbers, f, reading::list_part(element)),
-        Reading::Reply(f) => numbers::put_rrep(numbers, f, reading::list_part(element)),
-        Reading::Error(f) => numbers::put_rerr(numbers, f, reading::list_part(element)),
-        Reading::Refused(n) => n,
+        Ok(Fields::Announcement(path)) => numbers::put_rann(numbers, path),
+        Ok(Fields::Request(f)) => numbers::put_rreq(numbers, f, reading::list_part(element)),
+        Ok(Fields::Reply(f)) => numbers::put_rrep(numbers, f, reading::list_part(element)),
+        Ok(Fields::Error(f)) => numbers::put_rerr(numbers, f, reading::list_part(element)),
+        Err(refusal) => return u32::from(refusal),
+    }
+    0
+}
+
+// Writes the element again as `probe_write` says, or returns its refusal.
+fn write_again(
+    element: &[u8],
+    to: Address,
+    out: &mut [u8],
+    at: usize,
+    singly: bool,
+) -> Result<(), Refusal>
+    ensures { record { answer = answer_of result; memory = out.new }
+        ≡ written_again element.now to out.old at }
+{
+    match reading::read(element) {
+        Ok(Fields::Announcement(path)) => again::write_rann(out, at, to, path),
+        Ok(Fields::Request(f)) => again::write_rreq(
+            out,
+            at,
+            to,
+            f,
+            reading::list_part(element),
+            singly,
+        ),
+        Ok(Fields::Reply(f)) => again::write_rrep(out, at, to, f, reading::list_part(element)),
+        Ok(Fields::Error(f)) => again::write_rerr(out, at, to, f, reading::list_part(element)),
+        Err(refusal) => Err(refusal),
     }
 }
 
@@ -46,21 +86,7 @@ pub extern "C" fn probe_write(
     ensures { record { answer = result; memory = out.new }
         ≡ written_again element.now (address_of to.now) out.old at }
 {
-    let receiver = address::read(to);
-    match reading::read(element) {
-        Reading::Announcement(path) => again::write_rann(out, at, receiver, path),
-        Reading::Request(f) => again::write_rreq(
-            out,
-            at,
-            receiver,
-            f,
-            reading::list_part(element),
-            singly,
-        ),
-        Reading::Reply(f) => again::write_rrep(out, at, receiver, f, reading::list_part(element)),
-        Reading::Error(f) => again::write_rerr(out, at, receiver, f, reading::list_part(element)),
-        Reading::Refused(n) => n,
-    }
+    answer_of(write_again(element, address::read(to), out, at, singly != 0))
 }
 
 fn value_if(test: bool, value: u32) -> u32
@@ -79,18 +105,30 @@ fn faults_of(part: &[u8], kind: ListKind, address: Address) -> u32
         + value_if(list::contains(part, kind, address), 8)
 }
 
+// Returns the kind of the list that the element has. The list part of a RANN is empty, so its kind makes no difference.
+fn list_kind(fields: Fields) -> ListKind
+    ensures { result ≡ list_kind fields }
+{
+    match fields {
+        Fields::Announcement(_) => ListKind::Dependents,
+        Fields::Request(_) => ListKind::Targets,
+        Fields::Reply(_) => ListKind::Dependents,
+        Fields::Error(_) => ListKind::LostDestinations,
+    }
+}
+
 // Returns the faults of the list as a sum: 1 for an address that the list may not have, 2 for an address that stands twice, 4 for
 // all ones and anything else, 8 if the given address is in the list. Returns 0 for a refused element.
 #[unsafe(no_mangle)]
 pub extern "C" fn probe_faults(element: &[u8], address: &[u8; 6]) -> u32
     ensures { result ≡ faults_in element.now (address_of address.now) }
 {
-    let a = address::read(address);
-    match reading::read(element) {
-        Reading::Announcement(_) => faults_of(reading::list_part(element), ListKind::Dependents, a),
-        Reading::Request(_) => faults_of(reading::list_part(element), ListKind::Targets, a),
-        Reading::Reply(_) => faults_of(reading::list_part(element), ListKind::Dependents, a),
-        Reading::Error(_) => faults_of(reading::list_part(element), ListKind::LostDestinations, a),
-        Reading::Refused(_) => 0,
-    }
+    let Ok(fields) = reading::read(element) else {
+        return 0;
+    };
+    faults_of(
+        reading::list_part(element),
+        list_kind(fields),
+        address::read(address),
+    )
 }

@@ -1,4 +1,4 @@
-// Writes the numbers of an element one after another. Each public function answers 0.
+// Writes the numbers of an element one after another.
 ghost use Rattle.std.specs.Prelude.{◌≡◌, ◌+◌, ◌*◌, ◌/◌, ◌≤◌, length};
 ghost use mathlib.Core.List.{flat_map};
 ghost use Rattle.octets.specs.LittleEndian.{overwrite};
@@ -11,31 +11,25 @@ ghost use Rattle.probe.specs.Probes.{element_numbers};
 use element::list::ListKind;
 use element::{PathInfo, RerrFields, RrepFields, RreqFields, list};
 
+// Puts the values from the place `at` on.
 fn put(numbers: &mut [u64], at: usize, values: &[u64])
     requires { at + length values.now ≤ length numbers.old }
     ensures { numbers.new ≡ overwrite numbers.old at values.now }
 {
-    let mut j = 0;
-    while j < values.len() {
-        numbers[at + j] = values[j];
-        j += 1;
-    }
+    numbers[at..at + values.len()].copy_from_slice(values);
 }
 
+// `put_targets` and `put_numbered` stay apart: a closure that returns the numbers of an entry needs a longer contract than both.
 fn put_targets(numbers: &mut [u64], at: usize, part: &[u8])
     requires { at + 3 * (length part.now / 11) ≤ length numbers.old }
     ensures { numbers.new
         ≡ overwrite numbers.old at (flat_map target_numbers (targets_in part.now)) }
 {
     let n = part.len() / list::TARGET;
-    let mut place = at;
-    let mut i = 0;
-    while i < n {
+    for i in 0..n {
         let t = list::target_at(part, i);
         let values = [t.flags as u64, t.address.0, t.number.0 as u64];
-        put(numbers, place, &values);
-        place += 3;
-        i += 1;
+        put(numbers, at + 3 * i, &values);
     }
 }
 
@@ -46,62 +40,50 @@ fn put_numbered(numbers: &mut [u64], at: usize, part: &[u8])
         ≡ overwrite numbers.old at (flat_map numbered_numbers (numbered_in part.now)) }
 {
     let n = part.len() / list::DEPENDENT;
-    let mut place = at;
-    let mut i = 0;
-    while i < n {
+    for i in 0..n {
         let a = list::numbered_at(part, i);
         let values = [a.address.0, a.number.0 as u64];
-        put(numbers, place, &values);
-        place += 2;
-        i += 1;
+        put(numbers, at + 2 * i, &values);
     }
 }
 
-pub fn put_rann(numbers: &mut [u64], path: PathInfo) -> u32
+pub fn put_rann(numbers: &mut [u64], path: PathInfo)
     requires { 9 ≤ length numbers.old }
-    ensures value { result ≡ 0 }
-    ensures numbers_after { numbers.new ≡ overwrite numbers.old 0 (element_numbers (rann path)) }
+    ensures { numbers.new ≡ overwrite numbers.old 0 (element_numbers (rann path)) }
 {
     let values = writing::rann_numbers(path);
     put(numbers, 0, &values);
-    0
 }
 
-pub fn put_rreq(numbers: &mut [u64], f: RreqFields, part: &[u8]) -> u32
+pub fn put_rreq(numbers: &mut [u64], f: RreqFields, part: &[u8])
     requires part_of { PartOf Kind.Rreq part.now }
     requires in_bounds { 71 ≤ length numbers.old }
-    ensures value { result ≡ 0 }
-    ensures numbers_after { numbers.new
+    ensures { numbers.new
         ≡ overwrite numbers.old 0 (element_numbers (rreq f (targets_in part.now))) }
 {
     let values = writing::rreq_numbers(f, list::entries_in(part, ListKind::Targets));
     put(numbers, 0, &values);
     put_targets(numbers, 11, part);
-    0
 }
 
-pub fn put_rrep(numbers: &mut [u64], f: RrepFields, part: &[u8]) -> u32
+pub fn put_rrep(numbers: &mut [u64], f: RrepFields, part: &[u8])
     requires part_of { PartOf Kind.Rrep part.now }
     requires in_bounds { 71 ≤ length numbers.old }
-    ensures value { result ≡ 0 }
-    ensures numbers_after { numbers.new
+    ensures { numbers.new
         ≡ overwrite numbers.old 0 (element_numbers (rrep f (numbered_in part.now))) }
 {
     let values = writing::rrep_numbers(f, list::entries_in(part, ListKind::Dependents));
     put(numbers, 0, &values);
     put_numbered(numbers, 12, part);
-    0
 }
 
-pub fn put_rerr(numbers: &mut [u64], f: RerrFields, part: &[u8]) -> u32
+pub fn put_rerr(numbers: &mut [u64], f: RerrFields, part: &[u8])
     requires part_of { PartOf Kind.Rerr part.now }
     requires in_bounds { 71 ≤ length numbers.old }
-    ensures value { result ≡ 0 }
-    ensures numbers_after { numbers.new
+    ensures { numbers.new
         ≡ overwrite numbers.old 0 (element_numbers (rerr f (lost_in part.now))) }
 {
     let values = writing::rerr_numbers(f, list::entries_in(part, ListKind::LostDestinations));
     put(numbers, 0, &values);
     put_numbered(numbers, 4, part);
-    0
 }

@@ -2,18 +2,22 @@
 -- part.
 use Prim.Native.Nat.{ℕ, ◌+◌, ◌*◌, ◌/◌}
 use mathlib.Core.Path.{◌≡◌, refl, sym, ap, ap₂, subst, ◌∙◌}
-use mathlib.Core.Bool.{Bool, true, false, cond, false≢true}
-use mathlib.Core.List.{List, [], ◌∷◌}
+use mathlib.Core.Bool.{Bool, true, false}
+use mathlib.Core.List.{List, []}
 use lib.ListN.{length, drop, length-drop}
 use native.Mathlib.Omega.{arith}
+use Rattle.std.specs.Prelude.{Result, Ok}
+use Rattle.std.proofs.lemmas.List.{nil_from_length}
+use Rattle.octets.proofs.Tests.{clash}
+use Rattle.refusals.specs.declared.Refusal.{Refusal}
 use Rattle.element.specs.declared.Kind.{Kind}
 use Rattle.element.specs.declared.Kind.TheVariants.{Rann, Rreq, Rrep, Rerr}
 use Rattle.element.specs.declared.PathInfo.{PathInfo}
 use Rattle.element.specs.declared.RreqFields.{RreqFields}
 use Rattle.element.specs.declared.RrepFields.{RrepFields}
 use Rattle.element.specs.declared.RerrFields.{RerrFields}
-use Rattle.reading.specs.declared.Reading.{Reading}
-use Rattle.reading.specs.declared.Reading.TheVariants.{Announcement, Request, Reply, Error, Refused}
+use Rattle.reading.specs.declared.Fields.{Fields}
+use Rattle.reading.specs.declared.Fields.TheVariants.{Announcement, Request, Reply, Error}
 use Rattle.element.specs.Element.{Element, rann, rreq, rrep, rerr}
 use Rattle.element.specs.Layout.{length_with, count_ok, entry_size, PartOf}
 use Rattle.element.specs.Entries.{lost_in, numbered_in, targets_in}
@@ -25,25 +29,17 @@ use Rattle.element.proofs.ReadBack.{Fits, passes_6, passes_7, passes_8, read_bac
 
 -- ---- a result that is no refusal
 
-abbrev is_refused : Reading → Bool
-is_refused (Announcement p) = false
-is_refused (Request f) = false
-is_refused (Reply f) = false
-is_refused (Error f) = false
-is_refused (Refused n) = true
-
--- Returns the type of the element that was read. For a refusal the value has no meaning.
-abbrev kind_read : Reading → Kind
+-- Returns the type of the element that was read.
+abbrev kind_read : Fields → Kind
 kind_read (Announcement p) = Rann
 kind_read (Request f) = Rreq
 kind_read (Reply f) = Rrep
 kind_read (Error f) = Rerr
-kind_read (Refused n) = Rann
 
-record Accepted (s : List ℕ) (k : Kind) (r : Reading) : Type 0 where
+record Accepted (s : List ℕ) (k : Kind) (q : Fields) : Type 0 where
   kind : kind_in s ≡ k
   passes : Passed s k
-  fields : r ≡ fixed_fields (read_as k s)
+  fields : q ≡ fixed_fields (read_as k s)
 
 kind_fixed : (k : Kind) (s : List ℕ) → kind_read (fixed_fields (read_as k s)) ≡ k
 unfolding read_as
@@ -52,31 +48,18 @@ kind_fixed Rreq s = refl
 kind_fixed Rrep s = refl
 kind_fixed Rerr s = refl
 
-accepted : (s : List ℕ) (r : Reading) → r ≡ reading s → is_refused r ≡ false → Accepted s (kind_read r) r
+accepted : (s : List ℕ) (q : Fields) → Ok q ≡ reading s → Accepted s (kind_read q) q
 unfolding reading read_element
-accepted s r e no_refusal = by (wrong_length s) (other_id s) (misfit s) refl refl refl
+accepted s q e = by (wrong_length s) (other_id s) (misfit s) refl refl refl
   where
-    fields : Reading
-    fields = fixed_fields (read_as (kind_in s) s)
-
-    refused : (n : ℕ) → r ≡ Refused n → ⊥
-    refused n q = false≢true (sym no_refusal ∙ ap is_refused q)
-
-    answer : (a b c : Bool) → wrong_length s ≡ a → other_id s ≡ b → misfit s ≡ c → r ≡ cond a (Refused 6) (cond b (Refused 7) (cond c (Refused 8) fields))
-    answer a b c ae be ce = rw (← ae, ← be, ← ce) e
-
-    by : (a b c : Bool) → wrong_length s ≡ a → other_id s ≡ b → misfit s ≡ c → Accepted s (kind_read r) r
-    by true b c ae be ce = absurd (refused 6 (answer true b c ae be ce))
-    by false true c ae be ce = absurd (refused 7 (answer false true c ae be ce))
-    by false false true ae be ce = absurd (refused 8 (answer false false true ae be ce))
+    by : (a b c : Bool) → wrong_length s ≡ a → other_id s ≡ b → misfit s ≡ c → Accepted s (kind_read q) q
+    by true b c ae be ce = clash cc
+    by false true c ae be ce = clash cc
+    by false false true ae be ce = clash cc
     by false false false ae be ce =
-        let fields_are = answer false false false ae be ce in
-        subst (λ (k : Kind). Accepted s k r) (sym (ap kind_read fields_are ∙ kind_fixed (kind_in s) s))
+        let fields_are : q ≡ fixed_fields (read_as (kind_in s) s) = cc in
+        subst (λ (k : Kind). Accepted s k q) (sym (ap kind_read fields_are ∙ kind_fixed (kind_in s) s))
         (record { kind = refl; passes = passed s ae be ce; fields = fields_are })
-
-length_nil : (l : List ℕ) → length l ≡ 0 → l ≡ []
-length_nil [] e = refl
-length_nil (x ∷ l) e = absurd (omega arith)
 
 -- ---- what callers use: r is the result for the octets s, and part is their list part
 
@@ -92,9 +75,9 @@ of_kind Rreq n part c e = let r = count_range Rreq n c in record { whole = omega
 of_kind Rrep n part c e = let r = count_range Rrep n c in record { whole = omega arith; some = omega arith; short = omega arith }
 of_kind Rerr n part c e = let r = count_range Rerr n c in record { whole = omega arith; some = omega arith; short = omega arith }
 
-module _ (s : List ℕ) (r : Reading) (re : r ≡ reading s) (q : Reading) (e : r ≡ q) (no_refusal : is_refused q ≡ false) where
-  read_so : Accepted s (kind_read q) r
-  read_so = subst (λ (p : Reading). Accepted s (kind_read p) r) e (accepted s r re (ap is_refused e ∙ no_refusal))
+module _ (s : List ℕ) (r : Result Fields Refusal) (re : r ≡ reading s) (q : Fields) (e : r ≡ Ok q) where
+  read_so : Accepted s (kind_read q) q
+  read_so = accepted s q (sym e ∙ re)
 
   module _ (part : List ℕ) (pe : part ≡ list_part s) where
     part_is : part ≡ drop (2 + length_with (kind_read q) 0) s
@@ -116,58 +99,55 @@ module _ (s : List ℕ) (r : Reading) (re : r ≡ reading s) (q : Reading) (e : 
         ap (λ (j : Kind). element_as j (fields_as j s) (count_as j s) (list_as j s)) read_so.kind
         ∙ ap₂ (element_as (kind_read q) (fields_as (kind_read q) s)) entries.1 (sym part_is)
 
-  fields_are : q ≡ fixed_fields (read_as (kind_read q) s)
-  fields_are = sym e ∙ read_so.fields
-
 -- The laws for each case of the result. In each case `cc` shows that the fields in the result are the fields of the element.
-module _ (s : List ℕ) (r : Reading) (re : r ≡ reading s) where
-  module _ (p : PathInfo) (e : r ≡ Announcement p) where
+module _ (s : List ℕ) (r : Result Fields Refusal) (re : r ≡ reading s) where
+  module _ (p : PathInfo) (e : r ≡ Ok (Announcement p)) where
     -- The list part of a RANN is empty.
     pub announcement_list : list_part s ≡ []
-    announcement_list = length_nil (list_part s) (omega (arith, entries s r re (Announcement p) e refl (list_part s) refl))
+    announcement_list = nil_from_length (list_part s) (omega (arith, entries s r re (Announcement p) e (list_part s) refl))
 
     pub announcement_element : read_element s ≡ rann p
     unfolding read_as
     announcement_element =
-        let same = fields_are s r re (Announcement p) e refl in
-        element_is s r re (Announcement p) e refl (list_part s) refl ∙ ap rann (cc)
+        let same = (read_so s r re (Announcement p) e).fields in
+        element_is s r re (Announcement p) e (list_part s) refl ∙ ap rann (cc)
 
-  module _ (f : RreqFields) (e : r ≡ Request f) where
+  module _ (f : RreqFields) (e : r ≡ Ok (Request f)) where
     module _ (part : List ℕ) (pe : part ≡ list_part s) where
       pub request_part : PartOf Rreq part
-      request_part = part_of s r re (Request f) e refl part pe
+      request_part = part_of s r re (Request f) e part pe
 
       pub request_element : read_element s ≡ rreq f (targets_in part)
       unfolding read_as
       request_element =
-          let same = fields_are s r re (Request f) e refl in
-          element_is s r re (Request f) e refl part pe ∙ ap (λ (g : RreqFields). rreq g (targets_in part)) (cc)
+          let same = (read_so s r re (Request f) e).fields in
+          element_is s r re (Request f) e part pe ∙ ap (λ (g : RreqFields). rreq g (targets_in part)) (cc)
 
-  module _ (f : RrepFields) (e : r ≡ Reply f) where
+  module _ (f : RrepFields) (e : r ≡ Ok (Reply f)) where
     module _ (part : List ℕ) (pe : part ≡ list_part s) where
       pub reply_part : PartOf Rrep part
-      reply_part = part_of s r re (Reply f) e refl part pe
+      reply_part = part_of s r re (Reply f) e part pe
 
       pub reply_element : read_element s ≡ rrep f (numbered_in part)
       unfolding read_as
       reply_element =
-          let same = fields_are s r re (Reply f) e refl in
-          element_is s r re (Reply f) e refl part pe ∙ ap (λ (g : RrepFields). rrep g (numbered_in part)) (cc)
+          let same = (read_so s r re (Reply f) e).fields in
+          element_is s r re (Reply f) e part pe ∙ ap (λ (g : RrepFields). rrep g (numbered_in part)) (cc)
 
-  module _ (f : RerrFields) (e : r ≡ Error f) where
+  module _ (f : RerrFields) (e : r ≡ Ok (Error f)) where
     module _ (part : List ℕ) (pe : part ≡ list_part s) where
       pub error_part : PartOf Rerr part
-      error_part = part_of s r re (Error f) e refl part pe
+      error_part = part_of s r re (Error f) e part pe
 
       pub error_element : read_element s ≡ rerr f (lost_in part)
       unfolding read_as
       error_element =
-          let same = fields_are s r re (Error f) e refl in
-          element_is s r re (Error f) e refl part pe ∙ ap (λ (g : RerrFields). rerr g (lost_in part)) (cc)
+          let same = (read_so s r re (Error f) e).fields in
+          element_is s r re (Error f) e part pe ∙ ap (λ (g : RerrFields). rerr g (lost_in part)) (cc)
 
 -- ---- a written element
 
 -- From a written element the reader returns the fixed fields that were written.
-pub reads : (e : Element) → Fits e → reading (write_element e) ≡ fixed_fields e
+pub reads : (e : Element) → Fits e → reading (write_element e) ≡ Ok (fixed_fields e)
 unfolding reading
 reads e f = rw (passes_6 e, passes_7 e, passes_8 e f.count, read_back e f) refl

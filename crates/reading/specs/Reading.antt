@@ -1,20 +1,28 @@
 -- Defines the result of reading an element: one of refusals 6 to 8, or its fixed fields. PROTOCOL, 'Elements' and 'Refusals'.
-use Rattle.std.specs.Prelude.{cond, List, ℕ}
+use Rattle.std.specs.Prelude.{cond, List, ℕ, Option, Some, None, Result, Ok, Err}
+use Rattle.refusals.specs.declared.Refusal.{Refusal}
+use Rattle.refusals.specs.declared.Refusal.TheVariants.{ElementLength, UnknownId, BadCount}
+use Rattle.element.specs.declared.Kind.{Kind}
+use Rattle.element.specs.Layout.{kind_with, known}
 use Rattle.element.specs.Element.{Element, rann, rreq, rrep, rerr}
 use Rattle.element.specs.Octets.{wrong_length, other_id, misfit, read_element}
-use Rattle.reading.specs.declared.Reading.{Reading}
-use Rattle.reading.specs.declared.Reading.TheVariants.{Announcement, Request, Reply, Error, Refused}
+use Rattle.reading.specs.declared.Fields.{Fields}
+use Rattle.reading.specs.declared.Fields.TheVariants.{Announcement, Request, Reply, Error}
 
 -- Returns the fixed fields of an element that is not refused. The list part stays in the caller's octets.
-abbrev pub fixed_fields : Element → Reading
+abbrev pub fixed_fields : Element → Fields
 fixed_fields (rann p) = Announcement p
 fixed_fields (rreq f targets) = Request f
 fixed_fields (rrep f dependents) = Reply f
 fixed_fields (rerr f destinations) = Error f
 
+-- Returns the type with this ID, or None for an ID that is none of the four.
+unfoldable pub kind_of_id : ℕ → Option Kind
+kind_of_id id = cond (known id) (Some (kind_with id)) None
+
 -- Returns the first of refusals 6 to 8 that applies, or the fixed fields if none applies.
-unfoldable pub reading : List ℕ → Reading
+unfoldable pub reading : List ℕ → Result Fields Refusal
 reading s =
-    cond (wrong_length s) (Refused 6)
-    (cond (other_id s) (Refused 7)
-    (cond (misfit s) (Refused 8) (fixed_fields (read_element s))))
+    cond (wrong_length s) (Err ElementLength)
+    (cond (other_id s) (Err UnknownId)
+    (cond (misfit s) (Err BadCount) (Ok (fixed_fields (read_element s)))))

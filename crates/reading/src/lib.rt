@@ -4,7 +4,7 @@
 
 ghost use Rattle.std.specs.Prelude.{◌≡◌, [], ◌++◌, ◌∷◌, ◌+◌, ◌≤◌, get_or, length};
 ghost use Rattle.octets.specs.LittleEndian.{fields_at};
-ghost use Rattle.element.specs.Layout.{count_ok, fits, id_of, kind_with, length_with};
+ghost use Rattle.element.specs.Layout.{count_ok, fits, length_with};
 ghost use Rattle.element.specs.Octets.{
   count_as,
   fields_as,
@@ -17,48 +17,33 @@ ghost use Rattle.element.specs.Octets.{
   rreq_from,
   wrong_length,
 };
-ghost use Rattle.reading.specs.Reading.{fixed_fields, reading};
+ghost use Rattle.reading.specs.Reading.{fixed_fields, kind_of_id, reading};
 ghost use Rattle.element.specs.declared.Kind.{Kind};
 
 use counters::{HopCount, Metric, RequestId, SequenceNumber};
 use element::{Kind, NumberedAddress, PathInfo, RerrFields, RrepFields, RreqFields};
 use layout::address::Address;
+use refusals::Refusal;
 
-// The fixed fields of an element, or a refusal. `list_part` returns the list part.
+// The fixed fields of an element. `list_part` returns the list part.
 #[derive(Clone, Copy)]
-pub enum Reading {
+pub enum Fields {
     Announcement(PathInfo),
     Request(RreqFields),
     Reply(RrepFields),
     Error(RerrFields),
-    Refused(u32),
 }
 
-// Returns the type with this ID, and `Rerr` for an ID that is none of the four. `read` then sees that the ID is not that of
-// `Rerr`, and refuses.
-fn kind_with(id: u8) -> Kind
-    ensures { result ≡ kind_with id }
+// Returns the type with this ID, or `None` for an ID that is none of the four.
+fn kind_of_id(id: u8) -> Option<Kind>
+    ensures { result ≡ kind_of_id id }
 {
-    if id == 126 {
-        return Kind::Rann;
-    }
-    if id == 130 {
-        return Kind::Rreq;
-    }
-    if id == 131 {
-        return Kind::Rrep;
-    }
-    Kind::Rerr
-}
-
-fn id_of(kind: Kind) -> u8
-    ensures { result ≡ id_of kind }
-{
-    match kind {
-        Kind::Rann => 126,
-        Kind::Rreq => 130,
-        Kind::Rrep => 131,
-        Kind::Rerr => 132,
+    match id {
+        126 => Some(Kind::Rann),
+        130 => Some(Kind::Rreq),
+        131 => Some(Kind::Rrep),
+        132 => Some(Kind::Rerr),
+        _ => None,
     }
 }
 
@@ -79,10 +64,10 @@ fn is_count(kind: Kind, n: u8) -> bool
     ensures { result ≡ count_ok kind n }
 {
     match kind {
-        Kind::Rann => (0 <= n) & (n <= 0),
-        Kind::Rreq => (1 <= n) & (n <= 20),
-        Kind::Rrep => (0 <= n) & (n <= 22),
-        Kind::Rerr => (1 <= n) & (n <= 25),
+        Kind::Rann => n == 0,
+        Kind::Rreq => (1..=20).contains(&n),
+        Kind::Rrep => n <= 22,
+        Kind::Rerr => (1..=25).contains(&n),
     }
 }
 
@@ -90,10 +75,7 @@ fn is_count(kind: Kind, n: u8) -> bool
 fn octet_or_zero(s: &[u8], at: usize) -> u8
     ensures { result ≡ get_or s.now at 0 }
 {
-    if s.len() <= at {
-        return 0;
-    }
-    octets::read_u8(s, at)
+    s.get(at).copied().unwrap_or(0)
 }
 
 fn count_as(kind: Kind, element: &[u8]) -> u8
@@ -110,10 +92,7 @@ fn count_as(kind: Kind, element: &[u8]) -> u8
 fn has_wrong_length(element: &[u8]) -> bool
     ensures { result ≡ wrong_length element.now }
 {
-    if element.len() < 2 {
-        return true;
-    }
-    2 + octets::read_u8(element, 1) as usize != element.len()
+    element.len() < 2 || 2 + element[1] as usize != element.len()
 }
 
 // Reports whether Length, the second octet, fits the type and the count.
@@ -122,7 +101,7 @@ fn fits_kind(element: &[u8], kind: Kind) -> bool
     ensures { result ≡ fits kind (get_or element.now 1 0) (count_as kind element.now) }
 {
     let n = count_as(kind, element);
-    (octets::read_u8(element, 1) as u32 == length_with(kind, n)) & is_count(kind, n)
+    (element[1] as u32 == length_with(kind, n)) & is_count(kind, n)
 }
 
 // Reads flags, hop count and TTL, and the rest of the path, whose subject stands at the place `at`.
@@ -171,40 +150,38 @@ fn read_rerr(element: &[u8]) -> RerrFields
     }
 }
 
-fn read_fixed_fields(element: &[u8], kind: Kind) -> Reading
+fn read_fields(element: &[u8], kind: Kind) -> Fields
     requires { 2 + length_with kind 0 ≤ length element.now }
     ensures { result ≡ fixed_fields (read_as kind element.now) }
 {
     match kind {
-        Kind::Rann => Reading::Announcement(read_path(element, 5)),
-        Kind::Rreq => Reading::Request(read_rreq(element)),
-        Kind::Rrep => Reading::Reply(read_rrep(element)),
-        Kind::Rerr => Reading::Error(read_rerr(element)),
+        Kind::Rann => Fields::Announcement(read_path(element, 5)),
+        Kind::Rreq => Fields::Request(read_rreq(element)),
+        Kind::Rrep => Fields::Reply(read_rrep(element)),
+        Kind::Rerr => Fields::Error(read_rerr(element)),
     }
 }
 
-pub fn read(element: &[u8]) -> Reading
+// Returns the fixed fields of an element, or the first of refusals 6 to 8 that applies.
+pub fn read(element: &[u8]) -> Result<Fields, Refusal>
     ensures { result ≡ reading element.now }
 {
     if has_wrong_length(element) {
-        return Reading::Refused(refusals::ELEMENT_LENGTH);
+        return Err(Refusal::ElementLength);
     }
-    let id = octets::read_u8(element, 0);
-    let kind = kind_with(id);
-    if id != id_of(kind) {
-        return Reading::Refused(refusals::UNKNOWN_ID);
-    }
+    let kind = kind_of_id(element[0]).ok_or(Refusal::UnknownId)?;
     if !fits_kind(element, kind) {
-        return Reading::Refused(refusals::BAD_COUNT);
+        return Err(Refusal::BadCount);
     }
-    read_fixed_fields(element, kind)
+    Ok(read_fields(element, kind))
 }
 
-// Returns the place where the list begins: after the octets that an element of this type has without entries.
+// Returns the place where the list begins: after the octets that an element of this type has without entries. An ID that is none
+// of the four counts as that of a RERR here, as in the definition of `list_part`.
 fn list_start(element: &[u8]) -> usize
     ensures { result ≡ 2 + length_with (kind_in element.now) 0 }
 {
-    let kind = kind_with(octet_or_zero(element, 0));
+    let kind = kind_of_id(octet_or_zero(element, 0)).unwrap_or(Kind::Rerr);
     2 + length_with(kind, 0) as usize
 }
 
@@ -213,9 +190,6 @@ fn list_start(element: &[u8]) -> usize
 pub fn list_part(element: &[u8]) -> &[u8]
     ensures { result.now ≡ list_part element.now }
 {
-    let start = list_start(element);
-    if element.len() < start {
-        return &element[..0];
-    }
+    let start = list_start(element).min(element.len());
     &element[start..]
 }

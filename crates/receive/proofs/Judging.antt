@@ -1,9 +1,10 @@
 -- Laws of an element that was read: the parts of its checks together, and what follows from its answer.
+use Rattle.refusals.specs.declared.Refusal.{Refusal}
+use Rattle.std.specs.Prelude.{Some, ⊤, Ok, Err}
 use Prim.Native.Nat.{ℕ, ◌/◌, ◌<◌, ◌≤◌}
 use mathlib.Core.Path.{◌≡◌, refl, sym, ap, ◌∙◌}
 use mathlib.Core.Bool.{Bool, true, false, ◌&&◌, ◌||◌}
 use mathlib.Core.List.{List, [], ◌++◌}
-use mathlib.Core.Option.{some}
 use lib.Dec.{eqb, ltb}
 use lib.ListN.{length}
 use native.Mathlib.Omega.{arith}
@@ -11,74 +12,70 @@ use borrow.Author.Tests.{ltb-false, eqb-false}
 use Rattle.rules.specs.Learn.{Extends, max_metric, metric_here, max_hops}
 use Rattle.layout.specs.declared.address.Address.{Address}
 use Rattle.element.specs.declared.PathInfo.{PathInfo}
-use Rattle.element.specs.declared.NumberedAddress.{NumberedAddress}
 use Rattle.element.specs.declared.RreqFields.{RreqFields}
 use Rattle.element.specs.declared.RrepFields.{RrepFields}
 use Rattle.element.specs.declared.RerrFields.{RerrFields}
 use Rattle.element.specs.declared.list.ListKind.TheVariants.{Targets, LostDestinations}
-use Rattle.element.specs.Element.{Element, rreq, rrep, rerr}
+use Rattle.element.specs.Element.{Element, rann, rreq, rrep, rerr}
 use Rattle.element.specs.Entries.{lost_in, numbered_in, targets_in}
 use Rattle.element.specs.Lists.{addresses_in, all_ones, any_forbidden, contains, has_duplicate, ones_beside_others}
 use Rattle.element.proofs.Scans.{addresses_many, target_addresses_lem, lost_addresses}
 use Rattle.rules.specs.declared.Arrival.{Arrival}
-use Rattle.rules.specs.Decision.{Check, decide}
+use Rattle.rules.specs.Decision.{Check, decide, Decision}
 use Rattle.element.specs.Flags.{unicast}
 use Rattle.rules.specs.Lists.{any, is_some_and}
 use Rattle.rules.specs.Exit.{lend, at_exit}
 use Rattle.rules.specs.Receive.{path_of, target_addresses, has_bad_address, has_bad_list, is_mismarked, several_or_all, is_low_ttl_reply, field_checks, matches_nothing, judging}
 use Rattle.rules.proofs.Rulings.{listed, Passed, passed_check}
-use Rattle.calls.specs.declared.Outcome.{Outcome}
-use Rattle.calls.specs.declared.Answer.{Answer}
-use Rattle.calls.specs.declared.Answer.TheVariants.{Accepted, Refused}
 use Rattle.calls.specs.Answers.{answer_to, exit_of}
-use Rattle.calls.proofs.Checks.{answer_passed, refused_first, passed_first, refusal}
+use Rattle.calls.proofs.Checks.{answer_passed, refusal}
 use Rattle.onward.specs.Sent.{unicast_to_several}
 use Rattle.receive.specs.declared.faults.Faults.{Faults}
 use Rattle.learn.specs.Learnt.{learnt_if}
-use Rattle.receive.specs.Checks.{faults_of, path_state_checks}
+use Rattle.receive.specs.Checks.{faults_of, path_checks, path_state_checks}
 use Rattle.receive.proofs.Learnt.{nothing_learnt}
 
 -- ---- the parts together are the checks of an element
 
 -- An element with a path has the checks of its fields, and then those of the state.
-module _ (x : Faults) (a : Arrival) (p : PathInfo) (b : Answer)
-    (be : b ≡ answer_to (field_checks x.address x.list x.ttl a (some p))) where
-  abbrev of_fields : List Check
-  of_fields = field_checks x.address x.list x.ttl a (some p)
-
+module _ (t : List ℕ) (a : Arrival) (p : PathInfo) (x : Faults) (r : Decision ⊤) (re : r ≡ answer_to (path_checks t a p x)) where
   -- All checks of the path apply, and 26 is skipped.
-  module _ (t : List ℕ) (e : Element) (pe : path_of e ≡ some p) (unmatched : matches_nothing t a e ≡ false) (xe : x ≡ faults_of e) where
-    together : answer_to (of_fields ++ path_state_checks t a p) ≡ answer_to (judging (lend t) a e).checks
-    unfolding judging faults_of
-    together =
-        ap (λ (y : Faults). answer_to (field_checks y.address y.list y.ttl a (some p) ++ path_state_checks t a p)) xe
-        ∙ rw (pe, unmatched)
+  together : (e : Element) → path_of e ≡ Some p → matches_nothing t a e ≡ false → x ≡ faults_of e → r ≡ answer_to (judging (lend t) a e).checks
+  unfolding judging faults_of
+  together e pe unmatched xe =
+      re ∙ ap (λ (y : Faults). answer_to (field_checks y.address y.list y.ttl a (Some p) ++ path_state_checks t a p)) xe
+      ∙ rw (pe, unmatched)
 
-    pub fields_refused : (n : ℕ) → b ≡ Refused n → Refused n ≡ answer_to (judging (lend t) a e).checks
-    fields_refused n q = refused_first of_fields b be (path_state_checks t a p) n q ∙ together
+  pub judged_rann : x ≡ faults_of (rann p) → r ≡ answer_to (judging (lend t) a (rann p)).checks
+  unfolding matches_nothing
+  judged_rann = together (rann p) refl refl
 
-    pub passed_on : b ≡ Accepted → (r : Answer) → r ≡ answer_to (path_state_checks t a p) → r ≡ answer_to (judging (lend t) a e).checks
-    passed_on ok r re = passed_first of_fields b be (path_state_checks t a p) ok r re ∙ together
+module _ (t : List ℕ) (a : Arrival) (x : Faults) (r : Decision ⊤) where
+  pub judged_rreq : (f : RreqFields) (part : List ℕ) → r ≡ answer_to (path_checks t a f.path x) → x ≡ faults_of (rreq f (targets_in part))
+      → r ≡ answer_to (judging (lend t) a (rreq f (targets_in part))).checks
+  unfolding matches_nothing
+  judged_rreq f part re = together t a f.path x r re (rreq f (targets_in part)) refl refl
 
-    pub fields_passed : b ≡ Accepted → (r : Answer) → r ≡ answer_to (path_state_checks t a p) → (s : Answer) → r ≡ s
-        → s ≡ answer_to (judging (lend t) a e).checks
-    fields_passed ok r re s is = sym is ∙ passed_on ok r re
+  -- The dependents of a RREP play no part in its faults.
+  pub judged_rrep : (f : RrepFields) (part : List ℕ) → r ≡ answer_to (path_checks t a f.path x) → x ≡ faults_of (rrep f [])
+      → r ≡ answer_to (judging (lend t) a (rrep f (numbered_in part))).checks
+  unfolding matches_nothing faults_of has_bad_address has_bad_list is_low_ttl_reply
+  judged_rrep f part re xe = together t a f.path x r re (rrep f (numbered_in part)) refl refl xe
 
-  -- Once its fields are checked, a path can be one link longer.
-  module _ (ok : b ≡ Accepted) where
-    good_fields : Passed of_fields
-    good_fields = answer_passed of_fields (sym ok ∙ be)
+-- Once its fields are checked, a path can be one link longer.
+module _ (x : Faults) (a : Arrival) (p : PathInfo) (b : Decision ⊤)
+    (be : b ≡ answer_to (field_checks x.address x.list x.ttl a (Some p))) (done : ⊤) (ok : b ≡ Ok done) where
+  abbrev of_fields : List Check
+  of_fields = field_checks x.address x.list x.ttl a (Some p)
 
-    pub fields_extend : p.hops.0 < 256 → Extends a p
-    unfolding listed
-    fields_extend l =
-        let other = eqb-false p.hops.0 max_hops (passed_check 12 of_fields good_fields) in
-        record { metric = ltb-false max_metric (metric_here a p).0 (passed_check 13 of_fields good_fields); hops = omega (arith, l, other) }
+  good_fields : Passed of_fields
+  good_fields = answer_passed of_fields done (sym ok ∙ be)
 
--- The dependents of a RREP play no part in its faults.
-pub dependents_aside : (f : RrepFields) (x : Faults) → x ≡ faults_of (rrep f []) → (dependents : List NumberedAddress) → x ≡ faults_of (rrep f dependents)
-unfolding faults_of has_bad_address has_bad_list is_low_ttl_reply
-dependents_aside f x e dependents = e
+  pub fields_extend : p.hops.0 < 256 → Extends a p
+  unfolding listed
+  fields_extend l =
+      let other = eqb-false p.hops.0 max_hops (passed_check 12 of_fields good_fields) in
+      record { metric = ltb-false max_metric (metric_here a p).0 (passed_check 13 of_fields good_fields); hops = omega (arith, l, other) }
 
 -- The tests of the list of a RERR are those of its list part.
 module _ (f : RerrFields) (part : List ℕ) (b v : Bool) where
@@ -92,23 +89,23 @@ module _ (f : RerrFields) (part : List ℕ) (b v : Bool) where
 
 -- ---- what follows from the answer
 
-none_applied : (t : List ℕ) (a : Arrival) (e : Element) (r : Answer) → r ≡ answer_to (judging (lend t) a e).checks → r ≡ Accepted → Passed (judging (lend t) a e).checks
-none_applied t a e r re ok = answer_passed (judging (lend t) a e).checks (sym ok ∙ re)
+none_applied : (t : List ℕ) (a : Arrival) (e : Element) (r : Decision ⊤) → r ≡ answer_to (judging (lend t) a e).checks → (done : ⊤) → r ≡ Ok done → Passed (judging (lend t) a e).checks
+none_applied t a e r re done ok = answer_passed (judging (lend t) a e).checks done (sym ok ∙ re)
 
 -- The element has the path p.
-module _ (t : List ℕ) (a : Arrival) (e : Element) (p : PathInfo) (r : Answer) (re : r ≡ answer_to (judging (lend t) a e).checks) where
+module _ (t : List ℕ) (a : Arrival) (e : Element) (p : PathInfo) (r : Decision ⊤) (re : r ≡ answer_to (judging (lend t) a e).checks) where
   -- A refusal learns nothing.
-  pub path_refused : (u : List ℕ) → u ≡ learnt_if r a p t → (output : List ℕ) (n : ℕ) → r ≡ Refused n
-      → exit_of (Outcome.Refused n) (lend u) output ≡ at_exit (lend t) output (decide (judging (lend t) a e))
+  pub path_refused : (u : List ℕ) → u ≡ learnt_if r a p t → (output : List ℕ) (n : Refusal) → r ≡ Err n
+      → exit_of (Err n) (lend u) output ≡ at_exit (lend t) output (decide (judging (lend t) a e))
   path_refused u ue output n q =
-      ap (λ (v : List ℕ). exit_of (Outcome.Refused n) (lend v) output) (nothing_learnt a p t u r ue n q)
+      ap (λ (v : List ℕ). exit_of (Err n) (lend v) output) (nothing_learnt a p t u r ue n q)
       ∙ refusal (lend t) output (judging (lend t) a e) r re n q
 
-  module _ (ok : r ≡ Accepted) where
+  module _ (done : ⊤) (ok : r ≡ Ok done) where
     path_passed : Passed (judging (lend t) a e).checks
-    path_passed = none_applied t a e r re ok
+    path_passed = none_applied t a e r re done ok
 
-    module _ (pe : path_of e ≡ some p) where
+    module _ (pe : path_of e ≡ Some p) where
       -- A test that does not apply to the element does not hold for its path.
       of_path : (test : PathInfo → Bool) → is_some_and test (path_of e) ≡ false → test p ≡ false
       of_path test passes = ap (is_some_and test) (sym pe) ∙ passes
@@ -124,19 +121,19 @@ module _ (t : List ℕ) (a : Arrival) (e : Element) (p : PathInfo) (r : Answer) 
           }
 
 -- An accepted RREP has TTL left, and an accepted unicast RREQ has one destination.
-module _ (t : List ℕ) (a : Arrival) (r : Answer) (ok : r ≡ Accepted) where
+module _ (t : List ℕ) (a : Arrival) (r : Decision ⊤) (done : ⊤) (ok : r ≡ Ok done) where
   pub ttl_left : (f : RrepFields) (part : List ℕ) → r ≡ answer_to (judging (lend t) a (rrep f (numbered_in part))).checks → 1 ≤ f.path.ttl
   unfolding listed is_low_ttl_reply
   ttl_left f part re =
       let e : Element = rrep f (numbered_in part) in
-      let left = ltb-false f.path.ttl 2 (passed_check 14 (judging (lend t) a e).checks (path_passed t a e f.path r re ok)) in
+      let left = ltb-false f.path.ttl 2 (passed_check 14 (judging (lend t) a e).checks (path_passed t a e f.path r re done ok)) in
       omega (arith, left)
 
   pub one_destination : (f : RreqFields) (part : List ℕ) → r ≡ answer_to (judging (lend t) a (rreq f (targets_in part))).checks → unicast_to_several f.path part ≡ false
   unfolding listed has_bad_list several_or_all unicast_to_several
   one_destination f part re =
       let addresses : List Address = target_addresses (targets_in part) in
-      let good = passed_check 10 (judging (lend t) a (rreq f (targets_in part))).checks (path_passed t a (rreq f (targets_in part)) f.path r re ok) in
+      let good = passed_check 10 (judging (lend t) a (rreq f (targets_in part))).checks (path_passed t a (rreq f (targets_in part)) f.path r re done ok) in
       let many : length addresses ≡ length part / 11 =
       ap length (target_addresses_lem part) ∙ addresses_many Targets part in
       ap (λ (n : ℕ). unicast f.path && ltb 1 n) (sym many)

@@ -1,4 +1,7 @@
 -- Laws of what a point learns if the checks of the rows accept.
+use Rattle.std.specs.Prelude.{⊤, Ok, Err}
+use Rattle.rules.specs.Decision.{Decision}
+use Rattle.refusals.specs.declared.Refusal.{Refusal}
 use Prim.Native.Nat.{ℕ}
 use mathlib.Core.Path.{◌≡◌, refl, ap, ◌∙◌}
 use mathlib.Core.List.{List}
@@ -10,8 +13,6 @@ use Rattle.element.specs.declared.PathInfo.{PathInfo}
 use Rattle.rules.specs.declared.Arrival.{Arrival}
 use Rattle.rules.specs.Learn.{learnt, subject_learnt, takes_link, transmitter_learnt}
 use Rattle.rules.proofs.Branches.{cond_cases}
-use Rattle.calls.specs.declared.Answer.{Answer}
-use Rattle.calls.specs.declared.Answer.TheVariants.{Accepted, Refused}
 use Rattle.learn.specs.Learnt.{learnt_if}
 
 -- Learning leaves the head as it was.
@@ -32,9 +33,9 @@ module _ (a : Arrival) where
       (λ _. transmitter_head p.lifetime (subject_learnt a p t) ∙ subject_head p t)
 
 -- A refusal learns nothing, and an acceptance does steps 1 and 2.
-module _ (a : Arrival) (p : PathInfo) (t u : List ℕ) (r : Answer) (ue : u ≡ learnt_if r a p t) where
-  pub nothing_learnt : (n : ℕ) → r ≡ Refused n → u ≡ t
-  nothing_learnt n e = ue ∙ ap (λ (k : Answer). learnt_if k a p t) e
+module _ (a : Arrival) (p : PathInfo) (t u : List ℕ) (r : Decision ⊤) (ue : u ≡ learnt_if r a p t) where
+  pub nothing_learnt : (n : Refusal) → r ≡ Err n → u ≡ t
+  nothing_learnt n e = ue ∙ ap (λ (k : Decision ⊤). learnt_if k a p t) e
 
-  pub both_steps : r ≡ Accepted → u ≡ learnt a p t
-  both_steps e = ue ∙ ap (λ (k : Answer). learnt_if k a p t) e
+  pub both_steps : (done : ⊤) → r ≡ Ok done → u ≡ learnt a p t
+  both_steps done e = ue ∙ ap (λ (k : Decision ⊤). learnt_if k a p t) e

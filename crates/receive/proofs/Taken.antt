@@ -1,4 +1,5 @@
 -- Laws of the exit of an accepted element, type by type, as the proofs of the functions need them.
+use Rattle.std.specs.Prelude.{Ok, ⊤}
 use Prim.Native.Nat.{ℕ, ◌+◌, ◌-◌, ◌*◌, ◌/◌, ◌≤◌}
 use mathlib.Core.Path.{◌≡◌, sym, ap, ap₂, ◌∙◌}
 use mathlib.Core.List.{List, [], ◌∷◌, ◌++◌}
@@ -22,7 +23,7 @@ use Rattle.element.specs.Layout.{length_with}
 use Rattle.element.proofs.Scans.{each_length}
 use Rattle.element.proofs.Sizes.{frame_length}
 use Rattle.rules.specs.declared.Arrival.{Arrival}
-use Rattle.rules.specs.Decision.{accepted, decide}
+use Rattle.rules.specs.Decision.{decide, Decision}
 use Rattle.rules.specs.Destinations.{Answered, all_answered}
 use Rattle.rules.specs.Errors.{matches, is_match, erred}
 use Rattle.rules.specs.Learn.{learnt}
@@ -32,9 +33,6 @@ use Rattle.rules.specs.Exit.{lend, Frame, frame_octets, under_head, Exit, at_exi
 use Rattle.rules.specs.Receive.{rann_received, rrep_received, rreq_received, rerr_received, received, judging}
 use Rattle.rules.proofs.Emitting.{Emits, rreq_emitted}
 use Rattle.rules.proofs.FrameOctets.{no_frame, one_frame, frames_append}
-use Rattle.calls.specs.declared.Outcome.{Outcome}
-use Rattle.calls.specs.declared.Answer.{Answer}
-use Rattle.calls.specs.declared.Answer.TheVariants.{Accepted}
 use Rattle.calls.specs.declared.Emitted.{Emitted}
 use Rattle.calls.specs.Answers.{answer_to, emitted, exit_of}
 use Rattle.calls.proofs.Checks.{accepted_exit, acceptance}
@@ -54,14 +52,14 @@ module _ (t output : List ℕ) (a : Arrival) (h : Head) (he : h ≡ head_at t) w
 
   rann_exit : (p : PathInfo) (u : List ℕ) → u ≡ learnt a p t → (e : Emitted) → e ≡ emitted (rann_onward a p)
       → (v : List ℕ) → v ≡ overwrite output 0 (frame_octets (rann_onward a p))
-      → (w : List ℕ) → w ≡ put_head u (head_with h.number h.request a.clock h) → exit_of (Outcome.Accepted e) (lend w) v ≡ at_exit (lend t) output (accepted (received (lend t) a (rann p)))
+      → (w : List ℕ) → w ≡ put_head u (head_with h.number h.request a.clock h) → exit_of (Ok e) (lend w) v ≡ at_exit (lend t) output (Ok (received (lend t) a (rann p)))
   unfolding received rann_received
   rann_exit p u ue e ee v ve w we = accepted_exit (lend t) output (received (lend t) a (rann p)) (lend w) v e (ap lend (same_number t a.clock h he u (learnt a p t) w ue we)) ve ee
 
   rrep_exit : (f : RrepFields) (part u : List ℕ) → u ≡ learnt a f.path t → (e : Emitted) → e ≡ emitted (rrep_onward u a f (numbered_in part))
       → (v : List ℕ) → v ≡ overwrite output 0 (frame_octets (rrep_onward u a f (numbered_in part)))
       → (w : List ℕ) → w ≡ put_head u (head_with h.number h.request a.clock h)
-      → exit_of (Outcome.Accepted e) (lend w) v ≡ at_exit (lend t) output (accepted (received (lend t) a (rrep f (numbered_in part))))
+      → exit_of (Ok e) (lend w) v ≡ at_exit (lend t) output (Ok (received (lend t) a (rrep f (numbered_in part))))
   unfolding received rrep_received
   rrep_exit f part u ue e ee v ve w we =
       accepted_exit (lend t) output (received (lend t) a (rrep f (numbered_in part))) (lend w) v e (ap lend (same_number t a.clock h he u (learnt a f.path t) w ue we))
@@ -75,7 +73,7 @@ module _ (t output : List ℕ) (a : Arrival) (h : Head) (he : h ≡ head_at t) w
       → (e : Emitted) → e ≡ record { frames = 1; octets = octets }
       → (v : List ℕ) → v ≡ overwrite output 0 (frame_octets (to_all (rerr f (filter (matches t a.clock a.transmitter) (lost_in part)))))
       → (w : List ℕ) → w ≡ put_head u (head_with h.number h.request a.clock h)
-      → exit_of (Outcome.Accepted e) (lend w) v ≡ at_exit (lend t) output (accepted (received (lend t) a (rerr f (lost_in part))))
+      → exit_of (Ok e) (lend w) v ≡ at_exit (lend t) output (Ok (received (lend t) a (rerr f (lost_in part))))
   unfolding received rerr_received
   rerr_exit f part u ue octets oe e ee v ve w we =
       accepted_exit (lend t) output (received (lend t) a (rerr f (lost_in part))) (lend w) v e (ap lend (same_number t a.clock h he u _ w ue we)) ve
@@ -87,7 +85,7 @@ module _ (t output : List ℕ) (a : Arrival) (h : Head) (he : h ≡ head_at t) w
       → (s : Sent) → s ≡ sent_for u a f (all_answered u a f.path h.number (targets_in part))
       → (v : List ℕ) → v ≡ overwrite output 0 (frame_octets (frames_after u a f (all_answered u a f.path h.number (targets_in part))))
       → (w : List ℕ) → w ≡ put_head u (head_with s.number h.request a.clock h)
-      → exit_of (Outcome.Accepted s.emitted) (lend w) v ≡ at_exit (lend t) output (accepted (received (lend t) a (rreq f (targets_in part))))
+      → exit_of (Ok s.emitted) (lend w) v ≡ at_exit (lend t) output (Ok (received (lend t) a (rreq f (targets_in part))))
   unfolding received rreq_received frames_after
   rreq_exit f part u ue s se v ve w we =
       let done : List ℕ → SequenceNumber → Answered = λ x n. all_answered x a f.path n (targets_in part) in
@@ -101,49 +99,49 @@ module _ (t output : List ℕ) (a : Arrival) (h : Head) (he : h ≡ head_at t) w
 
 -- ---- a RANN, a RREP and a RREQ from the answer of their checks, which learn if they accept
 
-module _ (t output : List ℕ) (a : Arrival) (e : Element) (p : PathInfo) (r : Answer)
-    (re : r ≡ answer_to (judging (lend t) a e).checks) (ok : r ≡ Accepted) (u : List ℕ) (ue : u ≡ learnt_if r a p t) where
+module _ (t output : List ℕ) (a : Arrival) (e : Element) (p : PathInfo) (r : Decision ⊤)
+    (re : r ≡ answer_to (judging (lend t) a e).checks) (done : ⊤) (ok : r ≡ Ok done) (u : List ℕ) (ue : u ≡ learnt_if r a p t) where
   is_learnt : u ≡ learnt a p t
-  is_learnt = both_steps a p t u r ue ok
+  is_learnt = both_steps a p t u r ue done ok
 
   same_head : (h : Head) → h ≡ head_at u → h ≡ head_at t
   same_head h he = he ∙ ap head_at is_learnt ∙ learnt_head a p t
 
-  judged_so : (x : Exit) → x ≡ at_exit (lend t) output (accepted (received (lend t) a e)) → x ≡ at_exit (lend t) output (decide (judging (lend t) a e))
+  judged_so : (x : Exit) → x ≡ at_exit (lend t) output (Ok (received (lend t) a e)) → x ≡ at_exit (lend t) output (decide (judging (lend t) a e))
   unfolding judging
-  judged_so = acceptance (lend t) output (judging (lend t) a e) r re ok
+  judged_so = acceptance (lend t) output (judging (lend t) a e) r re done ok
 
-pub rann_received_lem : (t output : List ℕ) (a : Arrival) (p : PathInfo) (r : Answer) → r ≡ answer_to (judging (lend t) a (rann p)).checks → r ≡ Accepted
+pub rann_received_lem : (t output : List ℕ) (a : Arrival) (p : PathInfo) (r : Decision ⊤) → r ≡ answer_to (judging (lend t) a (rann p)).checks → (done : ⊤) → r ≡ Ok done
     → (u : List ℕ) → u ≡ learnt_if r a p t → (h : Head) → h ≡ head_at u
     → (e : Emitted) → e ≡ emitted (rann_onward a p) → (v : List ℕ) → v ≡ overwrite output 0 (frame_octets (rann_onward a p))
     → (w : List ℕ) → w ≡ put_head u (head_with h.number h.request a.clock h)
-    → exit_of (Outcome.Accepted e) (lend w) v ≡ at_exit (lend t) output (decide (judging (lend t) a (rann p)))
-rann_received_lem t output a p r re ok u ue h he e ee v ve w we =
-    let got = is_learnt t output a (rann p) p r re ok u ue in
-    judged_so t output a (rann p) p r re ok u ue _
-    (rann_exit t output a h (same_head t output a (rann p) p r re ok u ue h he) p u got e ee v ve w we)
+    → exit_of (Ok e) (lend w) v ≡ at_exit (lend t) output (decide (judging (lend t) a (rann p)))
+rann_received_lem t output a p r re done ok u ue h he e ee v ve w we =
+    let got = is_learnt t output a (rann p) p r re done ok u ue in
+    judged_so t output a (rann p) p r re done ok u ue _
+    (rann_exit t output a h (same_head t output a (rann p) p r re done ok u ue h he) p u got e ee v ve w we)
 
-pub rrep_received_lem : (t output : List ℕ) (a : Arrival) (f : RrepFields) (part : List ℕ) (r : Answer) → r ≡ answer_to (judging (lend t) a (rrep f (numbered_in part))).checks → r ≡ Accepted
+pub rrep_received_lem : (t output : List ℕ) (a : Arrival) (f : RrepFields) (part : List ℕ) (r : Decision ⊤) → r ≡ answer_to (judging (lend t) a (rrep f (numbered_in part))).checks → (done : ⊤) → r ≡ Ok done
     → (u : List ℕ) → u ≡ learnt_if r a f.path t → (h : Head) → h ≡ head_at u
     → (e : Emitted) → e ≡ emitted (rrep_onward u a f (numbered_in part))
     → (v : List ℕ) → v ≡ overwrite output 0 (frame_octets (rrep_onward u a f (numbered_in part)))
     → (w : List ℕ) → w ≡ put_head u (head_with h.number h.request a.clock h)
-    → exit_of (Outcome.Accepted e) (lend w) v ≡ at_exit (lend t) output (decide (judging (lend t) a (rrep f (numbered_in part))))
-rrep_received_lem t output a f part r re ok u ue h he e ee v ve w we =
-    let got = is_learnt t output a (rrep f (numbered_in part)) f.path r re ok u ue in
-    judged_so t output a (rrep f (numbered_in part)) f.path r re ok u ue _
-    (rrep_exit t output a h (same_head t output a (rrep f (numbered_in part)) f.path r re ok u ue h he) f part u got e ee v ve w we)
+    → exit_of (Ok e) (lend w) v ≡ at_exit (lend t) output (decide (judging (lend t) a (rrep f (numbered_in part))))
+rrep_received_lem t output a f part r re done ok u ue h he e ee v ve w we =
+    let got = is_learnt t output a (rrep f (numbered_in part)) f.path r re done ok u ue in
+    judged_so t output a (rrep f (numbered_in part)) f.path r re done ok u ue _
+    (rrep_exit t output a h (same_head t output a (rrep f (numbered_in part)) f.path r re done ok u ue h he) f part u got e ee v ve w we)
 
-pub rreq_received_lem : (t output : List ℕ) (a : Arrival) (f : RreqFields) (part : List ℕ) (r : Answer) → r ≡ answer_to (judging (lend t) a (rreq f (targets_in part))).checks → r ≡ Accepted
+pub rreq_received_lem : (t output : List ℕ) (a : Arrival) (f : RreqFields) (part : List ℕ) (r : Decision ⊤) → r ≡ answer_to (judging (lend t) a (rreq f (targets_in part))).checks → (done : ⊤) → r ≡ Ok done
     → (u : List ℕ) → u ≡ learnt_if r a f.path t → (h : Head) → h ≡ head_at u
     → (s : Sent) → s ≡ sent_for u a f (all_answered u a f.path h.number (targets_in part))
     → (v : List ℕ) → v ≡ overwrite output 0 (frame_octets (frames_after u a f (all_answered u a f.path h.number (targets_in part))))
     → (w : List ℕ) → w ≡ put_head u (head_with s.number h.request a.clock h)
-    → exit_of (Outcome.Accepted s.emitted) (lend w) v ≡ at_exit (lend t) output (decide (judging (lend t) a (rreq f (targets_in part))))
-rreq_received_lem t output a f part r re ok u ue h he s se v ve w we =
-    let got = is_learnt t output a (rreq f (targets_in part)) f.path r re ok u ue in
-    judged_so t output a (rreq f (targets_in part)) f.path r re ok u ue _
-    (rreq_exit t output a h (same_head t output a (rreq f (targets_in part)) f.path r re ok u ue h he) f part u got s se v ve w we)
+    → exit_of (Ok s.emitted) (lend w) v ≡ at_exit (lend t) output (decide (judging (lend t) a (rreq f (targets_in part))))
+rreq_received_lem t output a f part r re done ok u ue h he s se v ve w we =
+    let got = is_learnt t output a (rreq f (targets_in part)) f.path r re done ok u ue in
+    judged_so t output a (rreq f (targets_in part)) f.path r re done ok u ue _
+    (rreq_exit t output a h (same_head t output a (rreq f (targets_in part)) f.path r re done ok u ue h he) f part u got s se v ve w we)
 
 -- The frames are the replies, and after them the forwarded RREQ.
 module _ (u : List ℕ) (a : Arrival) (f : RreqFields) (n : SequenceNumber) (part : List ℕ) (at : ℕ) (replied : Replied)

@@ -25,9 +25,8 @@ pub struct Faults {
 pub fn of_rann(p: PathInfo) -> Faults
     ensures { result ≡ faults_of (rann p) }
 {
-    let subject = p.subject;
     Faults {
-        address: !subject.is_individual(),
+        address: !p.subject.is_individual(),
         list: false,
         ttl: false,
     }
@@ -37,8 +36,7 @@ pub fn of_rann(p: PathInfo) -> Faults
 fn rreq_has_bad_address(f: RreqFields, part: &[u8]) -> bool
     ensures { result ≡ has_bad_address (rreq f (targets_in part.now)) }
 {
-    let subject = f.path.subject;
-    !subject.is_individual() | list::has_forbidden(part, ListKind::Targets)
+    !f.path.subject.is_individual() | list::has_forbidden(part, ListKind::Targets)
 }
 
 // Reports whether there are several destinations or all ones.
@@ -71,12 +69,10 @@ fn has_mismarked(part: &[u8]) -> bool
     ensures { result ≡ any is_mismarked (targets_in part.now) }
 {
     let n = part.len() / list::TARGET;
-    let mut i = 0;
-    while i < n {
+    for i in 0..n {
         if is_mismarked(list::target_at(part, i)) {
             return true;
         }
-        i += 1;
     }
     false
 }
@@ -119,7 +115,7 @@ pub fn of_rrep(f: RrepFields) -> Faults
     let source = f.source.address;
     Faults {
         address: !subject.is_individual() | !source.is_individual(),
-        list: subject.0 == source.0,
+        list: subject == source,
         ttl: f.path.ttl < 2,
     }
 }

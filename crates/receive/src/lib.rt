@@ -17,25 +17,29 @@ ghost use Rattle.rules.specs.Receive.{arrival_checks, reading_octets};
 ghost use Rattle.calls.specs.Answers.{answer_to, exit_of};
 ghost use Rattle.layout.specs.Layout.{Sized};
 
-use calls::{Answer, Outcome, clocked};
-use reading::Reading;
+use calls::{Emitted, clocked};
+use reading::Fields;
+use refusals::Refusal;
 use rules::Arrival;
 
 // Checks refusals 1 to 5.
-fn check_arrival(table: &[u8], output: &[u8], a: Arrival) -> Answer
+fn check_arrival(table: &[u8], output: &[u8], a: Arrival) -> Result<(), Refusal>
     ensures { result ≡ answer_to (arrival_checks table.now (length output.now) a) }
 {
-    if let Answer::Refused(n) = clocked::check_operands(table, output, a.clock, a.transmitter) {
-        return Answer::Refused(n);
-    }
+    clocked::check_operands(table, output, a.clock, a.transmitter)?;
     if a.link.0 == 0 {
-        return Answer::Refused(refusals::NO_LINK);
+        return Err(Refusal::NoLink);
     }
-    Answer::Accepted
+    Ok(())
 }
 
 // Reads the element and receives it by its type. The caller must check refusals 1 to 5 first.
-fn receive_element(table: &mut [u8], output: &mut [u8], a: Arrival, element: &[u8]) -> Outcome
+fn receive_element(
+    table: &mut [u8],
+    output: &mut [u8],
+    a: Arrival,
+    element: &[u8],
+) -> Result<Emitted, Refusal>
     requires sized { Sized table.old }
     requires least_output_in_bounds { least_output ≤ length output.old }
     requires clock_le_max_clock { a.clock ≤ max_clock }
@@ -43,21 +47,24 @@ fn receive_element(table: &mut [u8], output: &mut [u8], a: Arrival, element: &[u
         ≡ at_exit (lend table.old) output.old
         (decide (reading_octets (lend table.old) a element.now)) }
 {
-    match reading::read(element) {
-        Reading::Announcement(p) => announcement::receive(table, output, a, p),
-        Reading::Request(f) => request::receive(table, output, a, f, reading::list_part(element)),
-        Reading::Reply(f) => reply::receive(table, output, a, f, reading::list_part(element)),
-        Reading::Error(f) => error::receive(table, output, a, f, reading::list_part(element)),
-        Reading::Refused(n) => Outcome::Refused(n),
+    let fields = reading::read(element)?;
+    match fields {
+        Fields::Announcement(p) => announcement::receive(table, output, a, p),
+        Fields::Request(f) => request::receive(table, output, a, f, reading::list_part(element)),
+        Fields::Reply(f) => reply::receive(table, output, a, f, reading::list_part(element)),
+        Fields::Error(f) => error::receive(table, output, a, f, reading::list_part(element)),
     }
 }
 
-pub fn receive(table: &mut [u8], output: &mut [u8], a: Arrival, element: &[u8]) -> Outcome
+pub fn receive(
+    table: &mut [u8],
+    output: &mut [u8],
+    a: Arrival,
+    element: &[u8],
+) -> Result<Emitted, Refusal>
     ensures { exit_of result (lend table.new) output.new
         ≡ receive_exit (lend table.old) output.old a element.now }
 {
-    match check_arrival(table, output, a) {
-        Answer::Accepted => receive_element(table, output, a, element),
-        Answer::Refused(n) => Outcome::Refused(n),
-    }
+    check_arrival(table, output, a)?;
+    receive_element(table, output, a, element)
 }

@@ -8,30 +8,16 @@ ghost use Rattle.element.specs.Entries.{numbered_in};
 ghost use Rattle.rules.specs.Decision.{decide};
 ghost use Rattle.rules.specs.Exit.{at_exit, lend, least_output};
 ghost use Rattle.rules.specs.Receive.{judging};
-ghost use Rattle.calls.specs.Answers.{answer_to, exit_of};
-ghost use Rattle.learn.specs.Learnt.{learnt_if};
+ghost use Rattle.calls.specs.Answers.{exit_of};
 ghost use Rattle.layout.specs.Layout.{Sized};
 
 use crate::{faults, path};
-use calls::{Answer, Outcome, clocked};
+use calls::{Emitted, clocked};
 use element::RrepFields;
 use layout::row;
 use onward::reply;
+use refusals::Refusal;
 use rules::Arrival;
-
-// Refuses the RREP, or does steps 1 and 2. This function does not read the dependents in `part`, but its contract names the
-// whole element.
-fn check_and_learn(table: &mut [u8], a: Arrival, f: RrepFields, part: &[u8]) -> Answer
-    requires sized { Sized table.old }
-    requires clock_le_max_clock { a.clock ≤ max_clock }
-    ensures value { result ≡ answer_to (judging (lend table.old) a (rrep f (numbered_in part.now))).checks }
-    ensures table_after { table.new ≡ learnt_if result a f.path table.old }
-{
-    if let Answer::Refused(n) = path::check_fields(a, f.path, faults::of_rrep(f)) {
-        return Answer::Refused(n);
-    }
-    path::learn(table, a, f.path)
-}
 
 // Refuses the RREP, or does steps 1 and 2, forwards it and stores the clock.
 pub fn receive(
@@ -40,7 +26,7 @@ pub fn receive(
     a: Arrival,
     f: RrepFields,
     part: &[u8],
-) -> Outcome
+) -> Result<Emitted, Refusal>
     requires sized { Sized table.old }
     requires least_output_in_bounds { least_output ≤ length output.old }
     requires clock_le_max_clock { a.clock ≤ max_clock }
@@ -49,11 +35,9 @@ pub fn receive(
         ≡ at_exit (lend table.old) output.old
         (decide (judging (lend table.old) a (rrep f (numbered_in part.now)))) }
 {
-    if let Answer::Refused(n) = check_and_learn(table, a, f, part) {
-        return Outcome::Refused(n);
-    }
+    path::check_and_learn(table, a, f.path, faults::of_rrep(f))?;
     let head = row::read_head(table);
     let emitted = reply::send_on(output, 0, table, a, f, part);
     clocked::store_head(table, head, head.number, a.clock);
-    Outcome::Accepted(emitted)
+    Ok(emitted)
 }

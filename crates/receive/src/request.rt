@@ -11,20 +11,20 @@ ghost use Rattle.rules.specs.Decision.{decide};
 ghost use Rattle.rules.specs.Destinations.{all_answered};
 ghost use Rattle.rules.specs.Exit.{at_exit, frame_octets, lend, least_output};
 ghost use Rattle.rules.specs.Receive.{judging};
-ghost use Rattle.calls.specs.Answers.{answer_to, exit_of};
-ghost use Rattle.learn.specs.Learnt.{learnt_if};
+ghost use Rattle.calls.specs.Answers.{exit_of};
 ghost use Rattle.onward.specs.Sent.{unicast_to_several};
 ghost use Rattle.receive.specs.Sent.{frames_after, sent_for, together};
 ghost use Rattle.layout.specs.Layout.{Sized};
 
 use crate::{faults, path};
-use calls::{Answer, Emitted, Outcome, clocked};
+use calls::{Emitted, clocked};
 use counters::SequenceNumber;
 use destinations::replies;
 use destinations::replies::Replied;
 use element::RreqFields;
 use layout::row;
 use onward::request;
+use refusals::Refusal;
 use rules::Arrival;
 
 // Holds the own number after a RREQ was answered, and what was written.
@@ -32,19 +32,6 @@ use rules::Arrival;
 pub struct Sent {
     pub number: SequenceNumber,
     pub emitted: Emitted,
-}
-
-// Refuses the RREQ, or does steps 1 and 2.
-fn check_and_learn(table: &mut [u8], a: Arrival, f: RreqFields, part: &[u8]) -> Answer
-    requires sized { Sized table.old }
-    requires clock_le_max_clock { a.clock ≤ max_clock }
-    ensures value { result ≡ answer_to (judging (lend table.old) a (rreq f (targets_in part.now))).checks }
-    ensures table_after { table.new ≡ learnt_if result a f.path table.old }
-{
-    if let Answer::Refused(n) = path::check_fields(a, f.path, faults::of_rreq(f, part)) {
-        return Answer::Refused(n);
-    }
-    path::learn(table, a, f.path)
 }
 
 // Adds up the replies, which start at place `at`, and the RREQ that is forwarded after them.
@@ -56,12 +43,13 @@ fn in_all(at: usize, replied: Replied, onward: Emitted) -> Sent
     requires octets_bound { onward.octets ≤ 254 }
     ensures { result ≡ together at replied onward }
 {
-    let number = replied.number;
-    let emitted = Emitted {
-        frames: replied.frames + onward.frames,
-        octets: (replied.place - at) as u32 + onward.octets,
-    };
-    Sent { number, emitted }
+    Sent {
+        number: replied.number,
+        emitted: Emitted {
+            frames: replied.frames + onward.frames,
+            octets: (replied.place - at) as u32 + onward.octets,
+        },
+    }
 }
 
 // Writes the replies to the destinations, starting at place `at`, and after them the RREQ with the kept destinations.
@@ -98,7 +86,7 @@ pub fn receive(
     a: Arrival,
     f: RreqFields,
     part: &[u8],
-) -> Outcome
+) -> Result<Emitted, Refusal>
     requires sized { Sized table.old }
     requires least_output_in_bounds { least_output ≤ length output.old }
     requires clock_le_max_clock { a.clock ≤ max_clock }
@@ -107,13 +95,9 @@ pub fn receive(
         ≡ at_exit (lend table.old) output.old
         (decide (judging (lend table.old) a (rreq f (targets_in part.now)))) }
 {
-    if let Answer::Refused(n) = check_and_learn(table, a, f, part) {
-        return Outcome::Refused(n);
-    }
+    path::check_and_learn(table, a, f.path, faults::of_rreq(f, part))?;
     let head = row::read_head(table);
     let sent = answer(output, 0, table, a, f, head.number, part);
-    let number = sent.number;
-    clocked::store_head(table, head, number, a.clock);
-    let emitted = sent.emitted;
-    Outcome::Accepted(emitted)
+    clocked::store_head(table, head, sent.number, a.clock);
+    Ok(sent.emitted)
 }

@@ -1,40 +1,30 @@
 // Finds a next hop.
 ghost use Rattle.std.specs.Prelude.{◌≡◌};
 ghost use Rattle.rules.specs.NextHop.{next_hop};
-ghost use Rattle.table_calls.specs.Answers.{hop_decision};
 
 use layout::address::Address;
 use layout::row;
-use table::search::NextHop;
+use refusals::Refusal;
 use table::{legal, search};
 
-// The next hop of an active row, or a refusal.
-#[derive(Clone, Copy)]
-pub enum Hop {
-    Via(Address),
-    Refused(u32),
-}
-
-pub fn next_hop(table: &[u8], clock: u64, destination: Address) -> Hop
-    ensures { hop_decision result ≡ next_hop table.now clock destination }
+// Returns the next hop of an active row, or the refusal of lowest number.
+pub fn next_hop(table: &[u8], clock: u64, destination: Address) -> Result<Address, Refusal>
+    ensures { result ≡ next_hop table.now clock destination }
 {
     if !legal::is_sized(table) {
-        return Hop::Refused(refusals::TABLE_LENGTH);
+        return Err(Refusal::TableLength);
     }
     if row::MAX_CLOCK < clock {
-        return Hop::Refused(refusals::CLOCK_TOO_LARGE);
+        return Err(Refusal::ClockTooLarge);
     }
     if !destination.is_individual() {
-        return Hop::Refused(refusals::BAD_ADDRESS);
+        return Err(Refusal::BadAddress);
     }
     if !legal::is_table(table) {
-        return Hop::Refused(refusals::NOT_A_TABLE);
+        return Err(Refusal::NotATable);
     }
     if clock < row::read_head(table).clock {
-        return Hop::Refused(refusals::OLD_CLOCK);
+        return Err(Refusal::OldClock);
     }
-    match search::active_next(table, clock, destination) {
-        NextHop::To(next) => Hop::Via(next),
-        NextHop::Nobody => Hop::Refused(refusals::NO_NEXT_HOP),
-    }
+    search::active_next(table, clock, destination).ok_or(Refusal::NoNextHop)
 }

@@ -1,2 +1,3 @@
+pub mod Ranges
 pub mod Tables
 pub mod Ways

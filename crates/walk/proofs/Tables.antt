@@ -1,5 +1,6 @@
 -- Laws of the tables side by side by their octets: where each table lies, that all have one length, and what the checks find.
-use Prim.Native.Nat.{ℕ, ◌+◌, ◌-◌, ◌*◌, ◌/◌, ◌%◌, ◌<◌, ◌≤◌}
+use Rattle.std.specs.List.{list_any, range_with_len}
+use Prim.Native.Nat.{ℕ, ◌+◌, ◌-◌, ◌*◌, ◌%◌, ◌<◌, ◌≤◌}
 use mathlib.Core.Path.{◌≡◌, refl, sym, ap, ◌∙◌}
 use mathlib.Core.Bool.{Bool, true, false, not, ◌&&◌, ◌||◌}
 use mathlib.Core.List.{List}
@@ -7,22 +8,21 @@ use lib.Dec.{eqb, leb, ltb}
 use lib.ListN.{length, take, drop, length-take, length-drop}
 use native.Mathlib.Omega.{arith}
 use native.Mathlib.Nat.{sub-zero, mul-zero, mul-suc, mul_comm, mul-le-mul_left, min-eq_left, div-le_self, mod-add-div}
-use borrow.Author.Tests.{eq-eqb, ne_eqb, lt-ltb, le-ltb, eqb-true, le-leb, lt-leb, leb-true, not-false}
+use borrow.Author.Tests.{eq-eqb, ne_eqb, eqb-true, le-leb, lt-leb, leb-true, not-false}
 use Rattle.octets.specs.LittleEndian.{number_at}
 use Rattle.layout.specs.declared.address.Address.{Address}
-use Rattle.layout.specs.Address.{address_of}
-use Rattle.layout.specs.declared.row.Head.{Head}
-use Rattle.layout.specs.Layout.{sized, head_at, Sized}
-use Rattle.table.specs.Table.{clock, is_table}
+use Rattle.layout.specs.Address.{address_of, same}
+use Rattle.layout.specs.Layout.{head_octets, most_rows, place, sized, head_at, Sized}
+use Rattle.table.specs.Table.{is_table}
 use Rattle.octets.proofs.Tests.{both}
 use Rattle.table.proofs.Cases.{of_size}
 use Rattle.element.specs.Entries.{each}
 use Rattle.element.specs.Lists.{contains, has_duplicate}
-use Rattle.element.proofs.Scans.{map_each}
+use Rattle.element.proofs.Scans.{each_end, each_next, map_each}
 use Rattle.rules.specs.Lists.{any}
-use Rattle.rules.specs.Walk.{table_at, length_of_each, side_by_side, points, has_later_clock}
-use Rattle.rules.proofs.AnyOf.{any_found, any_more}
-use Rattle.walk.specs.Pieces.{Pieces, pieces, point_at}
+use Rattle.rules.specs.Walk.{table_at, tables_in, length_of_each, side_by_side, points, has_later_clock}
+use Rattle.walk.specs.Pieces.{point_at}
+use Rattle.walk.proofs.Ranges.{any_each, duplicate_each}
 
 -- ---- one table
 
@@ -36,18 +36,6 @@ module _ (s : List ℕ) (long i : ℕ) where
   piece_long l =
       length-take long (drop (long * i) s)
       ∙ min-eq_left (let n = length-drop (long * i) s in omega (arith, n))
-
-module _ (s : List ℕ) (long count : ℕ) (p : Pieces s long count) (i : ℕ) (l : i < count) where
-  pub piece_within : long * i + long ≤ length s
-  piece_within = omega (arith, mul-le-mul_left long l, mul-suc long i, mul_comm long count, p.whole)
-
-  pub piece_sized : (t : List ℕ) → t ≡ table_at s long i → Sized t
-  piece_sized t e =
-      let n = ap length e ∙ piece_long s long i piece_within in
-      record { with_head = omega (arith, p.with_head, n); not_longer = omega (arith, p.not_longer, n) }
-
-  pub piece_address : (t : List ℕ) → t ≡ table_at s long i → 6 ≤ length t
-  piece_address t e = omega (arith, (piece_sized t e).with_head)
 
 -- ---- 1 to 16 tables of one length
 
@@ -73,14 +61,22 @@ module _ (s : List ℕ) (count : ℕ) where
       unfolding side_by_side
       even e t te b be = rw (le-leb 1 count least, le-leb count 16 most, eq-eqb (length s % count) 0 e, ← te) be
 
-pub pieces_there : (s : List ℕ) (count : ℕ) (b : Bool) → b ≡ side_by_side s count → not b ≡ false → Pieces s (length s / count) count
+-- What the ghost fields of `Pieces` say: refusal 1 is passed, and `long` is the length of each piece.
+record Cut (s : List ℕ) (long count : ℕ) : Type 0 where
+  some_piece : 1 ≤ count
+  few : count ≤ 16
+  whole : count * long ≡ length s
+  with_head : head_octets ≤ long
+  not_longer : long ≤ place most_rows
+
+cut : (s : List ℕ) (count : ℕ) → side_by_side s count ≡ true → Cut s (length_of_each s count) count
 unfolding side_by_side
-pieces_there s count b be yes_b =
+cut s count passed =
     let many = leb 1 count in
     let few = leb count 16 in
     let whole = eqb (length s % count) 0 in
     let first = table_at s (length_of_each s count) 0 in
-    let all = both (many && few && whole) (sized first) (sym be ∙ not-false b yes_b) in
+    let all = both (many && few && whole) (sized first) passed in
     let counted = both (many && few) whole all.0 in
     let ranged = both many few counted.0 in
     let long = piece_long s (length_of_each s count) 0 (first_within s count) in
@@ -94,49 +90,84 @@ pieces_there s count b be yes_b =
     }
 
 pub divisible : (s : List ℕ) (count : ℕ) (b : Bool) → b ≡ side_by_side s count → not b ≡ false → 0 < count
-divisible s count b be yes_b = (pieces_there s count b be yes_b).some_piece
+divisible s count b be yes_b = (cut s count (sym be ∙ not-false b yes_b)).some_piece
+
+module _ (s : List ℕ) (long count : ℕ) (divided : long ≡ length_of_each s count) (passed : side_by_side s count ≡ true) where
+  pieces_cut : Cut s long count
+  pieces_cut = rw divided (cut s count passed)
+
+  pub few_pieces : count ≤ 16
+  few_pieces = pieces_cut.few
+
+  pub long_enough : 6 ≤ long
+  long_enough = omega (arith, pieces_cut.with_head)
+
+  module _ (i : ℕ) (l : i < count) where
+    pub piece_within : long * i + long ≤ length s
+    piece_within = omega (arith, mul-le-mul_left long l, mul-suc long i, mul_comm long count, pieces_cut.whole)
+
+    pub piece_sized : (t : List ℕ) → t ≡ table_at s long i → Sized t
+    piece_sized t e =
+        let n = ap length e ∙ piece_long s long i piece_within in
+        record { with_head = omega (arith, pieces_cut.with_head, n); not_longer = omega (arith, pieces_cut.not_longer, n) }
+
+  -- The tables and the points, in order of their indices.
+  tables_each : tables_in s count ≡ each (table_at s long) 0 count
+  tables_each = ap (λ (n : ℕ). each (table_at s n) 0 count) (sym divided)
+
+  points_each : points (tables_in s count) ≡ each (point_at s long) 0 count
+  points_each = ap points tables_each ∙ map_each address_of (table_at s long) 0 count
+
+  -- What is found at an index is found among the tables.
+  module _ (b : Bool) where
+    pub point_contained : (a : Address) → b ≡ contains (each (point_at s long) 0 (count - 0)) a → b ≡ contains (points (tables_in s count)) a
+    point_contained a e = e ∙ rw sub-zero (ap (λ (l : List Address). contains l a) (sym points_each))
+
+    pub duplicate_found : b ≡ list_any (λ i. contains (each (point_at s long) (i + 1) (count - (i + 1))) (point_at s long i)) (range_with_len 0 count)
+        → b ≡ has_duplicate (points (tables_in s count))
+    duplicate_found e = e ∙ sym (ap has_duplicate points_each ∙ duplicate_each (point_at s long) 0 count count (omega arith))
+
+    pub other_found : b ≡ list_any (λ i. not (is_table (table_at s long i))) (range_with_len 0 count)
+        → b ≡ any (λ t. not (is_table t)) (tables_in s count)
+    other_found e = e ∙ sym (ap (any (λ t. not (is_table t))) tables_each ∙ any_each (table_at s long) (λ t. not (is_table t)) 0 count)
+
+    pub later_found : (c : ℕ) → b ≡ list_any (λ i. ltb c (head_at (table_at s long i)).clock) (range_with_len 0 count)
+        → b ≡ any (has_later_clock c) (tables_in s count)
+    unfolding has_later_clock
+    later_found c e = e ∙ sym (ap (any (has_later_clock c)) tables_each ∙ any_each (table_at s long) (has_later_clock c) 0 count)
+
+-- ---- the point with an address d, sought from the first point on; g is whether there is one
+
+module _ (f : ℕ → Address) (n i : ℕ) (g : Bool) (d : Address) where
+  module _ (l : i < n) (a : Address) (ae : a ≡ f i) (b : Bool) (be : b ≡ same a d) where
+    point_next : contains (each f i (n - i)) d ≡ (b || contains (each f (i + 1) (n - (i + 1))) d)
+    unfolding contains
+    point_next =
+        ap (λ (k : List Address). contains k d) (each_next f i n l)
+        ∙ ap (λ (c : Bool). c || contains (each f (i + 1) (n - (i + 1))) d) (ap (λ (c : Address). same c d) (sym ae) ∙ sym be)
+
+    pub point_met : b ≡ true → contains (each f i (n - i)) d ≡ g → true ≡ g
+    point_met e h = rw (← h, point_next, e)
+
+    pub point_not_met : b ≡ false → contains (each f i (n - i)) d ≡ g → contains (each f (i + 1) (n - (i + 1))) d ≡ g
+    point_not_met e h = rw (← h, point_next, e)
+
+  pub no_point_left : n ≤ i → contains (each f i (n - i)) d ≡ g → false ≡ g
+  unfolding contains
+  no_point_left l h = rw (← h, each_end f i n l)
+
+-- ---- the address of a point
+
+pub point_read : (s : List ℕ) (long i : ℕ) (t : List ℕ) → t ≡ table_at s long i → (n : ℕ) → n ≡ number_at 6 t 0 → record { 0 = n } ≡ point_at s long i
+point_read s long i t te n ne = rw (ne, te)
+
+pub point_within : (s : List ℕ) (long i : ℕ) → long * i + long ≤ length s → 6 ≤ long → (t : List ℕ) → t ≡ table_at s long i → 6 ≤ length t
+point_within s long i within six t te = omega (arith, within, six, ap length te ∙ piece_long s long i within)
 
 -- The test of refusal 10 has the result of the code's test.
 pub ten_tested : (a b c d : Bool) → a ≡ b → c ≡ d → (v : Bool) → (not a || c) ≡ v → (not b || d) ≡ v
 ten_tested a b c d e f v h = rw (← e, ← f) h
 
--- ---- own addresses
-
-module _ (s : List ℕ) (long i : ℕ) where
-  pub point_read : (t : List ℕ) → t ≡ table_at s long i → (n : ℕ) → n ≡ number_at 6 t 0 → record { 0 = n } ≡ point_at s long i
-  point_read t te n ne = rw (ne, te)
-
--- The points are read from the pieces one by one.
-module _ (s : List ℕ) (long n : ℕ) where
-  points_each : points (pieces s long n) ≡ each (point_at s long) 0 (n - 0)
-  points_each = map_each address_of (table_at s long) 0 n ∙ ap (each (point_at s long) 0) (sym (sub-zero n))
-
-  pub point_contained : (a : Address) (b : Bool) → b ≡ contains (each (point_at s long) 0 (n - 0)) a → b ≡ contains (points (pieces s long n)) a
-  point_contained a b e = e ∙ ap (λ (l : List Address). contains l a) (sym points_each)
-
-  pub duplicate_start : has_duplicate (each (point_at s long) 0 (n - 0)) ≡ has_duplicate (points (pieces s long n))
-  duplicate_start = ap has_duplicate (sym points_each)
-
--- ---- which pieces are tables, and their clocks
-
-module _ (s : List ℕ) (long n i : ℕ) (g : Bool) (l : i < n) (t : List ℕ) (te : t ≡ table_at s long i) where
-  module _ (b : Bool) (be : b ≡ is_table t) where
-    pub other_found : not b ≡ true → any (λ u. not (is_table u)) (each (table_at s long) i (n - i)) ≡ g → true ≡ g
-    other_found e = any_found (λ u. not (is_table u)) (table_at s long) n i g l t te (ap not (sym be) ∙ e)
-
-    pub other_more : not b ≡ false → any (λ u. not (is_table u)) (each (table_at s long) i (n - i)) ≡ g
-        → any (λ u. not (is_table u)) (each (table_at s long) (i + 1) (n - (i + 1))) ≡ g
-    other_more e = any_more (λ u. not (is_table u)) (table_at s long) n i g l t te (ap not (sym be) ∙ e)
-
-module _ (s : List ℕ) (long n i : ℕ) (g : Bool) (l : i < n) (c x : ℕ) (xe : x ≡ clock (table_at s long i)) where
-  pub later_found : c < x → any (has_later_clock c) (each (table_at s long) i (n - i)) ≡ g → true ≡ g
-  unfolding has_later_clock
-  later_found e = any_found (has_later_clock c) (table_at s long) n i g l (table_at s long i) refl (ap (λ (y : ℕ). ltb c y) (sym xe) ∙ lt-ltb c x e)
-
-  pub later_more : x ≤ c → any (has_later_clock c) (each (table_at s long) i (n - i)) ≡ g
-      → any (has_later_clock c) (each (table_at s long) (i + 1) (n - (i + 1))) ≡ g
-  unfolding has_later_clock
-  later_more e = any_more (has_later_clock c) (table_at s long) n i g l (table_at s long i) refl (ap (λ (y : ℕ). ltb c y) (sym xe) ∙ le-ltb c x e)
-
-pub clock_read : (t u : List ℕ) → t ≡ u → (h : Head) → h ≡ head_at t → h.clock ≡ clock u
-clock_read t u e h he = rw (he, e)
+-- The pieces pass refusal 1.
+pub one_passed : (b : Bool) → b ≡ true → not b ≡ false
+one_passed b e = rw e

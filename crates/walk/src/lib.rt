@@ -5,17 +5,15 @@ pub mod pieces;
 mod way;
 
 ghost use Rattle.std.specs.Prelude.{◌≡◌};
-ghost use Rattle.rules.specs.Walk.{side_by_side, table_checks, walk, walked_at_exit, walking};
+ghost use Rattle.rules.specs.Walk.{table_checks, tables_in, walk, walked_at_exit, walking};
 ghost use Rattle.calls.specs.Answers.{answer_to};
 ghost use Rattle.walk.specs.Answers.{walk_decision, numbers_of};
-ghost use Rattle.walk.specs.Pieces.{Pieces, pieces};
 
-use calls::Answer;
 use counters::HopCount;
 use layout::address::Address;
 use layout::row;
-use pieces::table_at;
-use table::legal;
+use pieces::Pieces;
+use refusals::Refusal;
 
 // The answers of a walk that does not arrive. `NO_ROUTE`: no active row leads on to a point or to the destination. `TOO_LONG`:
 // the walk took as many hops as there are points.
@@ -23,13 +21,12 @@ const NO_ROUTE: u32 = 41;
 
 const TOO_LONG: u32 = 42;
 
-// How a walk ends: with the hops walked, or with a refusal.
+// How a walk that is not refused ends, with the hops walked.
 #[derive(Clone, Copy)]
 pub enum Ending {
     Arrived(HopCount),
     Stopped(HopCount),
     TooLong(HopCount),
-    Refused(u32),
 }
 
 // Holds the answer and the hops as numbers. C receives them, and the bench prints them.
@@ -40,83 +37,71 @@ pub struct Walked {
     pub hops: u32,
 }
 
-// Returns 0, 41 or 42 with the hops walked, or the refusal's number with 0 hops.
-pub fn in_numbers(ending: Ending) -> Walked
-    ensures { numbers_of result ≡ walked_at_exit (walk_decision ending) }
-{
-    match ending {
-        Ending::Arrived(hops) => Walked {
-            answer: 0,
-            hops: hops.0 as u32,
-        },
-        Ending::Stopped(hops) => Walked {
-            answer: NO_ROUTE,
-            hops: hops.0 as u32,
-        },
-        Ending::TooLong(hops) => Walked {
-            answer: TOO_LONG,
-            hops: hops.0 as u32,
-        },
-        Ending::Refused(answer) => Walked { answer, hops: 0 },
-    }
-}
+// The answer is 0, 41 or 42 with the hops walked, or the refusal's number with 0 hops.
+impl From<Result<Ending, Refusal>> for Walked {
+    ghost from_gives = { λ ending w. numbers_of w ≡ walked_at_exit (walk_decision ending) };
 
-// Reports whether the octets are 1 to 16 pieces of one length that a table may have.
-fn are_side_by_side(tables: &[u8], count: usize) -> bool
-    ensures { result ≡ side_by_side tables.now count }
-{
-    if count < 1 {
-        return false;
+    fn from(ending: Result<Ending, Refusal>) -> Walked {
+        match ending {
+            Ok(Ending::Arrived(hops)) => Walked {
+                answer: 0,
+                hops: u32::from(hops.0),
+            },
+            Ok(Ending::Stopped(hops)) => Walked {
+                answer: NO_ROUTE,
+                hops: u32::from(hops.0),
+            },
+            Ok(Ending::TooLong(hops)) => Walked {
+                answer: TOO_LONG,
+                hops: u32::from(hops.0),
+            },
+            Err(refusal) => Walked {
+                answer: u32::from(refusal),
+                hops: 0,
+            },
+        }
     }
-    if 16 < count {
-        return false;
-    }
-    if tables.len() % count != 0 {
-        return false;
-    }
-    legal::is_sized(table_at(tables, tables.len() / count, 0))
 }
 
 // Checks the state: refusals 21 and 22.
-fn check_state(tables: &[u8], long: usize, count: usize, clock: u64) -> Answer
-    requires { Pieces tables.now long count }
-    ensures { result ≡ answer_to (table_checks (pieces tables.now long count) clock) }
+fn check_state(pieces: &Pieces, clock: u64) -> Result<(), Refusal>
+    ensures { result ≡ answer_to (table_checks (tables_in pieces.now.octets.now pieces.now.count) clock) }
 {
-    if pieces::has_non_table(tables, long, count) {
-        return Answer::Refused(refusals::NOT_A_TABLE);
+    if pieces.has_non_table() {
+        return Err(Refusal::NotATable);
     }
-    if pieces::has_later_clock(tables, long, count, clock) {
-        return Answer::Refused(refusals::OLD_CLOCK);
+    if pieces.has_later_clock(clock) {
+        return Err(Refusal::OldClock);
     }
-    Answer::Accepted
+    Ok(())
 }
 
-// Checks all refusals of a walk in their order.
-fn check(tables: &[u8], count: usize, clock: u64, start: Address, destination: Address) -> Answer
-    ensures { result ≡ answer_to (walking tables.now count clock start destination).checks }
+// Checks all refusals of a walk in their order. The pieces pass refusal 1.
+fn check(pieces: &Pieces, clock: u64, start: Address, destination: Address) -> Result<(), Refusal>
+    ensures { result ≡ answer_to (walking pieces.now.octets.now pieces.now.count clock start destination).checks }
 {
-    if !are_side_by_side(tables, count) {
-        return Answer::Refused(refusals::TABLE_LENGTH);
-    }
     if row::MAX_CLOCK < clock {
-        return Answer::Refused(refusals::CLOCK_TOO_LARGE);
+        return Err(Refusal::ClockTooLarge);
     }
     if !destination.is_individual() {
-        return Answer::Refused(refusals::BAD_ADDRESS);
+        return Err(Refusal::BadAddress);
     }
-    let long = tables.len() / count;
-    if !pieces::is_point(tables, long, count, start) | pieces::has_duplicate(tables, long, count) {
-        return Answer::Refused(refusals::BAD_LIST);
+    if !pieces.is_point(start) | pieces.has_duplicate() {
+        return Err(Refusal::BadList);
     }
-    check_state(tables, long, count, clock)
+    check_state(pieces, clock)
 }
 
-pub fn walk(tables: &[u8], count: u32, clock: u64, start: Address, destination: Address) -> Ending
+pub fn walk(
+    tables: &[u8],
+    count: u32,
+    clock: u64,
+    start: Address,
+    destination: Address,
+) -> Result<Ending, Refusal>
     ensures { walk_decision result ≡ walk tables.now count clock start destination }
 {
-    let n = count as usize;
-    match check(tables, n, clock, start, destination) {
-        Answer::Accepted => way::follow(tables, tables.len() / n, n, clock, start, destination),
-        Answer::Refused(number) => Ending::Refused(number),
-    }
+    let pieces = Pieces::split(tables, count as usize)?;
+    check(&pieces, clock, start, destination)?;
+    Ok(way::follow(&pieces, clock, start, destination))
 }

@@ -1,105 +1,148 @@
 // The tables side by side as pieces of one length, and what the checks ask of them.
-ghost use Rattle.std.specs.Prelude.{◌≡◌, not, ◌+◌, ◌-◌, ◌*◌, ◌<◌, ◌≤◌, length};
-ghost use Rattle.table.specs.Table.{is_table, clock as table_clock};
+ghost use Rattle.std.specs.Prelude.{◌≡◌, not, true, false, ◌+◌, ◌-◌, ◌*◌, ◌<◌, ◌≤◌, length, Option};
+ghost use Rattle.std.specs.List.{find, range_with_len};
+ghost use Rattle.std.specs.Result.{MatchResult};
+ghost use Rattle.refusals.specs.declared.Refusal.TheVariants.{TableLength};
+ghost use Rattle.layout.specs.Address.{same};
+ghost use Rattle.layout.specs.Layout.{Sized};
+ghost use Rattle.table.specs.Table.{is_table};
 ghost use Rattle.element.specs.Entries.{each};
 ghost use Rattle.element.specs.Lists.{contains, has_duplicate};
 ghost use Rattle.rules.specs.Lists.{any};
-ghost use Rattle.rules.specs.Walk.{has_later_clock, points, table_at};
-ghost use Rattle.walk.specs.Pieces.{Pieces, pieces, point_at};
+ghost use Rattle.rules.specs.Walk.{has_later_clock, length_of_each, points, side_by_side, table_at, tables_in};
+ghost use Rattle.walk.specs.Pieces.{point_at};
 
 use layout::address::Address;
 use layout::row;
+use refusals::Refusal;
 use table::legal;
 
+// Octets that pass refusal 1: 1 to 16 pieces of one length that a table may have. A piece may turn out not to be a table.
+#[derive(Clone, Copy)]
+pub struct Pieces<'a> {
+    octets: &'a [u8],
+    long: usize,
+    pub count: usize,
+    ghost divided: { long ≡ length_of_each octets.now count },
+    ghost passed: { side_by_side octets.now count ≡ true },
+}
+
 // Returns table i, which is a part of the octets.
-pub fn table_at(tables: &[u8], long: usize, i: usize) -> &[u8]
-    requires { long * i + long ≤ length tables.now }
-    ensures { result.now ≡ table_at tables.now long i }
+fn table_at(octets: &[u8], long: usize, i: usize) -> &[u8]
+    requires { long * i + long ≤ length octets.now }
+    ensures { result.now ≡ table_at octets.now long i }
 {
     let from = long * i;
-    &tables[from..from + long]
+    &octets[from..from + long]
 }
 
-// Returns the own address of piece i. The piece may turn out not to be a table.
-pub fn point_at(tables: &[u8], long: usize, count: usize, i: usize) -> Address
-    requires pieces { Pieces tables.now long count }
-    requires i_lt_count { i < count }
-    ensures { result ≡ point_at tables.now long i }
+// Returns the own address of piece i, of pieces that are `long` octets long. The piece may turn out not to be a table.
+pub fn point_at(octets: &[u8], long: usize, i: usize) -> Address
+    requires within { long * i + long ≤ length octets.now }
+    requires holds_address { 6 ≤ long }
+    ensures { result ≡ point_at octets.now long i }
 {
-    Address(octets::read_u48(table_at(tables, long, i), 0))
+    Address(octets::read_u48(table_at(octets, long, i), 0))
 }
 
-// Reports whether a point from number `from` on has this address.
-fn contains(tables: &[u8], long: usize, count: usize, from: usize, address: Address) -> bool
-    requires { Pieces tables.now long count }
-    ensures { result ≡ contains (each (point_at tables.now long) from (count - from)) address }
+// Reports whether the octets are 1 to 16 pieces of one length that a table may have.
+fn are_side_by_side(octets: &[u8], count: usize) -> bool
+    ensures { result ≡ side_by_side octets.now count }
 {
-    let mut i = from;
-    while i < count {
-        if point_at(tables, long, count, i).0 == address.0 {
-            return true;
-        }
-        i += 1;
+    if count < 1 {
+        return false;
     }
-    false
-}
-
-pub fn is_point(tables: &[u8], long: usize, count: usize, address: Address) -> bool
-    requires { Pieces tables.now long count }
-    ensures { result ≡ contains (points (pieces tables.now long count)) address }
-{
-    contains(tables, long, count, 0, address)
-}
-
-// Reports whether two points have equal addresses.
-pub fn has_duplicate(tables: &[u8], long: usize, count: usize) -> bool
-    requires { Pieces tables.now long count }
-    ensures { result ≡ has_duplicate (points (pieces tables.now long count)) }
-{
-    let mut i = 0;
-    while i < count {
-        if contains(tables, long, count, i + 1, point_at(tables, long, count, i)) {
-            return true;
-        }
-        i += 1;
+    if 16 < count {
+        return false;
     }
-    false
-}
-
-// Reports whether some piece is not a table.
-pub fn has_non_table(tables: &[u8], long: usize, count: usize) -> bool
-    requires { Pieces tables.now long count }
-    ensures { result ≡ any (λ t. not (is_table t)) (pieces tables.now long count) }
-{
-    let mut i = 0;
-    while i < count {
-        if !legal::is_table(table_at(tables, long, i)) {
-            return true;
-        }
-        i += 1;
+    if octets.len() % count != 0 {
+        return false;
     }
-    false
+    legal::is_sized(table_at(octets, octets.len() / count, 0))
 }
 
-fn latest_clock_at(tables: &[u8], long: usize, count: usize, i: usize) -> u64
-    requires pieces { Pieces tables.now long count }
-    requires i_lt_count { i < count }
-    ensures { result ≡ table_clock (table_at tables.now long i) }
-{
-    row::read_head(table_at(tables, long, i)).clock
-}
-
-// Reports whether the clock is below the latest clock of some table.
-pub fn has_later_clock(tables: &[u8], long: usize, count: usize, clock: u64) -> bool
-    requires { Pieces tables.now long count }
-    ensures { result ≡ any (has_later_clock clock) (pieces tables.now long count) }
-{
-    let mut i = 0;
-    while i < count {
-        if clock < latest_clock_at(tables, long, count, i) {
-            return true;
+impl<'a> Pieces<'a> {
+    // Returns the octets as `count` pieces, or refusal 1.
+    pub fn split(octets: &'a [u8], count: usize) -> Result<Pieces<'a>, Refusal>
+        ensures { MatchResult result
+            (λ p. (p.octets.now ≡ octets.now) × (p.count ≡ count))
+            (λ r. (r ≡ TableLength) × (side_by_side octets.now count ≡ false)) }
+    {
+        if !are_side_by_side(octets, count) {
+            return Err(Refusal::TableLength);
         }
-        i += 1;
+        let long = octets.len() / count;
+        Ok(Pieces {
+            octets,
+            long,
+            count,
+        })
     }
-    false
+
+    pub fn table_at(&self, i: usize) -> &'a [u8]
+        requires { i < self.now.count }
+        ensures value { result.now ≡ table_at self.now.octets.now self.now.long i }
+        ensures sized { Sized result.now }
+    {
+        table_at(self.octets, self.long, i)
+    }
+
+    fn point_at(&self, i: usize) -> Address
+        requires { i < self.now.count }
+        ensures { result ≡ point_at self.now.octets.now self.now.long i }
+    {
+        point_at(self.octets, self.long, i)
+    }
+
+    // Returns the place of the point with this address. The loop was faster than `find` of the library.
+    pub fn find(&self, address: Address) -> Option<usize>
+        ensures { result
+            ≡ find (λ i. same (point_at self.now.octets.now self.now.long i) address) (range_with_len 0 self.now.count) }
+    {
+        for i in 0..self.count {
+            if self.point_at(i) == address {
+                return Some(i);
+            }
+        }
+        None
+    }
+
+    // Reports whether a point from number `from` on has this address. The loop was faster than `any`.
+    fn contains_from(&self, from: usize, address: Address) -> bool
+        ensures { result ≡ contains (each (point_at self.now.octets.now self.now.long) from (self.now.count - from)) address }
+    {
+        for i in from..self.count {
+            if self.point_at(i) == address {
+                return true;
+            }
+        }
+        false
+    }
+
+    pub fn is_point(&self, address: Address) -> bool
+        ensures { result ≡ contains (points (tables_in self.now.octets.now self.now.count)) address }
+    {
+        self.contains_from(0, address)
+    }
+
+    // Reports whether two points have equal addresses.
+    pub fn has_duplicate(&self) -> bool
+        ensures { result ≡ has_duplicate (points (tables_in self.now.octets.now self.now.count)) }
+    {
+        (0..self.count).any(|i| self.contains_from(i + 1, self.point_at(i)))
+    }
+
+    // Reports whether some piece is not a table.
+    pub fn has_non_table(&self) -> bool
+        ensures { result ≡ any (λ t. not (is_table t)) (tables_in self.now.octets.now self.now.count) }
+    {
+        (0..self.count).any(|i| !legal::is_table(self.table_at(i)))
+    }
+
+    // Reports whether the clock is below the latest clock of some table.
+    pub fn has_later_clock(&self, clock: u64) -> bool
+        ensures { result ≡ any (has_later_clock clock) (tables_in self.now.octets.now self.now.count) }
+    {
+        (0..self.count).any(|i| clock < row::read_head(self.table_at(i)).clock)
+    }
 }

@@ -24,10 +24,16 @@ pub const RREP_START: usize = 40;
 
 pub const RERR_START: usize = 10;
 
-// Writes the receiver address, and the numbers of an element up to its list.
-fn start_frame(out: &mut [u8], at: usize, to: Address, widths: &[u8], numbers: &[u64])
-    requires widths_in_bounds { at + 6 + total widths.now ≤ length out.old }
-    requires widths_len { length widths.now ≡ length numbers.now }
+// Writes the receiver address, and the numbers of an element up to its list. The starts of the types share it. They stay apart
+// above it, because they differ in their fields, their widths and whether they have a count.
+fn start_frame<const N: usize>(
+    out: &mut [u8],
+    at: usize,
+    to: Address,
+    widths: &[u8; N],
+    numbers: &[u64; N],
+)
+    requires { at + 6 + total widths.now ≤ length out.old }
     ensures { out.new
         ≡ overwrite out.old at (number_octets 6 to.0 ++ field_octets widths.now numbers.now) }
 {
@@ -55,6 +61,7 @@ pub fn rann_numbers(p: PathInfo) -> [u64; 9]
     ]
 }
 
+#[tactic(auto, unfolding(octets::specs::LittleEndian::total))]
 pub fn write_rann(out: &mut [u8], at: usize, to: Address, path: PathInfo) -> usize
     requires { at + start_octets Kind.Rann ≤ length out.old }
     ensures value { result ≡ at + start_octets Kind.Rann }
@@ -90,6 +97,7 @@ pub fn rreq_numbers(f: RreqFields, n: usize) -> [u64; 11]
 }
 
 // Writes a RREQ with n destinations up to its list. `write_target` writes each destination.
+#[tactic(auto, unfolding(octets::specs::LittleEndian::total))]
 pub fn start_rreq(out: &mut [u8], at: usize, to: Address, f: RreqFields, n: usize) -> usize
     requires n_bound { n ≤ most Kind.Rreq }
     requires start_octets_in_bounds { at + start_octets Kind.Rreq ≤ length out.old }
@@ -102,6 +110,7 @@ pub fn start_rreq(out: &mut [u8], at: usize, to: Address, f: RreqFields, n: usiz
     at + RREQ_START
 }
 
+#[tactic(auto, unfolding(octets::specs::LittleEndian::total))]
 pub fn write_target(out: &mut [u8], at: usize, target: Target) -> usize
     requires { at + size_of ListKind.Targets ≤ length out.old }
     ensures value { result ≡ at + size_of ListKind.Targets }
@@ -137,7 +146,6 @@ pub fn rrep_numbers(f: RrepFields, n: usize) -> [u64; 12]
     ensures { result ≡ fixed_numbers Kind.Rrep n (rrep_numbers f) }
 {
     let p = f.path;
-    let source = f.source;
     let count = n as u64;
     [
         131,
@@ -149,13 +157,14 @@ pub fn rrep_numbers(f: RrepFields, n: usize) -> [u64; 12]
         p.number.0 as u64,
         p.lifetime as u64,
         p.metric.0 as u64,
-        source.address.0,
-        source.number.0 as u64,
+        f.source.address.0,
+        f.source.number.0 as u64,
         count,
     ]
 }
 
 // Writes a RREP with n dependents up to its list. A reply to a RREQ has no dependents.
+#[tactic(auto, unfolding(octets::specs::LittleEndian::total))]
 pub fn start_rrep(out: &mut [u8], at: usize, to: Address, f: RrepFields, n: usize) -> usize
     requires n_bound { n ≤ most Kind.Rrep }
     requires start_octets_in_bounds { at + start_octets Kind.Rrep ≤ length out.old }
@@ -192,6 +201,7 @@ pub fn rerr_numbers(f: RerrFields, n: usize) -> [u64; 4]
 }
 
 // Writes a RERR with n destinations up to its list. `write_lost` writes each destination.
+#[tactic(auto, unfolding(octets::specs::LittleEndian::total))]
 pub fn start_rerr(out: &mut [u8], at: usize, to: Address, f: RerrFields, n: usize) -> usize
     requires n_bound { n ≤ most Kind.Rerr }
     requires start_octets_in_bounds { at + start_octets Kind.Rerr ≤ length out.old }
@@ -204,6 +214,7 @@ pub fn start_rerr(out: &mut [u8], at: usize, to: Address, f: RerrFields, n: usiz
     at + RERR_START
 }
 
+#[tactic(auto, unfolding(octets::specs::LittleEndian::total))]
 pub fn write_lost(out: &mut [u8], at: usize, lost: LostDestination) -> usize
     requires { at + size_of ListKind.LostDestinations ≤ length out.old }
     ensures value { result ≡ at + size_of ListKind.LostDestinations }

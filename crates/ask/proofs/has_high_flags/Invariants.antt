@@ -8,6 +8,3 @@ use Rattle.ask.proofs.has_high_flags.Given as goal
 abbrev pub invariant-loop-i : goal.invariant-loop-i
 invariant-loop-i l =
     any has_high_flags (each (item_at l.items) l.i (l.n - l.i)) ≡ any has_high_flags (each (item_at l.items) 0 l.n)
-
-abbrev pub decreases-loop-i : goal.decreases-loop-i
-decreases-loop-i l = l.n - l.i

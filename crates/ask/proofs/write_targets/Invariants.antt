@@ -12,6 +12,3 @@ invariant-loop-i l =
     (l.i ≤ l.n) × (length l.output ≡ length l.initial.output) × (l.place ≡ l.at + 11 * l.i)
     × (overwrite l.output l.place (flat_map (asked_octets l.table) (each (item_at l.items) l.i (l.n - l.i)))
     ≡ overwrite l.initial.output l.at (flat_map target_octets (map (asked_for l.table) (each (item_at l.items) 0 l.n))))
-
-abbrev pub decreases-loop-i : goal.decreases-loop-i
-decreases-loop-i l = l.n - l.i

@@ -1,18 +1,12 @@
--- `probe::probe_faults` meets its contract, for each result of the reader.
-use Rattle.probe.proofs.Frames.{faults_read_lem, no_faults_refused}
+-- `probe::probe_faults` meets its contract, for a refusal and for an element of any type.
+use Rattle.std.proofs.Common.{refl}
+use Rattle.probe.specs.Probes.{faults_in}
 use Rattle.probe.proofs.probe_faults.Goals as goal
 
-pub returns-in-Announcement : goal.returns-in-Announcement
-returns-in-Announcement c = search faults_read_lem
+pub returns-in_default : goal.returns-in_default
+unfolding faults_in
+returns-in_default c = rw (← c.read.ensures, c.in_default.is) refl
 
-pub returns-in-Request : goal.returns-in-Request
-returns-in-Request c = search faults_read_lem
-
-pub returns-in-Reply : goal.returns-in-Reply
-returns-in-Reply c = search faults_read_lem
-
-pub returns-in-Error : goal.returns-in-Error
-returns-in-Error c = search faults_read_lem
-
-pub returns-in-Refused : goal.returns-in-Refused
-returns-in-Refused c = search no_faults_refused
+pub returns : goal.returns
+unfolding faults_in
+returns c = rw (← c.read.ensures, c.in-Ok.is) (cc)

@@ -1,9 +1,12 @@
--- `reading::has_wrong_length` meets its contract, for both returns.
-use Rattle.reading.proofs.Cases.{too_short, long_enough}
+-- `reading::has_wrong_length` meets its contract, for both sides of the test.
+use Rattle.std.proofs.Common.{rules}
+use Rattle.element.specs.Octets.{wrong_length}
 use Rattle.reading.proofs.has_wrong_length.Goals as goal
 
 pub returns-then-element-lt2 : goal.returns-then-element-lt2
-returns-then-element-lt2 c = search too_short
+unfolding wrong_length
+returns-then-element-lt2 c = search rules
 
-pub returns : goal.returns
-returns c = search long_enough
+pub returns-else-element-lt2 : goal.returns-else-element-lt2
+unfolding wrong_length
+returns-else-element-lt2 c = search rules

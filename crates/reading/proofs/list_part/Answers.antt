@@ -1,9 +1,6 @@
 -- `reading::list_part` meets its contract: it returns the octets from the start of the list on, if there are any.
-use Rattle.reading.proofs.Cases.{list_beyond, list_left}
+use Rattle.reading.proofs.Cases.{list_left}
 use Rattle.reading.proofs.list_part.Goals as goal
-
-pub returns-then-element-start : goal.returns-then-element-start
-returns-then-element-start c = search list_beyond
 
 pub returns : goal.returns
 returns c = search list_left

@@ -3,4 +3,4 @@ use Rattle.writing.proofs.Written.{frame_started}
 use Rattle.writing.proofs.start_frame.Goals as goal
 
 pub returns : goal.returns
-returns c = search frame_started
+returns g c = search frame_started

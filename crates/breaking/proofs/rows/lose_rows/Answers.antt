@@ -1,5 +1,5 @@
--- `breaking::rows::lose_rows` meets its contract: either no row breaks, or `break_rows` goes through all rows.
-use Rattle.table.proofs.Changes.{below_all}
+-- `breaking::rows::lose_rows` meets its contract: either no row breaks, or each row takes what `row_after` makes of it.
+use Rattle.std.proofs.Common.{rules}
 use Rattle.breaking.proofs.Broken.{none_changed}
 use Rattle.breaking.proofs.rows.lose_rows.Goals as goal
 
@@ -7,4 +7,4 @@ pub returns-then-lost-eq0 : goal.returns-then-lost-eq0
 returns-then-lost-eq0 c = search none_changed
 
 pub returns : goal.returns
-returns c = search below_all
+returns c = c.change_rows.ensures _ _ (λ r o h. search rules)

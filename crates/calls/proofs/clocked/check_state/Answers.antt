@@ -12,9 +12,9 @@ pub returns-then-clock-head : goal.returns-then-clock-head
 unfolding state_checks
 returns-then-clock-head c = search (checking, by_head) depth 40
 
-pub returns-then-neighbour-head : goal.returns-then-neighbour-head
+pub returns-then-eq : goal.returns-then-eq
 unfolding state_checks
-returns-then-neighbour-head c = search (checking, by_head) depth 40
+returns-then-eq c = search (checking, by_head) depth 40
 
 pub returns : goal.returns
 unfolding state_checks

@@ -2,17 +2,17 @@
 use Rattle.destinations.proofs.Replying.{self_place, self_output, other_place, other_output, unwanted_place, unwanted_output, wanted_place, wanted_output}
 use Rattle.destinations.proofs.replies.reply_to.Goals as goal
 
-pub returns-then-q-read_head-clause-value : goal.returns-then-q-read_head-clause-value
-returns-then-q-read_head-clause-value c = search self_place
+pub returns-then-eq-clause-value : goal.returns-then-eq-clause-value
+returns-then-eq-clause-value c = search self_place
 
-pub returns-then-q-read_head-clause-output_after : goal.returns-then-q-read_head-clause-output_after
-returns-then-q-read_head-clause-output_after c = search self_output
+pub returns-then-eq-clause-output_after : goal.returns-then-eq-clause-output_after
+returns-then-eq-clause-output_after c = search self_output
 
-pub returns-then-q-ne-ALL_ONES-clause-value : goal.returns-then-q-ne-ALL_ONES-clause-value
-returns-then-q-ne-ALL_ONES-clause-value c = search other_place
+pub returns-then-ne-clause-value : goal.returns-then-ne-clause-value
+returns-then-ne-clause-value c = search other_place
 
-pub returns-then-q-ne-ALL_ONES-clause-output_after : goal.returns-then-q-ne-ALL_ONES-clause-output_after
-returns-then-q-ne-ALL_ONES-clause-output_after c = search other_output
+pub returns-then-ne-clause-output_after : goal.returns-then-ne-clause-output_after
+returns-then-ne-clause-output_after c = search other_output
 
 pub returns-then-not-is_reply_wanted-clause-value : goal.returns-then-not-is_reply_wanted-clause-value
 returns-then-not-is_reply_wanted-clause-value c = search unwanted_place

@@ -1,5 +1,5 @@
 -- `destinations::replies::write_replies` meets its contract. Invariant: the replies so far and what is left make the whole.
-use Rattle.std.proofs.Common.{◌-◌, ◌≡◌, length}
+use Rattle.std.proofs.Common.{◌≡◌, length}
 use Rattle.destinations.proofs.Replying.{Replying}
 use Rattle.destinations.proofs.replies.write_replies.Given as goal
 
@@ -7,6 +7,3 @@ abbrev pub invariant-loop-i : goal.invariant-loop-i
 invariant-loop-i l =
     (length l.output ≡ length l.initial.output)
     × Replying l.table l.a l.p l.part l.initial.output l.at l.n l.initial.replied.number l.i l.replied l.output
-
-abbrev pub decreases-loop-i : goal.decreases-loop-i
-decreases-loop-i l = l.n - l.i

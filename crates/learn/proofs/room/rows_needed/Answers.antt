@@ -2,8 +2,8 @@
 use Rattle.learn.proofs.NewRows.{new_rows_lem, one_address, two_addresses}
 use Rattle.learn.proofs.room.rows_needed.Goals as goal
 
-pub returns-then-a-p : goal.returns-then-a-p
-returns-then-a-p c = search (one_address, new_rows_lem)
+pub returns-then-eq : goal.returns-then-eq
+returns-then-eq c = search (one_address, new_rows_lem)
 
 pub returns : goal.returns
 returns c = search (two_addresses, new_rows_lem)

@@ -6,8 +6,8 @@ use Rattle.learn.proofs.steps.row_or_new.Goals as goal
 pub read_row-requires : goal.read_row-requires
 read_row-requires c = search found_within
 
-pub returns-in-At : goal.returns-in-At
-returns-in-At c = search row_found
+pub returns-in-Some : goal.returns-in-Some
+returns-in-Some c = search row_found
 
-pub returns-in-Nothing : goal.returns-in-Nothing
-returns-in-Nothing c = search row_made
+pub returns-in-None : goal.returns-in-None
+returns-in-None c = search row_made

@@ -9,6 +9,3 @@ abbrev pub invariant-loop-i : goal.invariant-loop-i
 invariant-loop-i l =
     any (matches l.table l.a.clock l.a.transmitter) (each (lost_at l.part) l.i (l.n - l.i))
     ≡ any (matches l.table l.a.clock l.a.transmitter) (each (lost_at l.part) 0 l.n)
-
-abbrev pub decreases-loop-i : goal.decreases-loop-i
-decreases-loop-i l = l.n - l.i

@@ -7,14 +7,14 @@ use Rattle.matches.proofs.report.write_if_match.Goals as goal
 pub read_row-requires : goal.read_row-requires
 read_row-requires c = search found_within
 
-pub returns-in-At-clause-value : goal.returns-in-At-clause-value
-returns-in-At-clause-value c = search (after_these, by_row)
+pub returns-in-Some-clause-value : goal.returns-in-Some-clause-value
+returns-in-Some-clause-value c = search (after_these, by_row)
 
-pub returns-in-At-clause-output_after : goal.returns-in-At-clause-output_after
-returns-in-At-clause-output_after c = search (taken_written, by_row)
+pub returns-in-Some-clause-output_after : goal.returns-in-Some-clause-output_after
+returns-in-Some-clause-output_after c = search (taken_written, by_row)
 
-pub returns-in-Nothing-clause-value : goal.returns-in-Nothing-clause-value
-returns-in-Nothing-clause-value c = search (skipped_place, no_row)
+pub returns-in-None-clause-value : goal.returns-in-None-clause-value
+returns-in-None-clause-value c = search (skipped_place, no_row)
 
-pub returns-in-Nothing-clause-output_after : goal.returns-in-Nothing-clause-output_after
-returns-in-Nothing-clause-output_after c = search (skipped_written, no_row)
+pub returns-in-None-clause-output_after : goal.returns-in-None-clause-output_after
+returns-in-None-clause-output_after c = search (skipped_written, no_row)

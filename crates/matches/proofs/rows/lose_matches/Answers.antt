@@ -1,6 +1,6 @@
--- `matches::rows::lose_matches` meets its contract: it goes through all rows.
-use Rattle.table.proofs.Changes.{below_all}
+-- `matches::rows::lose_matches` meets its contract: each row takes what `row_after` makes of it.
+use Rattle.std.proofs.Common.{rules}
 use Rattle.matches.proofs.rows.lose_matches.Goals as goal
 
 pub returns : goal.returns
-returns c = search below_all
+returns c = c.change_rows.ensures _ _ (λ r o h. search rules)

@@ -5,8 +5,8 @@ use Rattle.matches.proofs.rows.number_beside.Goals as goal
 pub loop-i-init : goal.loop-i-init
 loop-i-init c = search (rules, beside_start)
 
-pub returns-then-m-d : goal.returns-then-m-d
-returns-then-m-d c = search beside_found
+pub returns-then-eq : goal.returns-then-eq
+returns-then-eq c = search beside_found
 
 pub loop-i-preserved : goal.loop-i-preserved
 loop-i-preserved c = search (rules, beside_more)

@@ -7,6 +7,3 @@ use Rattle.matches.proofs.rows.number_beside.Given as goal
 abbrev pub invariant-loop-i : goal.invariant-loop-i
 invariant-loop-i l =
     number_beside l.d (each (lost_at l.part) l.i (l.n - l.i)) ≡ number_beside l.d (each (lost_at l.part) 0 l.n)
-
-abbrev pub decreases-loop-i : goal.decreases-loop-i
-decreases-loop-i l = l.n - l.i

@@ -1,9 +1,15 @@
--- `onward::reply::send_on` meets its contract: it sends the RREP to its receiver.
-use Rattle.onward.proofs.Going.{reply_goes_counted, reply_goes_written}
+-- `onward::reply::send_on` meets its contract: it writes no frame or one, by the receiver.
+use Rattle.onward.proofs.Going.{reply_none, reply_unwritten, reply_counted, reply_written}
 use Rattle.onward.proofs.reply.send_on.Goals as goal
 
+pub returns-in_default-clause-value : goal.returns-in_default-clause-value
+returns-in_default-clause-value c = search reply_none
+
+pub returns-in_default-clause-output_after : goal.returns-in_default-clause-output_after
+returns-in_default-clause-output_after c = search reply_unwritten
+
 pub returns-clause-value : goal.returns-clause-value
-returns-clause-value c = search reply_goes_counted
+returns-clause-value c = search reply_counted
 
 pub returns-clause-output_after : goal.returns-clause-output_after
-returns-clause-output_after c = search reply_goes_written
+returns-clause-output_after c = search reply_written

@@ -1,13 +1,12 @@
 -- `probe::again::write_rrep` meets its contract: it writes the frame if it fits.
-use Rattle.std.proofs.Common.{rules}
-use Rattle.probe.proofs.Frames.{whole_room, no_room, wrote, rrep_size}
+use Rattle.std.proofs.lemmas.Result.{err_from_is_err_and}
+use Rattle.probe.proofs.Frames.{no_room, wrote, rrep_size}
 use Rattle.probe.proofs.again.write_rrep.Goals as goal
 
-pub returns-then-not-has_room : goal.returns-then-not-has_room
-returns-then-not-has_room c = search (no_room, rrep_size)
-
-pub write_rrep-requires : goal.write_rrep-requires
-write_rrep-requires c = search (rules, whole_room)
+pub returns-in_err-check_room : goal.returns-in_err-check_room
+returns-in_err-check_room c =
+    let p = err_from_is_err_and c.from_residual.result c.from_residual.ensures.1 in
+    rw (p.1, p.2) (search (no_room, rrep_size, c.in_err-check_room.was))
 
 pub returns : goal.returns
-returns c = search (wrote, rrep_size)
+returns c = search (wrote, rrep_size, c.in_ok-check_room.was)

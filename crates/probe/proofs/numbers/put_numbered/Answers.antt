@@ -1,11 +1,8 @@
 use Rattle.std.proofs.Common.{refl, rules}
 use Rattle.element.specs.Element.{numbered_numbers}
-use Rattle.writing.proofs.Written.{entries_start, entries_ended}
+use Rattle.writing.proofs.Written.{entries_ended}
 use Rattle.probe.proofs.Entries.{entry_more}
 use Rattle.probe.proofs.numbers.put_numbered.Goals as goal
-
-pub loop-i-init : goal.loop-i-init
-loop-i-init c = search (rules, entries_start)
 
 pub loop-i-preserved : goal.loop-i-preserved
 loop-i-preserved c = search (rules, entry_more numbered_numbers 2 (λ x. refl))

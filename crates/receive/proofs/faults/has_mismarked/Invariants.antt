@@ -8,6 +8,3 @@ use Rattle.receive.proofs.faults.has_mismarked.Given as goal
 abbrev pub invariant-loop-i : goal.invariant-loop-i
 invariant-loop-i l =
     any is_mismarked (each (target_at l.part) l.i (l.n - l.i)) ≡ any is_mismarked (each (target_at l.part) 0 l.n)
-
-abbrev pub decreases-loop-i : goal.decreases-loop-i
-decreases-loop-i l = l.n - l.i

@@ -1,6 +1,6 @@
 -- `table_calls::next_hop::next_hop` meets its contract: each return is a case of `next_hop`.
 use Rattle.calls.proofs.Checks.{passes_1}
-use Rattle.table_calls.proofs.Cases.{hop_1, hop_3, hop_9, hop_21, hop_22, hop_28, hop_via}
+use Rattle.table_calls.proofs.Cases.{hop_1, hop_3, hop_9, hop_21, hop_22, hop_found}
 use Rattle.table_calls.proofs.next_hop.next_hop.Goals as goal
 
 pub returns-then-not-is_sized : goal.returns-then-not-is_sized
@@ -27,8 +27,5 @@ returns-then-clock-read_head c = search hop_22
 pub active_next-requires : goal.active_next-requires
 active_next-requires c = search passes_1
 
-pub returns-in-To : goal.returns-in-To
-returns-in-To c = search hop_via
-
-pub returns-in-Nobody : goal.returns-in-Nobody
-returns-in-Nobody c = search hop_28
+pub returns : goal.returns
+returns c = search hop_found

@@ -2,8 +2,8 @@
 use Rattle.walk.proofs.Ways.{ended_there, ended_off, ended_on}
 use Rattle.walk.proofs.way.ended.Goals as goal
 
-pub returns-then-at-destination : goal.returns-then-at-destination
-returns-then-at-destination c = search ended_there
+pub returns-then-eq : goal.returns-then-eq
+returns-then-eq c = search ended_there
 
 pub returns-then-not-is_point : goal.returns-then-not-is_point
 returns-then-not-is_point c = search ended_off

@@ -1,22 +1,12 @@
-use Rattle.std.proofs.Common.{rules}
-use Rattle.walk.proofs.Tables.{piece_within, piece_sized}
-use Rattle.walk.proofs.Ways.{row_start, row_found, row_more, row_ended}
+-- `walk::way::next_from` meets its contract: the row is that of the first point with the address.
+use Rattle.walk.proofs.Ways.{row_absent, place_below, row_found}
 use Rattle.walk.proofs.way.next_from.Goals as goal
 
-pub loop-i-init : goal.loop-i-init
-loop-i-init c = search (rules, row_start)
+pub returns-in_err-i : goal.returns-in_err-i
+returns-in_err-i c = let absent = c.in_err-i.was in rw c.from_residual.ensures (search row_absent)
 
 pub table_at-requires : goal.table_at-requires
-table_at-requires c = search piece_within
-
-pub active_next-requires : goal.active_next-requires
-active_next-requires c = search piece_sized
-
-pub returns-then-point_at-at : goal.returns-then-point_at-at
-returns-then-point_at-at c = search row_found
-
-pub loop-i-preserved : goal.loop-i-preserved
-loop-i-preserved c = search (rules, row_more)
+table_at-requires c = let at_i = c.in_ok-i.was in search place_below
 
 pub returns : goal.returns
-returns c = search row_ended
+returns c = let at_i = c.in_ok-i.was in search row_found

@@ -1,5 +1,0 @@
--- `onward::reply::fields_onward` meets its contract, by the contracts of the functions that it calls.
-use Rattle.onward.proofs.reply.fields_onward.Goals as goal
-
-pub returns : goal.returns
-returns c = cc

@@ -1,0 +1,12 @@
+-- `walk::pieces::Pieces::has_duplicate` meets its contract: what is found at an index is found among the tables.
+use Rattle.std.proofs.Common.{rules, tests, arith}
+use Rattle.std.proofs.lemmas.Iterator.{YieldsList-from_range}
+use Rattle.std.proofs.lemmas.Iterator.Search.{any_from_yields_List}
+use Rattle.walk.proofs.Tables.{duplicate_found}
+use Rattle.walk.proofs.pieces.Pieces.has_duplicate.Goals as goal
+
+pub returns : goal.returns
+returns c =
+    let s = c.args.self.now in
+    duplicate_found s.octets.now s.long s.count s.divided s.passed _
+    (any_from_yields_List _ _ _ _ c.any.ensures.ran (YieldsList-from_range 0 s.count s.count (cc) (omega arith)) (λ x b q k. search (rules, tests)))
