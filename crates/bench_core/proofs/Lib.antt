@@ -1,4 +1,3 @@
-pub mod Starting
 mod Settling
-mod Calling
+mod Emitting
 mod Obeying

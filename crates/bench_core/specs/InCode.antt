@@ -1,45 +1,73 @@
--- Defines what the functions of the commands know about the memory, and what a call that may emit frames leaves in it.
-use Rattle.std.specs.Prelude.{ℕ, ◌+◌, ◌≤◌, ◌≡◌, cond, List, length}
-use Rattle.rules.specs.Decision.{◌above◌}
-use Rattle.calls.specs.declared.Outcome.{Outcome}
-use Rattle.calls.specs.declared.Outcome.TheVariants.{Accepted, Refused}
-use Rattle.bench_points.specs.declared.State.{State}
-use Rattle.bench_points.specs.declared.Done.{Done}
-use Rattle.bench_points.specs.declared.Done.TheVariants.{Line, Fault}
-use Rattle.bench_points.specs.InCode.{bench_of, printed}
-use Rattle.bench_slots.specs.Slots.{kept_slots, Holds}
+-- Defines the calls that the code makes for a point, and what such a call leaves in the bench.
+use Rattle.refusals.specs.Numbers.{number_of}
+use Rattle.calls.specs.declared.Emitted.{Emitted}
+use Rattle.std.specs.Prelude.{ℕ, ◌+◌, ◌<◌, cond, List, Result, Ok, Err}
+use Rattle.rules.specs.Calls.{Call as InRules, receives, makes, asks, announces, breaks}
+use Rattle.rules.specs.Decision.{◌above◌, Decision}
+use Rattle.rules.specs.Exit.{frames_in}
 use Rattle.bench_rules.specs.Bench.{Sound}
+use Rattle.bench_slots.specs.Slots.{element_of, put_frames, Holds}
+use Rattle.bench_points.specs.declared.Bench.{Bench}
+use Rattle.bench_points.specs.declared.Printed.{Printed}
+use Rattle.bench_points.specs.declared.Fault.{Fault}
+use Rattle.bench_points.specs.InCode.{bench_of}
+use Rattle.bench_core.specs.declared.interpreter.Line.{Line}
+use Rattle.bench_core.specs.declared.calling.Call.{Call}
+use Rattle.bench_core.specs.declared.calling.Call.TheVariants.{Ask, Announce, Receive, Break}
 
--- States what the functions of the code know about the memory and about the numbers in s.
-pub record Memory (s : State) (tables slots : List ℕ) : Type 0 where
-  pub tables_long : length tables ≡ 8704
-  pub slots_long : length slots ≡ 33792
-  pub frames_few : s.frames ≤ 128
-  pub sound : Sound (bench_of s tables slots)
+-- Returns what a line prints after its command.
+abbrev pub printed_of : Result Line Fault → Result Printed Fault
+printed_of (Err e) = Err e
+printed_of (Ok line) = Ok line.printed
 
--- States that `Memory` holds again after a line. After a fault the memory plays no part.
-abbrev pub Remains : Done → (tables slots : List ℕ) → Type 0
-Remains Fault tables slots = Unit {0}
-Remains (Line x) tables slots = Memory (record { points = x.points; frames = x.frames; clock = x.clock }) tables slots
+-- States that the bench is sound after a line. After a fault the bench plays no part.
+abbrev pub Remains : Result Printed Fault → Bench → Type 0
+Remains (Err e) b = Unit {0}
+Remains (Ok x) b = Sound (bench_of b)
 
 -- ---- a call that may emit frames
 
--- Returns the line after n frames were emitted, or a fault if there would then be more than 128 frames.
-abbrev pub kept_as : State → ℕ → Done
-kept_as s n =
-    cond ((s.frames + n) above 128) Fault
-    (printed (record { points = s.points; frames = s.frames + n; clock = s.clock }) 0 n)
+-- Returns the call of the rules. What a point receives is the element in slot k.
+abbrev pub call_of : (slots : List ℕ) → Call → InRules
+call_of slots (Ask lifetime item) = makes (asks lifetime item)
+call_of slots (Announce lifetime) = makes (announces 0 lifetime)
+call_of slots (Receive arrival k) = receives arrival (element_of slots k)
+call_of slots (Break clock neighbour) = makes (breaks clock neighbour)
 
--- `settled_as` returns the line or the fault after the call, and `settled_slots` the slots.
-abbrev pub settled_as : State → Outcome → Done
-settled_as s (Refused n) = printed s n 0
-settled_as s (Accepted e) = kept_as s e.frames
+-- States that a frame to be received has a slot.
+abbrev pub IsKept : Call → Type 0
+IsKept (Ask lifetime item) = Unit {0}
+IsKept (Announce lifetime) = Unit {0}
+IsKept (Receive arrival k) = k < 128
+IsKept (Break clock neighbour) = Unit {0}
 
-abbrev pub settled_slots : State → Outcome → (sender : ℕ) → (output slots : List ℕ) → List ℕ
-settled_slots s (Refused n) sender output slots = slots
-settled_slots s (Accepted e) sender output slots = kept_slots slots sender s.frames e.frames output
+-- `kept_as` returns the line after n frames were emitted, or a fault if there would then be more than 128 frames. `kept_bench`
+-- returns the bench.
+abbrev pub kept_as : Bench → (n : ℕ) → Result Printed Fault
+kept_as b n = cond ((b.frames + n) above 128) (Err (record {})) (Ok (record { answer = 0; third = n }))
+
+abbrev pub kept_bench : Bench → (sender n : ℕ) → (output : List ℕ) → Bench
+kept_bench b sender n output =
+    cond ((b.frames + n) above 128) b
+    (record {
+      points = b.points;
+      frames = b.frames + n;
+      clock = b.clock;
+      tables = b.tables;
+      slots = put_frames b.slots sender b.frames (frames_in n output);
+      links = b.links;
+    })
+
+-- `settled_as` returns the line or the fault after the call, and `settled_bench` the bench.
+abbrev pub settled_as : Bench → Decision Emitted → Result Printed Fault
+settled_as b (Err r) = Ok (record { answer = number_of r; third = 0 })
+settled_as b (Ok e) = kept_as b e.frames
+
+abbrev pub settled_bench : Bench → Decision Emitted → (sender : ℕ) → (output : List ℕ) → Bench
+settled_bench b (Err r) sender output = b
+settled_bench b (Ok e) sender output = kept_bench b sender e.frames output
 
 -- States that the frames of an acceptance are whole in the output.
-unfoldable pub HoldsFrames : Outcome → (output : List ℕ) → Type 0
-HoldsFrames (Refused n) output = Unit {0}
-HoldsFrames (Accepted e) output = Holds e.frames output
+unfoldable pub HoldsFrames : Decision Emitted → (output : List ℕ) → Type 0
+HoldsFrames (Err r) output = Unit {0}
+HoldsFrames (Ok e) output = Holds e.frames output

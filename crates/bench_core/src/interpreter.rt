@@ -1,73 +1,59 @@
 // Finds out which command comes first, and whether all its operands are there.
-ghost use Rattle.std.specs.Prelude.{◌≡◌, ◌<◌, ◌≤◌, length};
-ghost use Rattle.bench_points.specs.InCode.{bench_of, done_in};
-ghost use Rattle.bench_core.specs.InCode.{Memory, Remains};
+ghost use Rattle.std.specs.Prelude.{IfOk, ◌≡◌, ◌<◌, ◌≤◌, length};
+ghost use Rattle.octets.specs.LittleEndian.{number_at};
+ghost use Rattle.bench_commands.specs.Commands.{octet_of};
+ghost use Rattle.bench_rules.specs.Bench.{Sound};
 ghost use Rattle.bench_rules.specs.Interpreter.{command, length_of, obeyed};
+ghost use Rattle.bench_points.specs.InCode.{bench_of, came_in};
+ghost use Rattle.bench_core.specs.InCode.{Remains, printed_of};
 
 use crate::operands;
-use bench_points::{Done, State};
+use bench_commands::Command;
+use bench_points::{Bench, Fault, Printed};
 
-fn obey(
-    command: u8,
-    input: &[u8],
-    s: State,
-    tables: &mut [u8],
-    slots: &mut [u8],
-    links: &mut [[u32; 16]; 16],
-) -> Done
-    requires command_in_bounds { length_of command ≤ length input.now }
-    requires memory { Memory s tables.old slots.old }
-    ensures { record { done = done_in result tables.new slots.new; links = links.new }
-        ≡ obeyed (bench_of s tables.old slots.old) links.old input.now command }
-{
-    if command == 1 {
-        return operands::point(input, s, tables);
-    }
-    if command == 2 {
-        return operands::advance(input, s);
-    }
-    if command == 3 {
-        return operands::link(input, s, links);
-    }
-    if command == 4 {
-        return operands::ask(input, s, tables, slots);
-    }
-    if command == 5 {
-        return operands::announce(input, s, tables, slots);
-    }
-    if command == 6 {
-        return operands::deliver(input, s, tables, slots, links);
-    }
-    if command == 7 {
-        return operands::break_off(input, s, tables, slots);
-    }
-    if command == 8 {
-        return operands::walk(input, s, tables);
-    }
-    Done::Fault
+// The line of a command: the command, and what it prints after its number.
+#[derive(Clone, Copy, PartialEq, Eq, Debug)]
+pub struct Line {
+    pub command: Command,
+    pub printed: Printed,
 }
 
-// Obeys the command at the start of the input. An unknown command or a cut operand is a fault.
-pub fn obey_first(
-    input: &[u8],
-    s: State,
-    tables: &mut [u8],
-    slots: &mut [u8],
-    links: &mut [[u32; 16]; 16],
-) -> Done
-    requires input_nonzero { 0 < length input.now }
-    requires memory { Memory s tables.old slots.old }
-    ensures links_after { record { done = done_in result tables.new slots.new; links = links.new }
-        ≡ command (bench_of s tables.old slots.old) links.old input.now }
-    ensures remains { Remains result tables.new slots.new }
+// Obeys a command, with its operands in the input.
+#[tactic(auto, unfolding(bench_rules::specs::Interpreter::obeyed))]
+fn obey(command: Command, input: &[u8], bench: &mut Bench) -> Result<Printed, Fault>
+    requires in_bounds { length_of (octet_of command) ≤ length input.now }
+    requires sound { Sound (bench_of bench.old) }
+    ensures { came_in result bench.new
+        ≡ obeyed (bench_of bench.old) bench.old.links input.now (octet_of command) }
 {
-    let command = octets::octet(input, 0);
-    let length = bench_commands::length_of(command);
-    if length == 0 {
-        return Done::Fault;
+    match command {
+        Command::Point => operands::point(input, bench),
+        Command::Advance => operands::advance(input, bench),
+        Command::Link => operands::link(input, bench),
+        Command::Ask => operands::ask(input, bench),
+        Command::Announce => operands::announce(input, bench),
+        Command::Deliver => operands::deliver(input, bench),
+        Command::Break => operands::break_off(input, bench),
+        Command::Walk => operands::walk(input, bench),
     }
-    if input.len() < length {
-        return Done::Fault;
+}
+
+// Obeys the command at the start of the input, and returns its line. An unknown command or a cut operand is a fault.
+#[tactic(auto, unfolding(bench_rules::specs::Interpreter::command, octets::specs::LittleEndian::number_at))]
+pub fn obey_first(input: &[u8], bench: &mut Bench) -> Result<Line, Fault>
+    requires input_nonzero { 0 < length input.now }
+    requires sound { Sound (bench_of bench.old) }
+    ensures bench_after { came_in (printed_of result) bench.new
+        ≡ command (bench_of bench.old) bench.old.links input.now }
+    ensures command_is { IfOk result (λ line. octet_of line.command ≡ number_at 1 input.now 0) }
+    ensures remains { Remains (printed_of result) bench.new }
+{
+    let Ok(command) = Command::try_from(octets::octet(input, 0)) else {
+        return Err(Fault);
+    };
+    if input.len() < command.length() {
+        return Err(Fault);
     }
-    obey(command, input, s, tables, slots, links)
+    let printed = obey(command, input, bench)?;
+    Ok(Line { command, printed })
 }

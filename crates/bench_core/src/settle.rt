@@ -1,40 +1,47 @@
 // Keeps the frames that a call of a point has emitted.
-ghost use Rattle.std.specs.Prelude.{◌≡◌, ◌≤◌, length};
-ghost use Rattle.bench_slots.specs.Slots.{Holds, kept_slots};
-ghost use Rattle.bench_core.specs.InCode.{HoldsFrames, kept_as, settled_as, settled_slots};
+ghost use Rattle.std.specs.Prelude.{◌≡◌, ◌≤◌};
+ghost use Rattle.bench_slots.specs.Slots.{Holds};
+ghost use Rattle.bench_core.specs.InCode.{HoldsFrames, kept_as, kept_bench, settled_as, settled_bench};
 
-use bench_points::{Done, State};
-use calls::Outcome;
+use bench_points::{Bench, Fault, Printed};
+use calls::Emitted;
+use refusals::Refusal;
 
-// Keeps the n frames of an accepted call. A 129th frame is a fault.
-fn keep_emitted(s: State, sender: u8, n: u32, output: &[u8], slots: &mut [u8]) -> Done
-    requires slots_len { length slots.old ≡ 33792 }
-    requires frames_bound { s.frames ≤ 128 }
+// Keeps the n frames of an accepted call, and returns its line. A 129th frame is a fault.
+fn keep_emitted(bench: &mut Bench, sender: u8, n: u32, output: &[u8]) -> Result<Printed, Fault>
+    requires frames_bound { bench.old.frames ≤ 128 }
     requires holds { Holds n output.now }
-    ensures value { result ≡ kept_as s n }
-    ensures slots_after { slots.new ≡ kept_slots slots.old sender s.frames n output.now }
+    ensures value { result ≡ kept_as bench.old n }
+    ensures bench_after { bench.new ≡ kept_bench bench.old sender n output.now }
 {
-    let before = s.frames;
-    if !bench_slots::keep_emitted(slots, output, sender, before, n) {
-        return Done::Fault;
+    let before = bench.frames;
+    if !bench_slots::keep_emitted(&mut bench.slots, output, sender, before, n) {
+        return Err(Fault);
     }
-    let after = State {
-        points: s.points,
-        frames: before + n as usize,
-        clock: s.clock,
-    };
-    after.prints(0, n)
+    bench.frames = before + n as usize;
+    Ok(Printed {
+        answer: 0,
+        third: n,
+    })
 }
 
-pub fn settle(s: State, sender: u8, outcome: Outcome, output: &[u8], slots: &mut [u8]) -> Done
-    requires slots_len { length slots.old ≡ 33792 }
-    requires frames_bound { s.frames ≤ 128 }
+// Keeps the frames of an accepted call, and returns the line of the call. A 129th frame is a fault.
+pub fn settle(
+    bench: &mut Bench,
+    sender: u8,
+    outcome: Result<Emitted, Refusal>,
+    output: &[u8],
+) -> Result<Printed, Fault>
+    requires frames_bound { bench.old.frames ≤ 128 }
     requires holds_frames { HoldsFrames outcome output.now }
-    ensures value { result ≡ settled_as s outcome }
-    ensures slots_after { slots.new ≡ settled_slots s outcome sender output.now slots.old }
+    ensures value { result ≡ settled_as bench.old outcome }
+    ensures bench_after { bench.new ≡ settled_bench bench.old outcome sender output.now }
 {
     match outcome {
-        Outcome::Accepted(emitted) => keep_emitted(s, sender, emitted.frames, output, slots),
-        Outcome::Refused(n) => s.prints(n, 0),
+        Ok(emitted) => keep_emitted(bench, sender, emitted.frames, output),
+        Err(refusal) => Ok(Printed {
+            answer: u32::from(refusal),
+            third: 0,
+        }),
     }
 }

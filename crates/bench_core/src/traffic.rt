@@ -1,21 +1,15 @@
 // The commands that may emit frames: ask, announce, deliver and break.
-ghost use Rattle.std.specs.Prelude.{◌≡◌, ◌∷◌, ◌<◌, ◌^◌, length};
+ghost use Rattle.std.specs.Prelude.{◌≡◌, ◌∷◌, ◌<◌};
 ghost use Rattle.octets.specs.LittleEndian.{number_octets};
-ghost use Rattle.rules.specs.Calls.{receives};
-ghost use Rattle.bench_rules.specs.Bench.{called};
+ghost use Rattle.bench_rules.specs.Bench.{Sound};
 ghost use Rattle.bench_rules.specs.Commands.{announce_self, arrival_from, ask_for, break_off, deliver};
-ghost use Rattle.bench_slots.specs.Slots.{element_of};
-ghost use Rattle.bench_points.specs.InCode.{bench_of, done_in};
-ghost use Rattle.bench_core.specs.InCode.{Memory};
+ghost use Rattle.bench_rules.specs.Interpreter.{leaving_links};
+ghost use Rattle.bench_points.specs.InCode.{bench_of, came_in};
 
-use crate::settle;
-use bench_points::points::TABLE;
-use bench_points::{Done, State, points};
-use breaking::break_neighbour;
-use calls::LEAST_OUTPUT;
+use crate::calling::{self, Call};
+use bench_points::{Bench, Fault, Printed, points};
 use counters::Metric;
 use layout::address::Address;
-use originate::announce;
 use rules::Arrival;
 
 // Returns the item of an ask: flags and address.
@@ -28,123 +22,73 @@ fn item_of(flags: u8, destination: Address) -> [u8; 7]
     item
 }
 
+// Lets point p ask for one destination.
+#[tactic(auto, unfolding(bench_rules::specs::Commands::ask_for))]
 pub fn ask_for(
-    s: State,
+    bench: &mut Bench,
     p: u8,
     flags: u8,
     destination: Address,
     lifetime: u32,
-    tables: &mut [u8],
-    slots: &mut [u8],
-) -> Done
-    requires { Memory s tables.old slots.old }
-    ensures { done_in result tables.new slots.new
-        ≡ ask_for (bench_of s tables.old slots.old) p flags destination lifetime }
+) -> Result<Printed, Fault>
+    requires { Sound (bench_of bench.old) }
+    ensures { came_in result bench.new
+        ≡ leaving_links bench.old.links
+        (ask_for (bench_of bench.old) p flags destination lifetime) }
 {
-    if s.points <= p as usize {
-        return Done::Fault;
-    }
-    let at = TABLE * p as usize;
     let item = item_of(flags, destination);
-    let mut output = [0u8; LEAST_OUTPUT];
-    let outcome = ask::ask(&mut tables[at..at + TABLE], &mut output, lifetime, &item);
-    settle::settle(s, p, outcome, &output, slots)
+    calling::make_call(bench, p, Call::Ask(lifetime, item))
 }
 
-pub fn announce_self(s: State, p: u8, lifetime: u32, tables: &mut [u8], slots: &mut [u8]) -> Done
-    requires { Memory s tables.old slots.old }
-    ensures { done_in result tables.new slots.new
-        ≡ announce_self (bench_of s tables.old slots.old) p lifetime }
+// Lets point p announce itself, with flags 0.
+#[tactic(auto, unfolding(bench_rules::specs::Commands::announce_self))]
+pub fn announce_self(bench: &mut Bench, p: u8, lifetime: u32) -> Result<Printed, Fault>
+    requires { Sound (bench_of bench.old) }
+    ensures { came_in result bench.new
+        ≡ leaving_links bench.old.links (announce_self (bench_of bench.old) p lifetime) }
 {
-    if s.points <= p as usize {
-        return Done::Fault;
-    }
-    let at = TABLE * p as usize;
-    let mut output = [0u8; LEAST_OUTPUT];
-    let outcome = announce::announce(&mut tables[at..at + TABLE], &mut output, 0, lifetime);
-    settle::settle(s, p, outcome, &output, slots)
+    calling::make_call(bench, p, Call::Announce(lifetime))
 }
 
 // Returns how a frame arrives from its sender: over the link between the two points.
-fn arrival_from(tables: &[u8], links: &[[u32; 16]; 16], clock: u64, sender: u8, p: u8) -> Arrival
-    requires tables_len { length tables.now ≡ 8704 }
-    requires sender_bound { (sender < 16) × (p < 16) }
-    ensures { result ≡ arrival_from tables.now links.now clock sender p }
+fn arrival_from(bench: &Bench, sender: u8, p: usize) -> Arrival
+    requires { (sender < 16) × (p < 16) }
+    ensures { result ≡ arrival_from bench.now.tables bench.now.links bench.now.clock sender p }
 {
     Arrival {
-        clock,
-        transmitter: points::address_of(tables, sender as usize),
-        link: Metric(bench_links::metric_between(links, sender as usize, p as usize)),
+        clock: bench.clock,
+        transmitter: points::address_of(&bench.tables, sender as usize),
+        link: Metric(bench_links::metric_between(&bench.links, sender as usize, p)),
     }
-}
-
-// Lets point p receive the element of frame k.
-fn hand_over(
-    s: State,
-    k: usize,
-    p: u8,
-    arrival: Arrival,
-    tables: &mut [u8],
-    slots: &mut [u8],
-) -> Done
-    requires memory { Memory s tables.old slots.old }
-    requires k_lt_frames { (k < s.frames) × (p < s.points) × (arrival.transmitter.0 < 256 ^ 6) }
-    ensures { done_in result tables.new slots.new
-        ≡ called (bench_of s tables.old slots.old) p
-        (receives arrival (element_of slots.old k)) }
-{
-    let at = TABLE * p as usize;
-    let mut output = [0u8; LEAST_OUTPUT];
-    let part = &mut tables[at..at + TABLE];
-    let outcome = receive::receive(
-        part,
-        &mut output,
-        arrival,
-        bench_slots::element_of(slots, k),
-    );
-    settle::settle(s, p, outcome, &output, slots)
 }
 
 // Delivers frame k from its sender to point p, whatever the receiver address of the frame is.
-pub fn deliver_frame(
-    s: State,
-    k: u16,
-    p: u8,
-    tables: &mut [u8],
-    slots: &mut [u8],
-    links: &[[u32; 16]; 16],
-) -> Done
-    requires { Memory s tables.old slots.old }
-    ensures { done_in result tables.new slots.new
-        ≡ deliver (bench_of s tables.old slots.old) links.now k p }
+#[tactic(auto, unfolding(bench_rules::specs::Commands::deliver, bench_rules::specs::Bench::called))]
+pub fn deliver_frame(bench: &mut Bench, k: u16, p: u8) -> Result<Printed, Fault>
+    requires { Sound (bench_of bench.old) }
+    ensures { came_in result bench.new
+        ≡ leaving_links bench.old.links
+        (deliver (bench_of bench.old) bench.old.links k p) }
 {
-    if s.frames <= k as usize {
-        return Done::Fault;
+    let k = k as usize;
+    if bench.frames <= k {
+        return Err(Fault);
     }
-    if s.points <= p as usize {
-        return Done::Fault;
-    }
-    let sender = bench_slots::sender_of(slots, k as usize);
-    let arrival = arrival_from(tables, links, s.clock, sender, p);
-    hand_over(s, k as usize, p, arrival, tables, slots)
+    let receiver = bench.point(p)?;
+    let sender = bench_slots::sender_of(&bench.slots, k);
+    let arrival = arrival_from(bench, sender, receiver);
+    calling::make_call(bench, p, Call::Receive(arrival, k))
 }
 
 // Lets point p report point q as a broken neighbour. If q is p itself, the call is refused.
-pub fn break_off(s: State, p: u8, q: u8, tables: &mut [u8], slots: &mut [u8]) -> Done
-    requires { Memory s tables.old slots.old }
-    ensures { done_in result tables.new slots.new
-        ≡ break_off (bench_of s tables.old slots.old) p q }
+#[tactic(auto, unfolding(bench_rules::specs::Commands::break_off))]
+pub fn break_off(bench: &mut Bench, p: u8, q: u8) -> Result<Printed, Fault>
+    requires { Sound (bench_of bench.old) }
+    ensures { came_in result bench.new
+        ≡ leaving_links bench.old.links (break_off (bench_of bench.old) p q) }
 {
-    if s.points <= p as usize {
-        return Done::Fault;
-    }
-    if s.points <= q as usize {
-        return Done::Fault;
-    }
-    let neighbour = points::address_of(tables, q as usize);
-    let at = TABLE * p as usize;
-    let mut output = [0u8; LEAST_OUTPUT];
-    let part = &mut tables[at..at + TABLE];
-    let outcome = break_neighbour::break_neighbour(part, &mut output, s.clock, neighbour);
-    settle::settle(s, p, outcome, &output, slots)
+    let q = bench.point(q)?;
+    let neighbour = points::address_of(&bench.tables, q);
+    let clock = bench.clock;
+    calling::make_call(bench, p, Call::Break(clock, neighbour))
 }

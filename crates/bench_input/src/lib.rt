@@ -8,7 +8,8 @@ ghost use Rattle.bench_input.specs.Reading.{Extends, Keeps, Unread, left, past};
 use std::io::Read;
 
 // The unread octets are the octets of the buffer that are not obeyed yet: those from place `from` on and before place `filled`.
-// `last` says whether standard input has ended. `offset` is the offset of the first unread octet in the input.
+// `last` says whether standard input has ended. `offset` is the offset of the first unread octet in the input. The cursor has
+// places and no slice, because the buffer is written again while the cursor stays.
 #[derive(Clone, Copy)]
 pub struct Cursor {
     pub from: usize,
@@ -35,13 +36,8 @@ fn move_to_start(buffer: &mut [u8], from: usize, filled: usize) -> usize
     ensures value { result ≡ filled - from }
     ensures buffer_after { take result buffer.new ≡ take result (drop from buffer.old) }
 {
-    let n = filled - from;
-    let mut i = 0;
-    while i < n {
-        buffer[i] = buffer[from + i];
-        i += 1;
-    }
-    n
+    buffer.copy_within(from..filled, 0);
+    filled - from
 }
 
 // Reads once into the buffer from place `at` on, and returns how many octets came: 0 at the end of the input or if the read
@@ -51,11 +47,7 @@ fn read_from<R: Read>(input: &mut R, buffer: &mut [u8], at: usize) -> usize
     ensures result_in_bounds { at + result ≤ length buffer.new }
     ensures keeps { Keeps at buffer.old buffer.new }
 {
-    let part = &mut buffer[at..];
-    match input.read(part) {
-        Ok(got) => got,
-        Err(_) => 0,
-    }
+    input.read(&mut buffer[at..]).unwrap_or(0)
 }
 
 // Moves the unread octets to the start of the buffer, and reads more octets after them. The input has ended if none come.

@@ -4,15 +4,18 @@
 ghost use Rattle.std.specs.Prelude.{◌≡◌, ◌<◌};
 ghost use Rattle.bench_links.specs.Links.{linked, metric_of, no_links};
 
+// The link metric from each of 16 points to each. 0 is no link.
+pub type Metrics = [[u32; 16]; 16];
+
 // Returns link metrics without any link.
-pub fn none() -> [[u32; 16]; 16]
+pub fn none() -> Metrics
     ensures { result ≡ no_links }
 {
     [[0u32; 16]; 16]
 }
 
 // Sets the link metric of points p and q both ways, because a frame can pass over a link in either direction.
-pub fn set_both_ways(links: &mut [[u32; 16]; 16], p: usize, q: usize, metric: u32)
+pub fn set_both_ways(links: &mut Metrics, p: usize, q: usize, metric: u32)
     requires { (p < 16) × (q < 16) }
     ensures { links.new ≡ linked links.old p q metric }
 {
@@ -21,7 +24,7 @@ pub fn set_both_ways(links: &mut [[u32; 16]; 16], p: usize, q: usize, metric: u3
 }
 
 // Returns the link metric from point p to point q. 0 is no link.
-pub fn metric_between(links: &[[u32; 16]; 16], p: usize, q: usize) -> u32
+pub fn metric_between(links: &Metrics, p: usize, q: usize) -> u32
     requires { (p < 16) × (q < 16) }
     ensures { result ≡ metric_of links.now p q }
 {

@@ -1,2 +1,2 @@
 pub mod Lending
-mod Silent
+mod Adding

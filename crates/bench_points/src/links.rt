@@ -1,20 +1,21 @@
 // The command that sets the link metric of two points.
-ghost use Rattle.std.specs.Prelude.{◌≤◌};
-ghost use Rattle.bench_points.specs.InCode.{Links};
+ghost use Rattle.std.specs.Prelude.{◌≡◌, ◌≤◌};
+ghost use Rattle.bench_rules.specs.Commands.{link};
+ghost use Rattle.bench_points.specs.InCode.{bench_of, came_in};
 
-use crate::{Done, State};
+use crate::{Bench, Fault, Printed};
 
 // Sets the link metric of points p and q. It is a fault if p or q is no point.
-pub fn link_points(s: State, p: u8, q: u8, metric: u32, links: &mut [[u32; 16]; 16]) -> Done
-    requires { s.points ≤ 16 }
-    ensures { Links result s p q metric links.old links.new }
+#[tactic(auto, unfolding(bench_rules::specs::Commands::link))]
+pub fn link_points(bench: &mut Bench, p: u8, q: u8, metric: u32) -> Result<Printed, Fault>
+    requires { bench.old.points ≤ 16 }
+    ensures { came_in result bench.new ≡ link (bench_of bench.old) bench.old.links p q metric }
 {
-    if s.points <= p as usize {
-        return Done::Fault;
-    }
-    if s.points <= q as usize {
-        return Done::Fault;
-    }
-    bench_links::set_both_ways(links, p as usize, q as usize, metric);
-    s.prints(0, 0)
+    let p = bench.point(p)?;
+    let q = bench.point(q)?;
+    bench_links::set_both_ways(&mut bench.links, p, q, metric);
+    Ok(Printed {
+        answer: 0,
+        third: 0,
+    })
 }

@@ -3,92 +3,97 @@ ghost use Rattle.std.specs.Prelude.{◌≡◌, ◌<◌, ◌≤◌, length};
 ghost use Rattle.layout.specs.Row.{max_clock};
 ghost use Rattle.layout.specs.Address.{address_of};
 ghost use Rattle.rules.specs.Walk.{table_at};
-ghost use Rattle.bench_points.specs.InCode.{Adds, Advances, Walks};
+ghost use Rattle.bench_rules.specs.Commands.{add_point, advance, walk_to};
+ghost use Rattle.bench_rules.specs.Interpreter.{leaving_links};
+ghost use Rattle.bench_points.specs.InCode.{bench_of, came_in, done_in};
 
-use crate::{Done, State};
+use crate::{Bench, Fault, Printed};
 use counters::SequenceNumber;
 use layout::address::Address;
 use layout::row;
 use table_calls::fresh;
-use walk::pieces;
+use walk::{Walked, pieces};
 
 pub const MOST_POINTS: usize = 16;
 
 // Octets of a table with 16 rows.
 pub const TABLE: usize = 544;
 
+// Octets of the tables of all points.
+pub const TABLES: usize = MOST_POINTS * TABLE;
+
 // Returns the address of point p.
-pub fn address_of(tables: &[u8], p: usize) -> Address
-    requires tables_len { length tables.now ≡ 8704 }
-    requires p_bound { p < 16 }
+pub fn address_of(tables: &[u8; TABLES], p: usize) -> Address
+    requires { p < 16 }
     ensures { result ≡ address_of (table_at tables.now 544 p) }
 {
-    pieces::point_at(tables, TABLE, MOST_POINTS, p)
+    pieces::point_at(tables, TABLE, p)
 }
 
 // Adds a point with a fresh table. A refused point is not added, and a 17th point is a fault.
-pub fn add_point(s: State, own: Address, number: SequenceNumber, tables: &mut [u8]) -> Done
-    requires { length tables.old ≡ 8704 }
-    ensures { Adds result s own number tables.old tables.new }
+#[tactic(auto, unfolding(bench_rules::specs::Commands::add_point))]
+pub fn add_point(bench: &mut Bench, own: Address, number: SequenceNumber) -> Result<Printed, Fault>
+    ensures { came_in result bench.new
+        ≡ leaving_links bench.old.links (add_point (bench_of bench.old) own number) }
 {
-    let p = s.points;
+    let p = bench.points;
     if MOST_POINTS <= p {
-        return Done::Fault;
+        return Err(Fault);
     }
     let at = TABLE * p;
-    let part = &mut tables[at..at + TABLE];
-    let answer = calls::number_of(fresh::make_fresh(part, own, number));
-    if 0 < answer {
-        return s.prints(answer, 0);
+    let part = &mut bench.tables[at..at + TABLE];
+    if let Err(refusal) = fresh::make_fresh(part, own, number) {
+        return Ok(Printed {
+            answer: u32::from(refusal),
+            third: 0,
+        });
     }
-    let after = State {
-        points: p + 1,
-        frames: s.frames,
-        clock: s.clock,
-    };
-    after.prints(0, 0)
+    bench.points = p + 1;
+    Ok(Printed {
+        answer: 0,
+        third: 0,
+    })
 }
 
 // Advances the clock. A clock above 2^48 - 1 is a fault.
-pub fn advance_clock(s: State, by: u32) -> Done
-    requires { s.clock ≤ max_clock }
-    ensures { Advances result s by }
+#[tactic(auto, unfolding(bench_rules::specs::Commands::advance))]
+pub fn advance_clock(bench: &mut Bench, by: u32) -> Result<Printed, Fault>
+    requires { bench.old.clock ≤ max_clock }
+    ensures { came_in result bench.new
+        ≡ leaving_links bench.old.links (advance (bench_of bench.old) by) }
 {
-    let clock = s.clock + by as u64;
+    let clock = bench.clock + by as u64;
     if row::MAX_CLOCK < clock {
-        return Done::Fault;
+        return Err(Fault);
     }
-    let after = State {
-        points: s.points,
-        frames: s.frames,
-        clock,
-    };
-    after.prints(0, 0)
+    bench.clock = clock;
+    Ok(Printed {
+        answer: 0,
+        third: 0,
+    })
 }
 
 // Walks from point p to point q over the tables of all points. It is a fault if p or q is no point.
-pub fn walk_to(s: State, p: u8, q: u8, tables: &[u8]) -> Done
-    requires tables_len { length tables.now ≡ 8704 }
-    requires points_bound { s.points ≤ 16 }
-    ensures { Walks result s p q tables.now }
+#[tactic(auto, unfolding(bench_rules::specs::Commands::walk_to))]
+pub fn walk_to(bench: &Bench, p: u8, q: u8) -> Result<Printed, Fault>
+    requires { bench.now.points ≤ 16 }
+    ensures { done_in result bench.now ≡ walk_to (bench_of bench.now) p q }
 {
-    let points = s.points;
-    if points <= p as usize {
-        return Done::Fault;
-    }
-    if points <= q as usize {
-        return Done::Fault;
-    }
-    let start = address_of(tables, p as usize);
-    let destination = address_of(tables, q as usize);
-    let octets = TABLE * points;
+    let p = bench.point(p)?;
+    let q = bench.point(q)?;
+    let start = address_of(&bench.tables, p);
+    let destination = address_of(&bench.tables, q);
+    let octets = TABLE * bench.points;
     let ending = walk::walk(
-        &tables[..octets],
-        points as u32,
-        s.clock,
+        &bench.tables[..octets],
+        bench.points as u32,
+        bench.clock,
         start,
         destination,
     );
-    let walked = walk::in_numbers(ending);
-    s.prints(walked.answer, walked.hops)
+    let walked = Walked::from(ending);
+    Ok(Printed {
+        answer: walked.answer,
+        third: walked.hops,
+    })
 }

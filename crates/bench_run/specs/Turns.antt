@@ -1,11 +1,11 @@
 -- Defines the turns of the bench. Each turn reads and obeys a block. Only contracts of the code use the definitions of this file.
-use Rattle.std.specs.Prelude.{ℕ, ◌+◌, ◌≡◌, Bool, true, false, ◌&&◌, List, [], ◌++◌, eqb, length}
+use Rattle.std.specs.Prelude.{ℕ, ◌+◌, ◌≡◌, Bool, true, ◌&&◌, List, [], ◌++◌, eqb, length, Option, Some, None, is_none, IfSome}
+use Rattle.bench_rules.specs.Bench.{Sound}
 use Rattle.bench_rules.specs.Run.{Standing, at_start, Course, going, ended, obey_until, obey_all}
-use Rattle.bench_points.specs.declared.State.{State}
-use Rattle.bench_core.specs.InCode.{Memory}
 use Rattle.bench_input.specs.declared.Cursor.{Cursor}
-use Rattle.bench_run.specs.declared.turn.Turn.{Turn}
 use Rattle.bench_input.specs.Reading.{left, past, Unread, Extends}
+use Rattle.bench_points.specs.declared.Bench.{Bench}
+use Rattle.bench_points.specs.InCode.{bench_of}
 use Rattle.bench_run.specs.Blocks.{standing, pauses_in}
 
 -- States that some input has led the bench to x, with the octets `left` still to be obeyed. Whatever octets come in later, to
@@ -20,35 +20,38 @@ abbrev pub is_over : (last : Bool) → (end : ℕ) → Course → Bool
 is_over last end (ended text) = true
 is_over last end (going text x) = last && eqb x.offset end
 
--- Returns the course of a turn that obeys the octets of `block` from x, with `room` octets for its text.
-abbrev pub block_course : (last : Bool) → (room : ℕ) → Standing → (block : List ℕ) → Course
-block_course last room x block = obey_until (pauses_in last room) (length block) (going [] x) block
+-- Returns the course of a turn that obeys the octets of `block` from x.
+abbrev pub block_course : (last : Bool) → Standing → (block : List ℕ) → Course
+block_course last x block = obey_until (pauses_in last) (length block) (going [] x) block
 
 -- States what a turn finds.
-pub record Ready (c : Cursor) (s : State) (buffer tables slots : List ℕ) (links : List (List ℕ)) : Type 0 where
-  pub memory : Memory s tables slots
+pub record Ready (c : Cursor) (buffer : List ℕ) (b : Bench) : Type 0 where
+  pub sound : Sound (bench_of b)
   pub unread : Unread c buffer
-  pub reached : Reached (standing s c.offset tables slots links) (left c buffer)
+  pub reached : Reached (standing b c.offset) (left c buffer)
 
 -- States what a turn leaves, unless the bench has ended.
-pub record GoesOn (t : Turn) (buffer tables slots : List ℕ) (links : List (List ℕ)) : Type 0 where
-  pub ready : t.ended ≡ false → Ready t.cursor t.state buffer tables slots links
+abbrev pub GoesOn : (after : Option Cursor) → (buffer : List ℕ) → Bench → Type 0
+GoesOn None buffer b = Unit {0}
+GoesOn (Some after) buffer b = Ready after buffer b
+
+-- States that a turn obeyed the octets of c in the buffer from x, and that the bench then stands where these octets bring it,
+-- with the cursor after the octets that were obeyed.
+pub record Comes (after : Cursor) (x : Standing) (c : Cursor) (buffer : List ℕ) (b : Bench) : Type 0 where
+  pub used : ℕ
+  pub cursor : after ≡ past c used
+  pub text : List ℕ
+  pub course : block_course c.last x (left c buffer) ≡ going text (standing b after.offset)
 
 -- States what a turn leaves that obeyed the octets of c in the buffer from x. The bench has ended exactly if the octets bring it
--- to its end. Otherwise it stands where the octets bring it, with the cursor after the octets that were obeyed.
-pub record Turned (t : Turn) (room : ℕ) (x : Standing) (c : Cursor) (buffer tables slots : List ℕ) (links : List (List ℕ))
-    : Type 0 where
-  pub ended : t.ended ≡ is_over c.last (x.offset + length (left c buffer)) (block_course c.last room x (left c buffer))
-  pub used : ℕ
-  pub cursor : t.cursor ≡ past c used
-  pub text : List ℕ
-  pub course : t.ended ≡ false
-      → block_course c.last room x (left c buffer) ≡ going text (standing t.state t.cursor.offset tables slots links)
+-- to its end.
+pub record Turned (after : Option Cursor) (x : Standing) (c : Cursor) (buffer : List ℕ) (b : Bench) : Type 0 where
+  pub ended : is_none after ≡ is_over c.last (x.offset + length (left c buffer)) (block_course c.last x (left c buffer))
+  pub comes : IfSome after (λ (k : Cursor). Comes k x c buffer b)
 
 -- States what a turn leaves that may first have read more octets after `left₀`.
-pub record ReadAndTurned (t : Turn) (room : ℕ) (x : Standing) (left₀ buffer tables slots : List ℕ) (links : List (List ℕ))
-    : Type 0 where
+pub record ReadAndTurned (after : Option Cursor) (x : Standing) (left₀ buffer : List ℕ) (b : Bench) : Type 0 where
   pub unread : Cursor
   pub offset : unread.offset ≡ x.offset
   pub extends : Extends left₀ (left unread buffer)
-  pub turned : Turned t room x unread buffer tables slots links
+  pub turned : Turned after x unread buffer b

@@ -1,9 +1,9 @@
 -- Frames that are put into slots are kept there, after the frames kept before.
+use Rattle.std.specs.Prelude.{None, Some, slice_get}
 use Prim.Native.Nat.{ℕ, zero, suc, ◌+◌, ◌*◌, ◌<◌, ◌≤◌}
 use mathlib.Core.Path.{◌≡◌, refl, sym, ap, ap₂, subst, ◌∙◌}
 use mathlib.Core.List.{List, [], ◌∷◌, ◌++◌, append-nil, append_assoc, map, flat_map}
-use mathlib.Core.Option.{none, some}
-use lib.ListN.{length, get_or, take, drop, get_elem?, length-append, length-map, length-take, length-drop, get_or-append}
+use lib.ListN.{length, get_or, take, drop, length-append, length-map, length-take, length-drop, get_or-append}
 use lib.Seq.{length-take-le, take_at, drop_at, get_or_at, get_or-append-add, drop-append-add, drop-append-le, get_or-take, take-take, take-add, length-sets, sets-eq}
 use native.Mathlib.Omega.{arith}
 use native.Mathlib.Nat.{add-zero, zero-add}
@@ -35,22 +35,22 @@ module _ {A : Type 0} (f : ℕ → A) where
   each_alike g i zero h = refl
   each_alike g i (suc n) h = ap₂ ◌∷◌ (h i (omega arith)) (each_alike g (suc i) n (λ k l. h k (omega arith)))
 
-  each_found : (i n k : ℕ) → k < n → get_elem? (each f i n) k ≡ some (f (i + k))
+  each_found : (i n k : ℕ) → k < n → slice_get (each f i n) k ≡ Some (f (i + k))
   unfolding each
   each_found i zero k l = absurd (omega arith)
-  each_found i (suc n) zero l = ap (λ (m : ℕ). some (f m)) (sym (add-zero i))
+  each_found i (suc n) zero l = ap (λ (m : ℕ). Some (f m)) (sym (add-zero i))
   each_found i (suc n) (suc k) l =
       let place : suc i + k ≡ i + suc k = omega arith in
-      each_found (suc i) n k (omega arith) ∙ ap (λ (m : ℕ). some (f m)) place
+      each_found (suc i) n k (omega arith) ∙ ap (λ (m : ℕ). Some (f m)) place
 
-  pub each_beyond : (i n k : ℕ) → n ≤ k → get_elem? (each f i n) k ≡ none
+  pub each_beyond : (i n k : ℕ) → n ≤ k → slice_get (each f i n) k ≡ None
   unfolding each
   each_beyond i zero k l = refl
   each_beyond i (suc n) zero l = absurd (omega arith)
   each_beyond i (suc n) (suc k) l = each_beyond (suc i) n k (omega arith)
 
-pub frame_found : (slots : List ℕ) (n k : ℕ) → k < n → get_elem? (kept_in slots n) k ≡ some (kept_at slots k)
-frame_found slots n k l = each_found (kept_at slots) 0 n k l ∙ ap (λ (m : ℕ). some (kept_at slots m)) (zero-add k)
+pub frame_found : (slots : List ℕ) (n k : ℕ) → k < n → slice_get (kept_in slots n) k ≡ Some (kept_at slots k)
+frame_found slots n k l = each_found (kept_at slots) 0 n k l ∙ ap (λ (m : ℕ). Some (kept_at slots m)) (zero-add k)
 
 -- ---- what lies within the first n octets depends on these alone
 

@@ -1,21 +1,13 @@
 -- Laws of frames in an output and in the slots.
 use Prim.Native.Nat.{ℕ, suc, ◌+◌, ◌-◌, ◌*◌, ◌<◌, ◌≤◌}
 use mathlib.Core.Path.{◌≡◌, sym, ap, subst, ◌∙◌}
-use mathlib.Core.Bool.{true, false, not}
 use mathlib.Core.List.{List, ◌∷◌}
-use lib.Dec.{ltb}
-use lib.ListN.{length, get_or, set, take, drop, length-set, length-drop}
-use lib.Seq.{length-take-le, get_or-drop, drop-drop}
+use lib.ListN.{length, get_or, set, take, drop, length-drop}
+use lib.Seq.{get_or-drop, drop-drop}
 use native.Mathlib.Omega.{arith}
-use native.Mathlib.Nat.{sub-zero, add-zero}
-use borrow.Author.Tests.{lt-ltb, le-ltb}
 use Rattle.octets.specs.LittleEndian.{overwrite}
 use Rattle.rules.specs.Exit.{frames_in}
-use Rattle.bench_slots.specs.Slots.{sender_of, element_of, put_frames, Holds, kept_slots}
-
--- The first n entries of a list are n entries.
-pub front_long : (s : List ℕ) (n : ℕ) → n ≤ length s → n ≡ length (take n s)
-front_long s n l = sym (length-take-le n s l)
+use Rattle.bench_slots.specs.Slots.{sender_of, element_of, put_frames, Holds}
 
 -- ---- slots
 
@@ -35,13 +27,6 @@ module _ (s : List ℕ) (k : ℕ) where
   unfolding overwrite
   frame_kept x frame u v ue ve = let n : suc (264 * k) ≡ 264 * k + 1 = omega arith in rw (ve, ue, n)
 
-  module _ (long : length s ≡ 33792) (l : k < 128) (at x : ℕ) (ae : at ≡ 264 * k) where
-    pub room_behind : (frame : List ℕ) → length frame ≤ 263 → at + 1 + length frame ≤ length (set s at x)
-    room_behind frame few = omega (arith, length-set s at x)
-
-    pub length_behind : (t : List ℕ) → length t ≡ length (set s at x) → length t ≡ length s
-    length_behind t e = e ∙ length-set s at x
-
 -- ---- all frames of a call, kept one after another
 
 -- g is the slots at the end.
@@ -50,12 +35,6 @@ module _ (output : List ℕ) (sender first n : ℕ) where
   -- Returns the frames from frame i on. They begin at place `at` of the output.
   abbrev left : ℕ → ℕ → List (List ℕ)
   left i at = frames_in (n - i) (drop at output)
-
-  pub keep_start : (slots : List ℕ) → put_frames slots sender (first + 0) (left 0 0) ≡ put_frames slots sender first (frames_in n output)
-  keep_start slots = rw (add-zero first, sub-zero n)
-
-  pub holds_start : Holds n output → Holds (n - 0) (drop 0 output)
-  holds_start h = rw (sub-zero n) h
 
   module _ (i at : ℕ) (h : Holds (n - i) (drop at output)) where
     module _ (l : i < n) where
@@ -94,24 +73,3 @@ module _ (output : List ℕ) (sender first n : ℕ) where
   keep_ended slots g i at so_far l =
       let none : n - i ≡ 0 = omega arith in
       ap (λ (m : ℕ). put_frames slots sender (first + i) (frames_in m (drop at output))) (sym none) ∙ so_far
-
--- ---- unless there would be a 129th frame
-
-module _ (slots : List ℕ) (sender before n : ℕ) (output : List ℕ) where
-  -- The frames are more than `most`, and `most` is at least 128.
-  module _ (most : ℕ) (l : most < before + n) (h : 128 ≤ most) where
-    more : ltb 128 (before + n) ≡ true
-    more = lt-ltb 128 (before + n) (omega arith)
-
-    pub too_many_told : false ≡ not (ltb 128 (before + n))
-    too_many_told = rw more
-
-    pub too_many_kept : slots ≡ kept_slots slots sender before n output
-    too_many_kept = rw more
-
-  module _ (l : before + n ≤ 128) where
-    pub few_told : true ≡ not (ltb 128 (before + n))
-    few_told = rw (le-ltb 128 (before + n) l)
-
-    pub few_kept : (slots' : List ℕ) → slots' ≡ put_frames slots sender before (frames_in n output) → slots' ≡ kept_slots slots sender before n output
-    few_kept slots' se = rw (le-ltb 128 (before + n) l) se

@@ -5,7 +5,7 @@
 
 ghost use Rattle.std.specs.Prelude.{◌≡◌, ◌<◌, length};
 
-use calls::{LEAST_OUTPUT, Outcome};
+use calls::LEAST_OUTPUT;
 use counters::{Metric, SequenceNumber};
 use layout::address::Address;
 use layout::{address, row};
@@ -38,8 +38,8 @@ fn hear(rt: &impl Print, table: &mut [u8], originator: u8, transmitter: u8) -> i
         link: Metric(10),
     };
     match receive::receive(table, &mut output, arrival, &announcement(originator)) {
-        Outcome::Accepted(_) => print_answer(rt, "receive", 0),
-        Outcome::Refused(n) => print_answer(rt, "receive", n),
+        Ok(_) => print_answer(rt, "receive", 0),
+        Err(refusal) => print_answer(rt, "receive", u32::from(refusal)),
     }
 }
 
@@ -64,10 +64,9 @@ fn print_rows(rt: &impl Print, table: &[u8]) -> io::Result<()>
     requires { length table.now ≡ 160 }
 {
     print!(rt; "rows")?;
-    print_row(rt, table, 0)?;
-    print_row(rt, table, 1)?;
-    print_row(rt, table, 2)?;
-    print_row(rt, table, 3)?;
+    for i in 0..4 {
+        print_row(rt, table, i)?;
+    }
     println!(rt; "")
 }
 

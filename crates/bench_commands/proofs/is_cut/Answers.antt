@@ -1,9 +1,12 @@
--- `bench_commands::is_cut` meets its contract: there is no octet, or the length decides.
-use Rattle.bench_commands.proofs.CommandOctets.{cut_nothing, cut_short}
+-- `bench_commands::is_cut` meets its contract: there is no octet, the length of a command decides, or the command is unknown.
+use Rattle.bench_commands.proofs.CommandOctets.{cut_nothing, known_cut, unknown_whole}
 use Rattle.bench_commands.proofs.is_cut.Goals as goal
 
 pub returns-then-input-eq0 : goal.returns-then-input-eq0
 returns-then-input-eq0 c = search cut_nothing
 
-pub returns : goal.returns
-returns c = search cut_short
+pub returns-in-Ok : goal.returns-in-Ok
+returns-in-Ok c = search known_cut
+
+pub returns-in-Err : goal.returns-in-Err
+returns-in-Err c = search unknown_whole

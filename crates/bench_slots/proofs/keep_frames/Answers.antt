@@ -1,9 +1,6 @@
 use Rattle.std.proofs.Common.{rules}
-use Rattle.bench_slots.proofs.Slots.{keep_start, holds_start, next_begins, next_ends, next_holds, keep_more, keep_ended}
+use Rattle.bench_slots.proofs.Slots.{next_begins, next_ends, next_holds, keep_more, keep_ended}
 use Rattle.bench_slots.proofs.keep_frames.Goals as goal
-
-pub loop-i-init : goal.loop-i-init
-loop-i-init c = (search (rules, keep_start), search holds_start, search rules, search rules)
 
 pub frame_length-requires : goal.frame_length-requires
 frame_length-requires c = search next_begins

@@ -9,6 +9,3 @@ invariant-loop-i l =
     (put_frames l.slots l.sender (l.first + l.i) (frames_in (l.n - l.i) (drop l.at l.output))
     ≡ put_frames l.initial.slots l.sender l.first (frames_in l.n l.output))
     × Holds (l.n - l.i) (drop l.at l.output) × (l.at ≤ length l.output) × (length l.slots ≡ length l.initial.slots)
-
-abbrev pub decreases-loop-i : goal.decreases-loop-i
-decreases-loop-i l = l.n - l.i

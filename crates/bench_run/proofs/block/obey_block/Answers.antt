@@ -1,10 +1,6 @@
-use Rattle.std.proofs.Common.{rules}
 use Rattle.bench_run.proofs.Stepping.{to_the_end}
-use Rattle.bench_run.proofs.Looping.{none_obeyed, first_stands, going_memory, cut_pauses, room_pauses, one_obeyed, block_over}
+use Rattle.bench_run.proofs.Looping.{cut_pauses, room_pauses, one_obeyed, fault_ends, block_over}
 use Rattle.bench_run.proofs.block.obey_block.Goals as goal
-
-pub loop-p-init : goal.loop-p-init
-loop-p-init c = (search none_obeyed, search first_stands, search rules, search rules, search rules)
 
 pub returns-then-last-is_cut-clause-text_after : goal.returns-then-last-is_cut-clause-text_after
 returns-then-last-is_cut-clause-text_after c = search (cut_pauses, to_the_end)
@@ -12,14 +8,12 @@ returns-then-last-is_cut-clause-text_after c = search (cut_pauses, to_the_end)
 pub returns-then-room-lt-LONGEST_LINE-clause-text_after : goal.returns-then-room-lt-LONGEST_LINE-clause-text_after
 returns-then-room-lt-LONGEST_LINE-clause-text_after c = search (room_pauses, to_the_end)
 
-pub step-p-requires-clause-used_in_bounds : goal.step-p-requires-clause-used_in_bounds
-step-p-requires-clause-used_in_bounds c = (search rules, search rules)
+pub returns-in_err-used-clause-text_after : goal.returns-in_err-used-clause-text_after
+returns-in_err-used-clause-text_after c =
+    search (fault_ends c.args.last c.args.offset c.args.block.now _ c.loop-used.used c.loop-used.bench c.loop-used.text c.loop-used.invariant.0, to_the_end)
 
-pub step-p-requires-clause-memory : goal.step-p-requires-clause-memory
-step-p-requires-clause-memory c = search going_memory
-
-pub loop-p-preserved : goal.loop-p-preserved
-loop-p-preserved c = (search (one_obeyed, to_the_end), search rules, search rules, search rules, search rules)
+pub loop-used-preserved : goal.loop-used-preserved
+loop-used-preserved c = (search (one_obeyed, to_the_end), c.in_ok-used.ensures.stands.0, c.in_ok-used.ensures.stands.1)
 
 pub returns-clause-text_after : goal.returns-clause-text_after
 returns-clause-text_after c = search block_over

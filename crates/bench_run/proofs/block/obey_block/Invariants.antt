@@ -1,19 +1,18 @@
 -- `bench_run::block::obey_block` meets its contract. Each command leaves less of the block. Invariant: the course so far and
 -- what is left make the whole.
-use Rattle.std.proofs.Common.{◌-◌, ◌≡◌, [], length}
+use Rattle.std.proofs.Common.{◌-◌, ◌≤◌, [], length}
+use Rattle.bench_rules.specs.Bench.{Sound}
 use Rattle.bench_rules.specs.Run.{going, obey_until}
-use Rattle.bench_run.specs.Blocks.{state_of, standing, pauses_in, Stands}
+use Rattle.bench_points.specs.InCode.{bench_of}
+use Rattle.bench_run.specs.Blocks.{standing, pauses_in}
 use Rattle.bench_run.proofs.Looping.{Remaining}
 use Rattle.bench_run.proofs.block.obey_block.Given as goal
 
-abbrev pub invariant-loop-p : goal.invariant-loop-p
-invariant-loop-p l =
-    Remaining l.last (length l.initial.text) l.offset l.block
-    (obey_until (pauses_in l.last (length l.initial.text)) (length l.block) (going [] (standing (state_of l.initial.p) l.offset l.initial.tables l.initial.slots l.initial.links)) l.block)
-    l.p l.tables l.slots l.links l.text
-    × Stands l.p (length l.block) l.tables l.slots l.text
-    × (length l.tables ≡ length l.initial.tables) × (length l.slots ≡ length l.initial.slots)
-    × (length l.text ≡ length l.initial.text)
+abbrev pub invariant-loop-used : goal.invariant-loop-used
+invariant-loop-used l =
+    Remaining l.last l.offset l.block
+    (obey_until (pauses_in l.last) (length l.block) (going [] (standing l.initial.bench l.offset)) l.block) l.used l.bench l.text
+    × (l.used ≤ length l.block) × Sound (bench_of l.bench)
 
-abbrev pub decreases-loop-p : goal.decreases-loop-p
-decreases-loop-p l = l.n - l.p.used
+abbrev pub decreases-loop-used : goal.decreases-loop-used
+decreases-loop-used l = length l.block - l.used
