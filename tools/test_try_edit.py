@@ -300,7 +300,7 @@ class Runs(unittest.TestCase):
 
     def test_edit_that_does_not_compile(self) -> None:
         run = try_edit.ProgramRun("scattered_rows")
-        replacement = try_edit.Replacement("src/search.rt", "found + 1", "fund + 1")
+        replacement = try_edit.Replacement("src/search.rt", "found.or_else", "fund.or_else")
         with self.assertRaises(try_edit.Complaint) as raised:
             try_edit.answers_with(try_edit.Edit("table", [replacement]), run)
         first, second = str(raised.exception).split("\n")
