@@ -2,17 +2,19 @@
 use Prim.Native.Nat.{ℕ, zero, suc, ◌+◌, ◌-◌, ◌*◌, ◌/◌, ◌%◌, ◌^◌, ◌<◌, ◌≤◌}
 use mathlib.Core.Path.{◌≡◌, refl, sym, ap, ap₂, ◌∙◌}
 use mathlib.Core.Logic.{◌⊎◌, inl, inr, ⊎_elim}
-use mathlib.Core.List.{List, [], ◌∷◌}
-use lib.ListN.{length, get_or, set, drop, length-set, length-replicate, get_or-replicate, drop_of_length-le}
+use mathlib.Core.List.{List, [], ◌∷◌, ◌++◌}
+use lib.ListN.{length, get_or, set, take, drop, length-set, length-replicate, get_or-replicate, drop_of_length-le}
 use borrow.Author.Count.{below_more}
-use lib.Seq.{ext_get_or, get_or-set_same, get_or-set_other, drop-cons, set_out}
+use lib.Seq.{ext_get_or, get_or-set_same, get_or-set_other, drop-cons, get_or-take, get_or-drop, set_out}
 use native.Mathlib.Decide.{ℕ_discrete}
 use native.Mathlib.Omega.{arith}
 use native.Mathlib.Numerals.{add-one}
-use native.Mathlib.Nat.{not-suc-le-zero, zero-add, suc-add, add-zero, add-suc, pow-suc, eq-or-lt_of_le}
+use native.Mathlib.Nat.{not-suc-le-zero, zero-add, suc-add, add-zero, add-suc, pow-suc, eq-or-lt_of_le, mul_comm, div-div-eq-div-mul}
 use borrow.Author.Tests.{ltb-true, ltb-false}
 use lib.Dec.{ltb}
 use mathlib.Core.Bool.{Bool, true, false}
+use Rattle.std.proofs.lemmas.List.{length-drop, take_more, take_more_set}
+use Rattle.std.specs.Int.{byte_at, byte_worth, bytes_low_first, sum_through}
 use Rattle.octets.specs.LittleEndian.{number_at, number_octets, overwrite, with_number, fields_at, with_fields, total, zeros, Octets}
 
 -- ---- numbers that fields can hold
@@ -33,21 +35,17 @@ split zero n s at = rw (zero-add, add-zero) (omega arith)
 split (suc m) n s at = rw (suc-add, add-suc, ← suc-add, pow-suc) (omega (arith, split m n s (suc at)))
 
 -- Two numbers that are read one after the other make one number.
-module _ (s : List ℕ) (at a b : ℕ) where
-  joined : (m n : ℕ) → a ≡ number_at m s at → b ≡ number_at n s (at + m) → a + 256 ^ m * b ≡ number_at (m + n) s at
-  joined m n ae be = rw (ae, be, split m n s at)
+pub read_6 : (s : List ℕ) (at a b : ℕ) → a ≡ number_at 4 s at → b ≡ number_at 2 s (at + 4) → a + 4294967296 * b ≡ number_at 6 s at
+read_6 s at a b ae be = rw (ae, be) (sym (split 4 2 s at))
 
-  pub read_2 : a ≡ number_at 1 s at → b ≡ number_at 1 s (at + 1) → a + 256 * b ≡ number_at 2 s at
-  read_2 = joined 1 1
-
-  pub read_4 : a ≡ number_at 2 s at → b ≡ number_at 2 s (at + 2) → a + 65536 * b ≡ number_at 4 s at
-  read_4 = joined 2 2
-
-  pub read_6 : a ≡ number_at 4 s at → b ≡ number_at 2 s (at + 4) → a + 4294967296 * b ≡ number_at 6 s at
-  read_6 = joined 4 2
-
-  pub read_8 : a ≡ number_at 4 s at → b ≡ number_at 4 s (at + 4) → a + 4294967296 * b ≡ number_at 8 s at
-  read_8 = joined 4 4
+-- If the octets of two numbers agree, the numbers are equal.
+agree : (n : ℕ) (s t : List ℕ) (at i : ℕ) → ((k : ℕ) → k < n → get_or s (at + k) 0 ≡ get_or t (i + k) 0) → number_at n s at ≡ number_at n t i
+unfolding number_at
+agree zero s t at i h = refl
+agree (suc n) s t at i h =
+    ap₂ (λ (b x : ℕ). b + 256 * x)
+    (rw (add-zero, add-zero) at (h 0 (omega arith)))
+    (agree n s t (suc at) (suc i) (λ k l. rw (suc-add, suc-add, ← add-suc, ← add-suc) (h (suc k) (omega arith))))
 
 -- The clauses of `with_number` as equations. `rw` sees a call only where the definition is not unfolded.
 with_zero : (s : List ℕ) (at x : ℕ) → with_number zero s at x ≡ s
@@ -86,17 +84,6 @@ pub written_1 : (s : List ℕ) (at x : ℕ) → x < 256 → set s at x ≡ with_
 unfolding with_number overwrite number_octets
 written_1 s at x small = ap (set s at) (omega arith)
 
-pub written_2 : (s : List ℕ) (at x : ℕ) → x < 65536 → set (set s at (x % 256)) (at + 1) (x / 256) ≡ with_number 2 s at x
-unfolding with_number overwrite number_octets
-written_2 s at x small = ap₂ (λ (p y : ℕ). set (set s at (x % 256)) p y) (omega arith) (omega arith)
-
-module _ (s t u : List ℕ) (at x : ℕ) where
-  pub written_4 : t ≡ with_number 2 s at (x % 65536) → u ≡ with_number 2 t (at + 2) (x / 65536) → u ≡ with_number 4 s at x
-  written_4 = parted 2 2 s t u at x (x % 65536) (x / 65536) (omega arith) (omega arith)
-
-  pub written_8 : t ≡ with_number 4 s at (x % 4294967296) → u ≡ with_number 4 t (at + 4) (x / 4294967296) → u ≡ with_number 8 s at x
-  written_8 = parted 4 4 s t u at x (x % 4294967296) (x / 4294967296) (omega arith) (omega arith)
-
 -- The part of x above the octets written plays no part.
 lowest_alone : (m : ℕ) (s u : List ℕ) (at x low high : ℕ) → low < 256 ^ m → x ≡ low + 256 ^ m * high → u ≡ with_number m s at low → u ≡ with_number m s at x
 lowest_alone m s u at x low high small xe ue =
@@ -113,6 +100,54 @@ pub length_number : (n : ℕ) (s : List ℕ) (at x : ℕ) → length (with_numbe
 unfolding with_number overwrite number_octets
 length_number zero s at x = refl
 length_number (suc n) s at x = length_number n (set s at (x % 256)) (suc at) (x / 256) ∙ length-set s at (x % 256)
+
+-- ---- the library's octets of a number
+
+-- For a loop that takes octets out: p has j octets of those from place `at` on, and takes one more.
+pub taken_more : (p s : List ℕ) (at j : ℕ) → j < length p → at + j < length s → take j p ≡ take j (drop at s)
+    → take (j + 1) (set p j (get_or s (at + j) 0)) ≡ take (j + 1) (drop at s)
+taken_more p s at j l m h =
+    take_more_set p j (get_or s (at + j) 0) l
+    ∙ ap₂ (λ (q : List ℕ) (x : ℕ). q ++ x ∷ []) h (sym (get_or-drop at s j 0))
+    ∙ sym (take_more (drop at s) j 0 (omega (arith, length-drop at s)))
+
+-- Reading n octets that were taken out of s is reading them where they stand.
+number_taken : (n : ℕ) (s : List ℕ) (at : ℕ) → number_at n (take n (drop at s)) 0 ≡ number_at n s at
+number_taken n s at =
+    agree n (take n (drop at s)) s 0 at
+    (λ k l. ap (λ (j : ℕ). get_or (take n (drop at s)) j 0) (zero-add k) ∙ get_or-take n (drop at s) k 0 l ∙ get_or-drop at s k 0)
+
+number_one : (s : List ℕ) (at : ℕ) → number_at 1 s at ≡ get_or s at 0
+unfolding number_at
+number_one s at = omega arith
+
+-- The library's sum over k + 1 octets is the number in them.
+bytes_from : (k : ℕ) (p : List ℕ) → sum_through (λ i. byte_worth i (get_or p i 0)) k ≡ number_at (suc k) p 0
+bytes_from zero p = sym (number_one p 0)
+bytes_from (suc k) p = rw (← add-one (suc k), split, zero-add, number_one, mul_comm, bytes_from k p) refl
+
+-- The library's number of the k + 1 octets from place `at` on is the number in them.
+pub read_whole : (k : ℕ) (s p : List ℕ) (at x : ℕ) → p ≡ take (suc k) (drop at s) → x ≡ sum_through (λ i. byte_worth i (get_or p i 0)) k → x ≡ number_at (suc k) s at
+read_whole k s p at x e xe = xe ∙ bytes_from k p ∙ ap (λ (l : List ℕ). number_at (suc k) l 0) e ∙ number_taken (suc k) s at
+
+byte_is : (i x : ℕ) → byte_at i x ≡ x / 256 ^ i % 256
+byte_is zero x = omega arith
+byte_is (suc i) x = refl
+
+-- The library's n bytes of x from byte i upward are the lowest n octets of what stands above the first i octets of x.
+bytes_of : (n i x : ℕ) → bytes_low_first i n x ≡ number_octets n (x / 256 ^ i)
+unfolding number_octets
+bytes_of zero i x = refl
+bytes_of (suc n) i x =
+    let above : x / 256 ^ suc i ≡ x / 256 ^ i / 256 = rw (pow-suc, ← div-div-eq-div-mul) refl in
+    ap₂ ◌∷◌ (byte_is i x) (bytes_of n (suc i) x ∙ ap (number_octets n) above)
+
+-- Writing the library's n bytes of x writes the number.
+pub written : (n : ℕ) (s p t : List ℕ) (at x : ℕ) → p ≡ bytes_low_first 0 n x → t ≡ overwrite s at p → t ≡ with_number n s at x
+unfolding with_number
+written n s p t at x e te =
+    let whole : x / 256 ^ 0 ≡ x = omega arith in
+    te ∙ ap (overwrite s at) (e ∙ bytes_of n 0 x ∙ ap (number_octets n) whole)
 
 -- ---- read after write
 
@@ -137,13 +172,6 @@ octet_overwrite (suc n) s u at x k e l h g =
   where
     first : (v : List ℕ) → at < length v → get_or (with_number n (set v at (x % 256)) (suc at) (x / 256)) at 0 ≡ x % 256
     first v m = octet_other n (set v at (x % 256)) (suc at) (x / 256) at (inl (omega arith)) ∙ get_or-set_same v at (x % 256) 0 m
-
--- If the octets of two numbers agree, the numbers are equal.
-agree : (n : ℕ) (s t : List ℕ) (at : ℕ) → ((k : ℕ) → at ≤ k → k < at + n → get_or s k 0 ≡ get_or t k 0) → number_at n s at ≡ number_at n t at
-unfolding number_at
-agree zero s t at h = refl
-agree (suc n) s t at h =
-    ap₂ (λ (b x : ℕ). b + 256 * x) (h at (omega arith) (omega arith)) (agree n s t (suc at) (λ k l g. h k (omega arith) (omega arith)))
 
 -- Reading returns the number that was written.
 pub number_same : (n : ℕ) (s : List ℕ) (at x : ℕ) → at + n ≤ length s → x < 256 ^ n → number_at n (with_number n s at x) at ≡ x
@@ -241,8 +269,8 @@ octet_inside (w ∷ ws) s u k at o (x ∷ xs) e f l h g =
 -- A number that stands apart from the fields written stays.
 pub apart : (m : ℕ) (ws s : List ℕ) (p at o : ℕ) (xs : List ℕ) → (p + m ≤ at + o) ⊎ (at + o + total ws ≤ p) → number_at m (with_fields ws s at o xs) p ≡ number_at m s p
 apart m ws s p at o xs h =
-    agree m (with_fields ws s at o xs) s p
-    (λ k l g. octet_apart ws s k at o xs (⊎_elim (λ a. inl (omega arith)) (λ b. inr (omega arith)) h))
+    agree m (with_fields ws s at o xs) s p p
+    (λ k l. octet_apart ws s (p + k) at o xs (⊎_elim (λ a. inl (omega arith)) (λ b. inr (omega arith)) h))
 
 -- Fields that stand apart from the fields written stay.
 pub fields_other : (vs ws s : List ℕ) (p q at o : ℕ) (xs : List ℕ) → (p + q + total vs ≤ at + o) ⊎ (at + o + total ws ≤ p + q) → fields_at vs (with_fields ws s at o xs) p q ≡ fields_at vs s p q

@@ -1,6 +1,6 @@
--- `octets::write_u32` meets its contract: the two halves make the number.
-use Rattle.octets.proofs.Laws.{written_4}
+-- `octets::write_u32` meets its contract: the library's octets of the number are those of the definition.
+use Rattle.octets.proofs.Laws.{written}
 use Rattle.octets.proofs.write_u32.Goals as goal
 
 pub returns : goal.returns
-returns c = search written_4
+returns c = search written

@@ -1,6 +1,6 @@
--- `octets::write_u64` meets its contract: the two halves make the number.
-use Rattle.octets.proofs.Laws.{written_8}
+-- `octets::write_u64` meets its contract: the library's octets of the number are those of the definition.
+use Rattle.octets.proofs.Laws.{written}
 use Rattle.octets.proofs.write_u64.Goals as goal
 
 pub returns : goal.returns
-returns c = search written_8
+returns c = search written
