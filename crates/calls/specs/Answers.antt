@@ -1,14 +1,9 @@
--- Defines the number and the values that each answer of the code stands for. PROTOCOL, 'Frames and answers'.
+-- Defines the exit that each answer of the code stands for. PROTOCOL, 'Frames and answers'.
 use Rattle.std.specs.Prelude.{ℕ, List, length, ⊤, Ok, Err}
-use Rattle.refusals.specs.Numbers.{number_of}
+use Rattle.refusals.specs.Numbers.{answer_of, number_of}
 use Rattle.rules.specs.Decision.{Check, Decision, judged}
 use Rattle.rules.specs.Exit.{Frame, Lent, frame_octets, Exit, TableExit}
 use Rattle.calls.specs.declared.Emitted.{Emitted}
-
--- An acceptance answers 0. A refusal answers its number.
-abbrev pub answer_of : Decision ⊤ → ℕ
-answer_of (Ok u) = 0
-answer_of (Err r) = number_of r
 
 -- Returns the exit of a call without frames, from its answer and the table that it leaves.
 abbrev pub table_exit_of : Decision ⊤ → List ℕ → TableExit

@@ -6,9 +6,7 @@ pub mod here;
 
 ghost use Rattle.std.specs.Prelude.{◌≡◌, [], ◌≤◌};
 ghost use Rattle.rules.specs.Exit.{least_output};
-ghost use Rattle.calls.specs.Answers.{answer_of, emitted};
-
-use refusals::Refusal;
+ghost use Rattle.calls.specs.Answers.{emitted};
 
 // An output of 1,560 octets holds the frames of any call.
 pub const LEAST_OUTPUT: usize = 1560;
@@ -41,15 +39,5 @@ impl Emitted {
             frames: 1,
             octets: octets as u32,
         }
-    }
-}
-
-// Returns the number of an answer: 0 for an acceptance, otherwise the number of the refusal.
-pub fn number_of(answer: Result<(), Refusal>) -> u32
-    ensures { result ≡ answer_of answer }
-{
-    match answer {
-        Ok(()) => 0,
-        Err(refusal) => u32::from(refusal),
     }
 }

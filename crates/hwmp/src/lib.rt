@@ -88,7 +88,7 @@ pub extern "C" fn hwmp_fresh(table: &mut [u8], own: &[u8; 6], number: u32) -> u3
     ensures { record { answer = result; table = table.new }
         ≡ fresh_exit table.old (address_of own.now) (record { 0 = number }) }
 {
-    calls::number_of(fresh::make_fresh(table, address::read(own), SequenceNumber(number)))
+    refusals::number_of(fresh::make_fresh(table, address::read(own), SequenceNumber(number)))
 }
 
 #[unsafe(no_mangle)]
@@ -96,7 +96,7 @@ pub extern "C" fn hwmp_forget(table: &mut [u8], destination: &[u8; 6]) -> u32
     ensures { record { answer = result; table = table.new }
         ≡ forget_exit table.old (address_of destination.now) }
 {
-    calls::number_of(forget::forget(table, address::read(destination)))
+    refusals::number_of(forget::forget(table, address::read(destination)))
 }
 
 #[unsafe(no_mangle)]

@@ -30,11 +30,6 @@ pub record Probed : Type 0 where
   pub answer : ℕ
   pub memory : List ℕ
 
--- Returns the answer of an entry: 0, or the number of the refusal.
-abbrev pub answer_of : Result (Unit {0}) Refusal → ℕ
-answer_of (Ok x) = 0
-answer_of (Err r) = number_of r
-
 -- A refusal answers its number and leaves the memory unchanged.
 abbrev pub unless_refused : Result Fields Refusal → List ℕ → Probed → Probed
 unless_refused (Ok f) was made = made

@@ -8,7 +8,8 @@ ghost use Rattle.element.specs.Layout.{PartOf};
 ghost use Rattle.element.specs.Octets.{write_frame};
 ghost use Rattle.element.specs.declared.Kind.{Kind};
 ghost use Rattle.refusals.specs.declared.Refusal.{Refusal};
-ghost use Rattle.probe.specs.Probes.{answer_of, written};
+ghost use Rattle.refusals.specs.Numbers.{answer_of};
+ghost use Rattle.probe.specs.Probes.{written};
 
 use element::list::ListKind;
 use element::{PathInfo, RerrFields, RrepFields, RreqFields, list};

@@ -8,7 +8,8 @@ mod numbers;
 ghost use Rattle.std.specs.Prelude.{◌≡◌, cond, ◌≤◌};
 ghost use Rattle.layout.specs.Address.{address_of};
 ghost use Rattle.element.specs.Lists.{addresses_in};
-ghost use Rattle.probe.specs.Probes.{answer_of, faults, faults_in, list_kind, read_numbers, written_again};
+ghost use Rattle.refusals.specs.Numbers.{answer_of};
+ghost use Rattle.probe.specs.Probes.{faults, faults_in, list_kind, read_numbers, written_again};
 
 use element::list;
 use element::list::ListKind;
@@ -16,16 +17,6 @@ use layout::address;
 use layout::address::Address;
 use reading::Fields;
 use refusals::Refusal;
-
-// Returns the answer of an entry: 0, or the number of the refusal.
-fn answer_of(outcome: Result<(), Refusal>) -> u32
-    ensures { result ≡ answer_of outcome }
-{
-    match outcome {
-        Ok(()) => 0,
-        Err(refusal) => u32::from(refusal),
-    }
-}
 
 // Writes the numbers of the element and of its entries, in the order of the octets, and answers 0. For a refused element it
 // answers 6, 7 or 8 and writes nothing.
@@ -86,7 +77,7 @@ pub extern "C" fn probe_write(
     ensures { record { answer = result; memory = out.new }
         ≡ written_again element.now (address_of to.now) out.old at }
 {
-    answer_of(write_again(element, address::read(to), out, at, singly != 0))
+    refusals::number_of(write_again(element, address::read(to), out, at, singly != 0))
 }
 
 fn value_if(test: bool, value: u32) -> u32

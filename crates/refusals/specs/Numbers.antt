@@ -1,5 +1,5 @@
--- Defines the number of each refusal. PROTOCOL, 'Refusals'.
-use Rattle.std.specs.Prelude.{ℕ}
+-- Defines the number of each refusal and of each answer. PROTOCOL, 'Refusals'.
+use Rattle.std.specs.Prelude.{ℕ, ⊤, Result, Ok, Err}
 use Rattle.refusals.specs.declared.Refusal.{Refusal}
 use Rattle.refusals.specs.declared.Refusal.TheVariants.{
   TableLength,
@@ -51,3 +51,8 @@ number_of NoMatch = 26
 number_of NoRoom = 27
 number_of NoNextHop = 28
 number_of NotHeld = 29
+
+-- An acceptance answers 0. A refusal answers its number.
+abbrev pub answer_of : Result ⊤ Refusal → ℕ
+answer_of (Ok u) = 0
+answer_of (Err r) = number_of r

@@ -2,7 +2,7 @@
 #![tactic(auto)]
 
 ghost use Rattle.std.specs.Prelude.{◌≡◌};
-ghost use Rattle.refusals.specs.Numbers.{number_of};
+ghost use Rattle.refusals.specs.Numbers.{answer_of, number_of};
 
 // Why a call is refused. A refusal's discriminant is its number in PROTOCOL.
 #[derive(Clone, Copy, PartialEq, Eq, Debug)]
@@ -88,5 +88,15 @@ impl From<Refusal> for u32 {
 
     fn from(refusal: Refusal) -> u32 {
         refusal as u32
+    }
+}
+
+// Returns the number of an answer: 0 for an acceptance, otherwise the number of the refusal.
+pub fn number_of(answer: Result<(), Refusal>) -> u32
+    ensures { result ≡ answer_of answer }
+{
+    match answer {
+        Ok(()) => 0,
+        Err(refusal) => u32::from(refusal),
     }
 }

@@ -47,7 +47,7 @@ fn forget_point(rt: &impl Print, table: &mut [u8], i: u8) -> io::Result<()> {
     print_answer(
         rt,
         "forget",
-        calls::number_of(forget::forget(table, point(i))),
+        refusals::number_of(forget::forget(table, point(i))),
     )
 }
 
@@ -73,7 +73,7 @@ fn print_rows(rt: &impl Print, table: &[u8]) -> io::Result<()>
 fn fill(rt: &impl Print, table: &mut [u8]) -> io::Result<()>
     requires { length table.old ≡ 160 }
 {
-    let answer = calls::number_of(fresh::make_fresh(table, point(1), SequenceNumber(0)));
+    let answer = refusals::number_of(fresh::make_fresh(table, point(1), SequenceNumber(0)));
     print_answer(rt, "fresh", answer)?;
     hear(rt, table, 2, 2)?;
     hear(rt, table, 3, 3)?;
