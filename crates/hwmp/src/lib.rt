@@ -21,7 +21,6 @@ ghost use Rattle.hwmp.specs.ForC.{hop_for_c, exit_for_c, outcome_for_c};
 use breaking::break_neighbour;
 use calls::Emitted;
 use counters::{Metric, SequenceNumber};
-use layout::address;
 use layout::address::Address;
 use originate::{announce, root_request};
 use refusals::Refusal;
@@ -88,7 +87,7 @@ pub extern "C" fn hwmp_fresh(table: &mut [u8], own: &[u8; 6], number: u32) -> u3
     ensures { record { answer = result; table = table.new }
         ≡ fresh_exit table.old (address_of own.now) (record { 0 = number }) }
 {
-    refusals::number_of(fresh::make_fresh(table, address::read(own), SequenceNumber(number)))
+    refusals::number_of(fresh::make_fresh(table, Address::from(own), SequenceNumber(number)))
 }
 
 #[unsafe(no_mangle)]
@@ -96,14 +95,14 @@ pub extern "C" fn hwmp_forget(table: &mut [u8], destination: &[u8; 6]) -> u32
     ensures { record { answer = result; table = table.new }
         ≡ forget_exit table.old (address_of destination.now) }
 {
-    refusals::number_of(forget::forget(table, address::read(destination)))
+    refusals::number_of(forget::forget(table, Address::from(destination)))
 }
 
 #[unsafe(no_mangle)]
 pub extern "C" fn hwmp_next_hop(table: &[u8], clock: u64, destination: &[u8; 6]) -> HwmpHop
     ensures { result ≡ hop_for_c (next_hop table.now clock (address_of destination.now)) }
 {
-    HwmpHop::from(next_hop::next_hop(table, clock, address::read(destination)))
+    HwmpHop::from(next_hop::next_hop(table, clock, Address::from(destination)))
 }
 
 #[unsafe(no_mangle)]
@@ -122,7 +121,7 @@ pub extern "C" fn hwmp_receive(
 {
     let arrival = Arrival {
         clock,
-        transmitter: address::read(transmitter),
+        transmitter: Address::from(transmitter),
         link: Metric(link),
     };
     HwmpOutcome::from(receive::receive(table, output, arrival, element))
@@ -181,7 +180,7 @@ pub extern "C" fn hwmp_break(
         table,
         output,
         clock,
-        address::read(neighbour),
+        Address::from(neighbour),
     ))
 }
 
@@ -197,7 +196,7 @@ pub extern "C" fn hwmp_walk(
         ≡ walk_exit tables.now count clock (address_of start.now) (address_of destination.now) }
     ensures hops_le_count { result.hops ≤ count }
 {
-    let from = address::read(start);
-    let to = address::read(destination);
+    let from = Address::from(start);
+    let to = Address::from(destination);
     Walked::from(walk::walk(tables, count, clock, from, to))
 }

@@ -7,10 +7,12 @@ ghost use Rattle.layout.specs.Marks.{mark};
 #[derive(Clone, Copy, PartialEq, Eq)]
 pub struct Address(pub u64);
 
-pub fn read(s: &[u8; 6]) -> Address
-    ensures { result ≡ address_of s.now }
-{
-    Address(octets::read_u48(s, 0))
+impl From<&[u8; 6]> for Address {
+    ghost from_gives = { λ s a. a ≡ address_of s.now };
+
+    fn from(s: &[u8; 6]) -> Address {
+        Address(octets::read_u48(s, 0))
+    }
 }
 
 impl Address {

@@ -13,7 +13,6 @@ ghost use Rattle.probe.specs.Probes.{faults, faults_in, list_kind, read_numbers,
 
 use element::list;
 use element::list::ListKind;
-use layout::address;
 use layout::address::Address;
 use reading::Fields;
 use refusals::Refusal;
@@ -77,7 +76,7 @@ pub extern "C" fn probe_write(
     ensures { record { answer = result; memory = out.new }
         ≡ written_again element.now (address_of to.now) out.old at }
 {
-    refusals::number_of(write_again(element, address::read(to), out, at, singly != 0))
+    refusals::number_of(write_again(element, Address::from(to), out, at, singly != 0))
 }
 
 fn value_if(test: bool, value: u32) -> u32
@@ -120,6 +119,6 @@ pub extern "C" fn probe_faults(element: &[u8], address: &[u8; 6]) -> u32
     faults_of(
         reading::list_part(element),
         list_kind(fields),
-        address::read(address),
+        Address::from(address),
     )
 }

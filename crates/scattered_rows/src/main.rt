@@ -8,14 +8,14 @@ ghost use Rattle.std.specs.Prelude.{◌≡◌, ◌<◌, length};
 use calls::LEAST_OUTPUT;
 use counters::{Metric, SequenceNumber};
 use layout::address::Address;
-use layout::{address, row};
+use layout::row;
 use rules::Arrival;
 use std::io::{self, Print};
 use table_calls::{forget, fresh};
 
 // Returns the address 2,0,0,0,0,i.
 fn point(i: u8) -> Address {
-    address::read(&[2, 0, 0, 0, 0, i])
+    Address::from(&[2, 0, 0, 0, 0, i])
 }
 
 // Returns the RANN of point i: TTL 31, number 1, lifetime 1000, metric 0.
