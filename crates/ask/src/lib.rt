@@ -118,7 +118,6 @@ fn without_known(item: Item) -> Target
 // Returns the destination for an item. Its number is the known number of the held row, active or not. If there is none, the
 // number is marked unknown.
 fn asked_for(table: &[u8], item: Item) -> Target
-    requires { Sized table.now }
     ensures { result ≡ asked_for table.now item }
 {
     let Some(i) = search::find_row(table, item.address) else {
@@ -133,7 +132,6 @@ fn asked_for(table: &[u8], item: Item) -> Target
 
 // Writes a destination for each item, starting at place `at`. Returns the place after them.
 fn write_targets(output: &mut [u8], at: usize, table: &[u8], items: &[u8]) -> usize
-    requires sized { Sized table.now }
     requires in_bounds { at + 11 * (length items.now / 7) ≤ length output.old }
     ensures value { result ≡ at + 11 * (length items.now / 7) }
     ensures output_after { output.new
@@ -150,7 +148,6 @@ fn write_targets(output: &mut [u8], at: usize, table: &[u8], items: &[u8]) -> us
 
 // Writes the frame of an ask that the point with this head sends. Returns the place after the frame.
 fn write_request(output: &mut [u8], head: Head, lifetime: u32, table: &[u8], items: &[u8]) -> usize
-    requires sized { Sized table.now }
     requires least_output_in_bounds { least_output ≤ length output.old }
     requires in_bounds { 7 ≤ length items.now }
     requires len_bound { length items.now ≤ 140 }

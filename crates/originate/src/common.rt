@@ -45,9 +45,11 @@ pub fn check(table: &[u8], output: &[u8], barred: bool, lifetime: u32) -> Result
 pub fn number_head(head: Head, rreq: bool) -> Head
     ensures { result ≡ numbered_head rreq head }
 {
-    let number = head.number;
-    let request = head.request;
-    let advanced = own::numbered(OwnCounters { number, request }, rreq);
+    let counters = OwnCounters {
+        number: head.number,
+        request: head.request,
+    };
+    let advanced = own::numbered(counters, rreq);
     head.with(advanced.number, advanced.request, head.clock)
 }
 
@@ -55,14 +57,12 @@ pub fn number_head(head: Head, rreq: bool) -> Head
 pub fn own_path(head: Head, flags: u8, lifetime: u32) -> PathInfo
     ensures { result ≡ own_path head flags lifetime }
 {
-    let subject = head.own;
-    let number = head.number;
     PathInfo {
         flags,
         hops: HopCount(0),
         ttl: calls::INITIAL_TTL,
-        subject,
-        number,
+        subject: head.own,
+        number: head.number,
         lifetime,
         metric: Metric(0),
     }
@@ -77,8 +77,9 @@ pub fn start_request(output: &mut [u8], head: Head, flags: u8, lifetime: u32, n:
     ensures output_after { output.new
         ≡ overwrite output.old 0 (frame_start all_ones Kind.Rreq n (rreq_numbers (own_request head flags lifetime))) }
 {
-    let request = head.request;
-    let path = own_path(head, flags, lifetime);
-    let fields = RreqFields { request, path };
+    let fields = RreqFields {
+        request: head.request,
+        path: own_path(head, flags, lifetime),
+    };
     writing::start_rreq(output, 0, Address(list::ALL_ONES), fields, n)
 }

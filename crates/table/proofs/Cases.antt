@@ -53,12 +53,12 @@ module _ (t : List ℕ) where
       and_moved (eqb (n % row_octets) 0) (leb (place 1) n) (leb n (place most_rows)) (eqb ((n - head_octets) % row_octets) 0) same_rest
 
   -- A row that is found lies inside the table.
-  within : (p : ℕ → Bool) (i : ℕ) → first p (rows t) ≡ Some i → Sized t → place i + row_octets ≤ length t
-  within p i e h = let l = first_below p (rows t) i e in omega arith
+  within : (p : ℕ → Bool) (i : ℕ) → first p (rows t) ≡ Some i → place i + row_octets ≤ length t
+  within p i e = let l = first_below p (rows t) i e in omega arith
 
-  pub found_within : (d : Address) (f : Option ℕ) (i : ℕ) → f ≡ find_row t d → f ≡ Some i → Sized t → place i + row_octets ≤ length t
+  pub found_within : (d : Address) (f : Option ℕ) (i : ℕ) → f ≡ find_row t d → f ≡ Some i → place i + row_octets ≤ length t
   unfolding find_row
-  found_within d f i e at_i h = within (holds t d) i (sym e ∙ at_i) h
+  found_within d f i e at_i = within (holds t d) i (sym e ∙ at_i)
 
   -- The row of a destination, by the place where it was found.
   pub row_at_lem : (d : Address) (f : Option ℕ) → f ≡ find_row t d → (i : ℕ) → f ≡ Some i → (r : Row) → r ≡ row_at t i → row_for t d ≡ Some r
@@ -89,13 +89,13 @@ module _ (t : List ℕ) where
     unfolding place_for
     place_is = ge ∙ ap (λ (k : Option ℕ). option_or k (first_free t)) fe
 
-    pub place_within : (i : ℕ) → g ≡ Some i → Sized t → place i + row_octets ≤ length t
+    pub place_within : (i : ℕ) → g ≡ Some i → place i + row_octets ≤ length t
     unfolding first_free
-    place_within i at_i h = by f fe (sym ge ∙ at_i)
+    place_within i at_i = by f fe (sym ge ∙ at_i)
       where
         by : (k : Option ℕ) → k ≡ find_row t d → option_or k (first_free t) ≡ Some i → place i + row_octets ≤ length t
-        by (Some j) ke e = found_within d (Some j) i ke e h
-        by None ke e = within (vacant t) i e h
+        by (Some j) ke e = found_within d (Some j) i ke e
+        by None ke e = within (vacant t) i e
 
   module _ (r : Row) (f : Option ℕ) (fe : f ≡ find_row t r.destination) (g : Option ℕ) (ge : g ≡ option_or f (first_free t)) where
     pub stored_row : (i : ℕ) → g ≡ Some i → (u : List ℕ) → u ≡ put_row t i r → u ≡ store t r

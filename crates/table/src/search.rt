@@ -1,7 +1,7 @@
 // Finds rows by destination, and finds and counts free rows.
 ghost use Rattle.std.specs.Prelude.{◌≡◌, ◌+◌, ◌≤◌, length};
 ghost use Rattle.std.specs.Option.{option_or};
-ghost use Rattle.layout.specs.Layout.{place, row_octets, rows, Sized};
+ghost use Rattle.layout.specs.Layout.{place, row_octets, rows};
 ghost use Rattle.table.specs.Places.{first};
 ghost use Rattle.table.specs.Table.{active_next, find_row, first_free, free_rows, holds, row_for, vacant};
 
@@ -9,12 +9,11 @@ use layout::address::Address;
 use layout::row;
 use layout::row::{HEAD_OCTETS, ROW_OCTETS};
 
-// Returns how many rows the table has.
+// Returns how many rows the table has. Octets that are shorter than a head have no rows.
 pub fn rows_of(table: &[u8]) -> usize
-    requires { Sized table.now }
     ensures { result ≡ rows table.now }
 {
-    (table.len() - HEAD_OCTETS) / ROW_OCTETS
+    table.len().saturating_sub(HEAD_OCTETS) / ROW_OCTETS
 }
 
 pub fn is_vacant(table: &[u8], i: usize) -> bool
@@ -34,14 +33,13 @@ fn is_held_for(table: &[u8], i: usize, d: Address) -> bool
 
 // Returns the place of the first row held for d among the first n rows.
 pub fn find_below(table: &[u8], n: usize, d: Address) -> Option<usize>
-    requires { place n ≤ length table.now }
+    requires { n ≤ rows table.now }
     ensures { result ≡ first (holds table.now d) n }
 {
     (0..n).find(|&i| is_held_for(table, i, d))
 }
 
 pub fn find_row(table: &[u8], d: Address) -> Option<usize>
-    requires { Sized table.now }
     ensures { result ≡ find_row table.now d }
 {
     find_below(table, rows_of(table), d)
@@ -49,7 +47,6 @@ pub fn find_row(table: &[u8], d: Address) -> Option<usize>
 
 // Returns the next hop of the destination's row, if that row is active.
 pub fn active_next(table: &[u8], clock: u64, destination: Address) -> Option<Address>
-    requires { Sized table.now }
     ensures { result ≡ active_next clock (row_for table.now destination) }
 {
     let i = find_row(table, destination)?;
@@ -62,7 +59,6 @@ pub fn active_next(table: &[u8], clock: u64, destination: Address) -> Option<Add
 
 #[tactic(auto, unfolding(crate::specs::Table::first_free))]
 fn first_free(table: &[u8]) -> Option<usize>
-    requires { Sized table.now }
     ensures { result ≡ first_free table.now }
 {
     (0..rows_of(table)).find(|&i| is_vacant(table, i))
@@ -70,7 +66,6 @@ fn first_free(table: &[u8]) -> Option<usize>
 
 // Returns the place where a row goes: the place `found` of its destination's row, otherwise that of the first free row.
 pub fn place_for(table: &[u8], found: Option<usize>) -> Option<usize>
-    requires { Sized table.now }
     ensures { result ≡ option_or found (first_free table.now) }
 {
     found.or_else(|| first_free(table))
@@ -79,7 +74,6 @@ pub fn place_for(table: &[u8], found: Option<usize>) -> Option<usize>
 // Returns how many rows are free, wherever they lie.
 #[tactic(auto, unfolding(crate::specs::Table::free_rows))]
 pub fn free_rows(table: &[u8]) -> usize
-    requires { Sized table.now }
     ensures { result ≡ free_rows table.now }
 {
     (0..rows_of(table)).filter(|&i| is_vacant(table, i)).count()

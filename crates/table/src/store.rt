@@ -33,7 +33,6 @@ pub fn put_row(table: &mut [u8], found: Option<usize>, r: Row)
 
 // Changes the rows for which `step` returns a row: each takes the row that `step` returns. The other rows stay as they are.
 pub fn change_rows<F: Fn(Row) -> Option<Row>>(table: &mut [u8], step: F)
-    requires sized { Sized table.old }
     requires callable { F.IsAlwaysCallable step }
     ensures { (p : Row → Bool) (f : Row → Row) → StepsBy (F.post step) p f → table.new ≡ change_where p f table.old }
 {

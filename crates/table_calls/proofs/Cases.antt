@@ -15,7 +15,7 @@ use Rattle.layout.specs.declared.row.Head.{Head}
 use Rattle.layout.specs.declared.row.Row.{Row as TableRow}
 use Rattle.layout.specs.Address.{individual}
 use Rattle.layout.specs.Row.{free_row}
-use Rattle.layout.specs.Layout.{sized, Sized, place, head_at, row_at, put_row, row_octets}
+use Rattle.layout.specs.Layout.{sized, place, head_at, row_at, put_row, row_octets}
 use Rattle.table.specs.Table.{is_table, find_row, row_for, active_next, fresh, freed}
 use Rattle.table.proofs.Cases.{found_within, row_at_lem, row_none}
 use Rattle.rules.specs.Decision.{Decision}
@@ -69,13 +69,13 @@ module _ (t : List ℕ) (d : Address) (a : Bool) (ae : a ≡ sized t) where
             by (Some i) ge re = cc (row_at_lem t d (Some i) ge i refl (row_at t i) refl)
 
 -- The row to free lies inside the table.
-pub found_inside : (t : List ℕ) (d : Address) (f : Option ℕ) → f ≡ find_row t d → Sized t → (r : Result ℕ Refusal) → r ≡ ok_or f NotHeld
+pub found_inside : (t : List ℕ) (d : Address) (f : Option ℕ) → f ≡ find_row t d → (r : Result ℕ Refusal) → r ≡ ok_or f NotHeld
     → IfOk r (λ i. place i + row_octets ≤ length t)
-found_inside t d f fe sized r re = by f refl
+found_inside t d f fe r re = by f refl
   where
     by : (g : Option ℕ) → f ≡ g → IfOk r (λ i. place i + row_octets ≤ length t)
     by None e = rw (re, e) tt
-    by (Some i) e = rw (re, e) (found_within t d f i fe e sized)
+    by (Some i) e = rw (re, e) (found_within t d f i fe e)
 
 module _ (t : List ℕ) (d : Address) (k : Result ℕ Refusal) (ke : forget_decision t k ≡ forget t d) where
   pub forgotten : (done : ⊤) (i : ℕ) → k ≡ Ok i → (r : TableRow) → r ≡ free_row → (u : List ℕ) → u ≡ put_row t i r

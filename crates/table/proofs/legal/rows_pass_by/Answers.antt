@@ -1,5 +1,5 @@
 use Rattle.std.proofs.Common.{rules}
-use borrow.Author.Tests.{not-true, not-false}
+use borrow.Author.Tests.{not-false}
 use Rattle.layout.proofs.Marks.{mark_in, marked_none}
 use Rattle.table.proofs.MarkedRows.{destination_marked, passes_by}
 use Rattle.table.proofs.Places.{every_none, every_more, every_stops, every_ended}
@@ -12,7 +12,7 @@ pub bounds-seen-h : goal.bounds-seen-h
 bounds-seen-h c = search mark_in
 
 pub returns-then-not-passes_by : goal.returns-then-not-passes_by
-returns-then-not-passes_by c = search (every_stops, passes_by, not-true)
+returns-then-not-passes_by c = search (every_stops, passes_by)
 
 pub bounds-seen-h-in-loop-i : goal.bounds-seen-h-in-loop-i
 bounds-seen-h-in-loop-i c = search mark_in

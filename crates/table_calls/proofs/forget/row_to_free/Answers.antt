@@ -15,11 +15,8 @@ is_table-requires c = search passes_1
 pub returns-then-not-is_table-clause-result_value : goal.returns-then-not-is_table-clause-result_value
 returns-then-not-is_table-clause-result_value c = search forget_21
 
-pub find_row-requires : goal.find_row-requires
-find_row-requires c = search passes_1
-
 pub returns-clause-result_value : goal.returns-clause-result_value
 returns-clause-result_value c = search forget_found
 
 pub returns-clause-inside : goal.returns-clause-inside
-returns-clause-inside c = search (found_inside c.args.table.now, passes_1)
+returns-clause-inside c = search (found_inside c.args.table.now)

@@ -24,8 +24,5 @@ read_head-requires c = search passes_1
 pub returns-then-clock-read_head : goal.returns-then-clock-read_head
 returns-then-clock-read_head c = search hop_22
 
-pub active_next-requires : goal.active_next-requires
-active_next-requires c = search passes_1
-
 pub returns : goal.returns
 returns c = search hop_found
