@@ -4,14 +4,11 @@ use Prim.Native.Nat.{ℕ, ◌+◌}
 use mathlib.Core.Path.{◌≡◌, refl, sym, ap₂, ◌∙◌}
 use mathlib.Core.Bool.{Bool, true, false, cond}
 use mathlib.Core.List.{List}
-use lib.Dec.{ltb}
 use native.Mathlib.Nat.{add-zero}
-use native.Mathlib.Omega.{arith}
-use borrow.Author.Tests.{le-ltb}
 use Rattle.layout.specs.Address.{same}
 use Rattle.layout.specs.declared.address.Address.{Address}
 use Rattle.layout.specs.Layout.{row_at}
-use Rattle.table.specs.Table.{find_row, row_for, new_rows, free_rows}
+use Rattle.table.specs.Table.{find_row, row_for, new_rows}
 use Rattle.table.proofs.Cases.{row_at_lem, row_none}
 use Rattle.element.specs.declared.PathInfo.{PathInfo}
 use Rattle.rules.specs.declared.Arrival.{Arrival}
@@ -29,10 +26,3 @@ module _ (t : List ℕ) (a : Arrival) (p : PathInfo) (n : ℕ) (ne : n ≡ new_r
   pub two_addresses : (b : Bool) → b ≡ same a.transmitter p.subject → b ≡ false → (m : ℕ) → m ≡ new_rows (row_for t a.transmitter) → n + m ≡ rows_needed t a p
   unfolding rows_needed
   two_addresses b be e m me = rw (← be, e) (ap₂ ◌+◌ ne me)
-
-module _ (t : List ℕ) (a : Arrival) (p : PathInfo) (m : ℕ) (me : m ≡ rows_needed t a p) where
-  pub lacks_none : m ≡ 0 → false ≡ ltb (free_rows t) (rows_needed t a p)
-  lacks_none e = sym (le-ltb (free_rows t) (rows_needed t a p) (omega (arith, e, me)))
-
-  pub lacks_some : (n : ℕ) → n ≡ free_rows t → ltb n m ≡ ltb (free_rows t) (rows_needed t a p)
-  lacks_some n ne = ap₂ ltb ne me

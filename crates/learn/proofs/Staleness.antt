@@ -1,11 +1,12 @@
 -- Laws of refusal 25, case by case, as the proofs of the functions need them.
 use Rattle.std.specs.Prelude.{Option, Some, None}
-use Prim.Native.Nat.{ℕ, ◌+◌}
+use Prim.Native.Nat.{ℕ}
 use mathlib.Core.Path.{◌≡◌}
 use mathlib.Core.Bool.{Bool, true, false, ◌&&◌}
 use mathlib.Core.List.{List}
 use lib.Dec.{eqb, leb}
 use borrow.Author.Tests.{eq-eqb, ne_eqb}
+use Rattle.counters.specs.declared.Metric.{Metric}
 use Rattle.counters.specs.Numbers.{older}
 use Rattle.layout.specs.declared.row.Row.{Row}
 use Rattle.layout.specs.Layout.{row_at}
@@ -13,6 +14,7 @@ use Rattle.table.specs.Table.{find_row}
 use Rattle.table.proofs.Cases.{row_at_lem, row_none}
 use Rattle.element.specs.declared.PathInfo.{PathInfo}
 use Rattle.rules.specs.declared.Arrival.{Arrival}
+use Rattle.rules.specs.Learn.{metric_here}
 use Rattle.rules.specs.Receive.{is_stale_for, is_stale}
 
 module _ (a : Arrival) (p : PathInfo) (r : Row) where
@@ -25,8 +27,8 @@ module _ (a : Arrival) (p : PathInfo) (r : Row) where
     unfolding is_stale_for
     stale_older e = rw (eq-eqb r.known 1 k, ← be, e)
 
-    pub stale_by_metric : b ≡ false → (m : ℕ) → m ≡ p.metric.0 + a.link.0 → (q : Bool) → q ≡ eqb p.number.0 r.number.0
-        → (q && leb r.metric.0 m) ≡ is_stale_for a p r
+    pub stale_by_metric : b ≡ false → (m : Metric) → m ≡ metric_here a p → (q : Bool) → q ≡ eqb p.number.0 r.number.0
+        → (q && leb r.metric.0 m.0) ≡ is_stale_for a p r
     unfolding is_stale_for
     stale_by_metric e m me q qe = rw (eq-eqb r.known 1 k, ← be, e, me, qe)
 

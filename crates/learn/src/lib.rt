@@ -19,6 +19,15 @@ use refusals::Refusal;
 use rules::Arrival;
 use table::search;
 
+// An element that the point has heard: how it arrived, and its path, which can be one link longer.
+#[derive(Clone, Copy)]
+struct Heard {
+    arrival: Arrival,
+    path: PathInfo,
+    ghost in_time: { arrival.clock ≤ max_clock },
+    ghost extends: { Extends arrival path },
+}
+
 // Checks refusals 24, 25 and 27. If none applies, does steps 1 and 2. It looks for the subject's row only once.
 pub fn learn_by_rows(table: &mut [u8], a: Arrival, p: PathInfo) -> Result<(), Refusal>
     requires sized { Sized table.old }
@@ -30,13 +39,17 @@ pub fn learn_by_rows(table: &mut [u8], a: Arrival, p: PathInfo) -> Result<(), Re
     if p.subject == row::read_head(table).own {
         return Err(Refusal::AboutItself);
     }
+    let heard = Heard {
+        arrival: a,
+        path: p,
+    };
     let found = search::find_row(table, p.subject);
-    if stale::is_stale(table, found, a, p) {
+    if heard.is_stale(table, found) {
         return Err(Refusal::Stale);
     }
-    if room::lacks_rows(table, found, a, p) {
+    if heard.lacks_rows(table, found) {
         return Err(Refusal::NoRoom);
     }
-    steps::learn(table, found, a, p);
+    heard.learn(table, found);
     Ok(())
 }

@@ -4,8 +4,7 @@ ghost use Rattle.table.specs.Table.{find_row, free_rows};
 ghost use Rattle.layout.specs.Layout.{Sized};
 ghost use Rattle.rules.specs.Receive.{rows_needed};
 
-use element::PathInfo;
-use rules::Arrival;
+use crate::Heard;
 use table::search;
 
 // Returns how many new rows a destination needs, from the search for its row: 0 if it has a row, 1 if it has none.
@@ -19,29 +18,31 @@ fn new_rows(found: Option<usize>) -> usize
     }
 }
 
-// Returns how many new rows the call needs: a row for the subject if none is held for the subject, and a row for the transmitter
-// if the transmitter is not the subject and none is held for the transmitter. `found` is the result of the search for the
-// subject's row.
-fn rows_needed(table: &[u8], found: Option<usize>, a: Arrival, p: PathInfo) -> usize
-    requires sized { Sized table.now }
-    requires found_value { found ≡ find_row table.now p.subject }
-    ensures { result ≡ rows_needed table.now a p }
-{
-    let needed = new_rows(found);
-    if a.transmitter == p.subject {
-        return needed;
+// `found` is the place of the subject's row. The place is handed on, so that the row is searched for once.
+impl Heard {
+    // Returns how many new rows the call needs: a row for the subject if none is held for the subject, and a row for the
+    // transmitter if the transmitter is not the subject and none is held for the transmitter.
+    fn rows_needed(self, table: &[u8], found: Option<usize>) -> usize
+        requires sized { Sized table.now }
+        requires found_value { found ≡ find_row table.now self.path.subject }
+        ensures { result ≡ rows_needed table.now self.arrival self.path }
+    {
+        let needed = new_rows(found);
+        if self.arrival.transmitter == self.path.subject {
+            return needed;
+        }
+        needed + new_rows(search::find_row(table, self.arrival.transmitter))
     }
-    needed + new_rows(search::find_row(table, a.transmitter))
-}
 
-pub fn lacks_rows(table: &[u8], found: Option<usize>, a: Arrival, p: PathInfo) -> bool
-    requires sized { Sized table.now }
-    requires found_value { found ≡ find_row table.now p.subject }
-    ensures { result ≡ ltb (free_rows table.now) (rows_needed table.now a p) }
-{
-    let needed = rows_needed(table, found, a, p);
-    if needed == 0 {
-        return false;
+    pub fn lacks_rows(self, table: &[u8], found: Option<usize>) -> bool
+        requires sized { Sized table.now }
+        requires found_value { found ≡ find_row table.now self.path.subject }
+        ensures { result ≡ ltb (free_rows table.now) (rows_needed table.now self.arrival self.path) }
+    {
+        let needed = self.rows_needed(table, found);
+        if needed == 0 {
+            return false;
+        }
+        search::free_rows(table) < needed
     }
-    search::free_rows(table) < needed
 }

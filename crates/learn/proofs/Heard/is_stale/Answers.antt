@@ -1,7 +1,7 @@
--- `learn::stale::is_stale` meets its contract: the row was found, or there is none.
+-- `learn::Heard::is_stale` meets its contract: the row was found, or there is none.
 use Rattle.table.proofs.Cases.{found_within}
 use Rattle.learn.proofs.Staleness.{stale_absent, stale_found}
-use Rattle.learn.proofs.stale.is_stale.Goals as goal
+use Rattle.learn.proofs.Heard.is_stale.Goals as goal
 
 pub returns-in_default : goal.returns-in_default
 returns-in_default c = search stale_absent

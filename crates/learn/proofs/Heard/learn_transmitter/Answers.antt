@@ -1,6 +1,6 @@
--- `learn::steps::learn_transmitter` meets its contract: the row is stored, or stays.
+-- `learn::Heard::learn_transmitter` meets its contract: the row is stored, or stays.
 use Rattle.learn.proofs.Renewals.{transmitter_stays, transmitter_place, transmitter_stored}
-use Rattle.learn.proofs.steps.learn_transmitter.Goals as goal
+use Rattle.learn.proofs.Heard.learn_transmitter.Goals as goal
 
 pub returns-then-not-takes_link : goal.returns-then-not-takes_link
 returns-then-not-takes_link c = search transmitter_stays

@@ -1,6 +1,6 @@
--- `learn::steps::learn_subject` meets its contract, by the contracts of the functions that it calls.
+-- `learn::Heard::learn_subject` meets its contract, by the contracts of the functions that it calls.
 use Rattle.learn.proofs.Renewals.{subject_place, subject_stored}
-use Rattle.learn.proofs.steps.learn_subject.Goals as goal
+use Rattle.learn.proofs.Heard.learn_subject.Goals as goal
 
 pub put_row-requires-clause-found_value : goal.put_row-requires-clause-found_value
 put_row-requires-clause-found_value c = search subject_place

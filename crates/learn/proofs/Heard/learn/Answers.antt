@@ -1,6 +1,6 @@
--- `learn::steps::learn` meets its contract: it does step 1 alone, or both steps.
+-- `learn::Heard::learn` meets its contract: it does step 1 alone, or both steps.
 use Rattle.learn.proofs.Renewals.{subject_alone, both_learnt}
-use Rattle.learn.proofs.steps.learn.Goals as goal
+use Rattle.learn.proofs.Heard.learn.Goals as goal
 
 pub returns-then-ne : goal.returns-then-ne
 returns-then-ne c = search both_learnt
