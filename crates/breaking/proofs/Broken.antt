@@ -7,7 +7,7 @@ use mathlib.Core.Path.{◌≡◌, refl, sym, ap, ap₂, ◌∙◌}
 use mathlib.Core.Bool.{Bool, true, false, not, cond}
 use mathlib.Core.List.{List, [], ◌∷◌, ◌++◌, flat_map}
 use lib.ListN.{length, length-append}
-use native.Mathlib.Nat.{zero-add, add-zero, sub-zero}
+use native.Mathlib.Nat.{zero-add, add-zero}
 use native.Mathlib.Numerals.{add-one}
 use native.Mathlib.Omega.{arith}
 use borrow.Author.Tests.{eq-eqb, ne_eqb, not-true, not-false}
@@ -17,7 +17,7 @@ use Rattle.layout.specs.declared.address.Address.{Address}
 use Rattle.layout.specs.declared.row.Head.{Head}
 use Rattle.layout.specs.declared.row.Row.{Row}
 use Rattle.layout.specs.Row.{head_with, invalidated, raised, is_through}
-use Rattle.layout.specs.Layout.{head_at, put_head, rows, place, row_at, row_octets, Sized, most_rows}
+use Rattle.layout.specs.Layout.{head_at, put_head, rows, row_at, Sized, most_rows}
 use Rattle.table.specs.Table.{change_at, change_below, change_where}
 use Rattle.table.proofs.Changes.{row_stays, below_start, below_more, below_all}
 use Rattle.counters.specs.declared.SequenceNumber.{SequenceNumber}
@@ -31,9 +31,8 @@ use Rattle.rules.specs.Break.{broken_off, breaking, break_neighbour}
 use Rattle.rules.proofs.Room.{entry_one, entries_few}
 use Rattle.calls.specs.declared.Emitted.{Emitted}
 use Rattle.calls.specs.Answers.{answer_to, exit_of}
-use Rattle.breaking.specs.Reports.{octets_for, begun_after, filled_by, reported_after, reported_from, closed}
-use Rattle.breaking.specs.declared.errors.Reported.{Reported}
-use Rattle.breaking.proofs.Reported.{same_reported, begun_append, begun_length, closes, errors_many, errors_long}
+use Rattle.breaking.specs.Reports.{octets_for, begun_after, closed}
+use Rattle.breaking.proofs.Reported.{begun_append, begun_length, closes, errors_many, errors_long}
 use Rattle.rules.proofs.Rulings.{listed}
 use Rattle.calls.proofs.Checks.{table_sized, output_long, refusal, acceptance, accepted_exit}
 use Rattle.calls.proofs.Neighbours.{same_number}
@@ -60,13 +59,8 @@ module _ (test : Row → Bool) (t : List ℕ) (i : ℕ) (r : Row) (re : r ≡ ro
     unfolding broken_entry
     none_lost = rw (tested ∙ not-true b stays)
 
-    -- The entry of the row follows the destinations reported before.
-    pub none_reported : (before : Reported) → before.full ≡ filled_by before.lost
-        → before ≡ reported_after before (broken_entry test (row_at t i))
-    unfolding reported_after begun_after
-    none_reported before fe =
-        rw none_lost (same_reported before _ (sym (add-zero before.lost)) (sym (add-zero before.place))
-        (fe ∙ ap filled_by (sym (add-zero before.lost))))
+    pub none_counted : (k : ℕ) → k ≡ k + length (broken_entry test (row_at t i))
+    none_counted k = rw (none_lost, add-zero k)
 
     pub none_added : (k at : ℕ) (s : List ℕ) → s ≡ overwrite s at (begun_after k (broken_entry test (row_at t i)))
     unfolding begun_after overwrite
@@ -77,10 +71,8 @@ module _ (test : Row → Bool) (t : List ℕ) (i : ℕ) (r : Row) (re : r ≡ ro
     unfolding broken_entry
     one_lost = rw (tested ∙ not-false b falls, ← re, ← fe)
 
-    pub one_reported : (before after : Reported)
-        → after ≡ reported_after before (record { address = r.destination; number = fallen.number } ∷ [])
-        → after ≡ reported_after before (broken_entry test (row_at t i))
-    one_reported before after e = e ∙ ap (reported_after before) (sym one_lost)
+    pub one_counted : (k n : ℕ) → n ≡ k + 1 → n ≡ k + length (broken_entry test (row_at t i))
+    one_counted k n ne = rw one_lost ne
 
     pub one_added : (k at : ℕ) (s v : List ℕ) → v ≡ overwrite s at (begun_after k (record { address = r.destination; number = fallen.number } ∷ []))
         → v ≡ overwrite s at (begun_after k (broken_entry test (row_at t i)))
@@ -96,68 +88,36 @@ lost_from test t n i = flat_map (broken_entry test) (each (row_at t) i (n - i))
 abbrev all_lost : (Row → Bool) → List ℕ → ℕ → List LostDestination
 all_lost test t n = flat_map (broken_entry test) (each (row_at t) 0 n)
 
--- States what stands in the output from place `at` on, before row i of the first n rows of t. With what is left to report, the
--- count and the output make the whole.
-module _ (test : Row → Bool) (t : List ℕ) (n : ℕ) (out₀ : List ℕ) (at : ℕ) where
-  pub record Reporting (i : ℕ) (so_far : Reported) (out : List ℕ) : Type 0 where
+-- States what stands in the output before row i of the first n rows of t, once `lost` destinations are reported. With what is left
+-- to report, the count and the output make the whole.
+module _ (test : Row → Bool) (t : List ℕ) (n : ℕ) (out₀ : List ℕ) where
+  pub record Reporting (i lost : ℕ) (out : List ℕ) : Type 0 where
     pub below : i ≤ n
-    pub few : so_far.lost ≤ i
-    pub placed : so_far.place ≡ at + octets_for so_far.lost
-    pub filled : so_far.full ≡ filled_by so_far.lost
-    pub counted : so_far.lost + length (lost_from test t n i) ≡ length (all_lost test t n)
-    pub written : overwrite out so_far.place (begun_after so_far.lost (lost_from test t n i)) ≡ overwrite out₀ at (begun_after 0 (all_lost test t n))
+    pub few : lost ≤ i
+    pub counted : lost + length (lost_from test t n i) ≡ length (all_lost test t n)
+    pub written : overwrite out (octets_for lost) (begun_after lost (lost_from test t n i)) ≡ overwrite out₀ 0 (begun_after 0 (all_lost test t n))
 
-  pub reporting_start : Reporting 0 (record { lost = 0; place = at; full = 0 }) out₀
-  reporting_start =
-      record {
-        below = omega arith;
-        few = omega arith;
-        placed = omega arith;
-        filled = refl;
-        counted = rw (sub-zero n, zero-add (length (all_lost test t n)));
-        written = rw (sub-zero n);
-      }
-
-  module _ (i : ℕ) (so_far : Reported) (out : List ℕ) (stands : Reporting i so_far out) where
+  module _ (i lost : ℕ) (out : List ℕ) (stands : Reporting i lost out) where
     module _ (l : i < n) where
-      -- There is room for row i and its entry.
-      pub reporting_row : place n ≤ length t → place i + row_octets ≤ length t
-      reporting_row fits = omega arith
-
-      pub reporting_few : n ≤ most_rows → so_far.lost ≤ most_rows
-      reporting_few many = omega (arith, stands.few)
-
-      pub reporting_filled : so_far.full ≡ filled_by so_far.lost
-      reporting_filled = stands.filled
-
-      pub reporting_room : n ≤ most_rows → at + octets_for most_rows ≤ length out₀ → length out ≡ length out₀
-          → so_far.place + octets_for (so_far.lost + 1) ≤ length out + octets_for so_far.lost
-      reporting_room many room same_length = omega (arith, stands.few, stands.placed)
-
-      pub reporting_more : (next : Reported) → next ≡ reported_after so_far (broken_entry test (row_at t i))
-          → (out' : List ℕ) → out' ≡ overwrite out so_far.place (begun_after so_far.lost (broken_entry test (row_at t i)))
+      pub reporting_more : (next : ℕ) → next ≡ lost + length (broken_entry test (row_at t i))
+          → (out' : List ℕ) → out' ≡ overwrite out (octets_for lost) (begun_after lost (broken_entry test (row_at t i)))
           → Reporting (i + 1) next out'
-      unfolding flat_map reported_after
-      reporting_more next ne out' oe =
-          let from : ℕ = so_far.place in
-          let lost : ℕ = so_far.lost in
+      unfolding flat_map
+      reporting_more next le out' oe =
           let entry : List LostDestination = broken_entry test (row_at t i) in
           let rest : List LostDestination = lost_from test t n (i + 1) in
           let left : lost_from test t n i ≡ entry ++ rest = ap (flat_map (broken_entry test)) (each_next (row_at t) i n l) in
-          let le : next.lost ≡ lost + length entry = ap (λ (r : Reported). r.lost) ne in
-          let pe : next.place ≡ from + length (begun_after lost entry) = ap (λ (r : Reported). r.place) ne in
+          let pe : octets_for next ≡ octets_for lost + length (begun_after lost entry) = ap octets_for le ∙ sym (begun_length lost entry) in
           record {
             below = omega arith;
             few = omega (arith, stands.few, le, entry_one test (row_at t i));
-            placed = pe ∙ omega (arith, stands.placed, ap octets_for le, begun_length lost entry);
-            filled = ap (λ (r : Reported). r.full) ne ∙ ap filled_by (sym le);
             counted = omega (arith, stands.counted, le, ap length left, length-append entry rest);
             written =
-                ap₂ (λ (u : List ℕ) (p : ℕ). overwrite u p (begun_after next.lost rest)) oe pe
-                ∙ sym (overwrite_append out from (begun_after lost entry) (begun_after next.lost rest))
-                ∙ ap (λ (k : ℕ). overwrite out from (begun_after lost entry ++ begun_after k rest)) le
-                ∙ ap (overwrite out from) (sym (begun_append lost entry rest))
-                ∙ ap (λ (m : List LostDestination). overwrite out from (begun_after lost m)) (sym left)
+                ap₂ (λ (u : List ℕ) (p : ℕ). overwrite u p (begun_after next rest)) oe pe
+                ∙ sym (overwrite_append out (octets_for lost) (begun_after lost entry) (begun_after next rest))
+                ∙ ap (λ (k : ℕ). overwrite out (octets_for lost) (begun_after lost entry ++ begun_after k rest)) le
+                ∙ ap (overwrite out (octets_for lost)) (sym (begun_append lost entry rest))
+                ∙ ap (λ (m : List LostDestination). overwrite out (octets_for lost) (begun_after lost m)) (sym left)
                 ∙ stands.written;
           }
 
@@ -166,45 +126,39 @@ module _ (test : Row → Bool) (t : List ℕ) (n : ℕ) (out₀ : List ℕ) (at 
       unfolding flat_map
       none_left = ap (flat_map (broken_entry test)) (each_end (row_at t) i n l)
 
-      pub all_counted : so_far ≡ reported_from at (all_lost test t n)
-      all_counted =
-          let le : so_far.lost ≡ length (all_lost test t n) = omega (arith, stands.counted, ap length none_left) in
-          same_reported so_far _ le (stands.placed ∙ ap (λ (k : ℕ). at + octets_for k) le) (stands.filled ∙ ap filled_by le)
+      pub all_counted : lost ≡ length (all_lost test t n)
+      all_counted = omega (arith, stands.counted, ap length none_left)
 
-      pub all_written : out ≡ overwrite out₀ at (begun_after 0 (all_lost test t n))
+      pub all_written : out ≡ overwrite out₀ 0 (begun_after 0 (all_lost test t n))
       unfolding overwrite begun_after
       all_written =
-          sym (ap (λ (m : List LostDestination). overwrite out so_far.place (begun_after so_far.lost m)) none_left) ∙ stands.written
+          sym (ap (λ (m : List LostDestination). overwrite out (octets_for lost) (begun_after lost m)) none_left) ∙ stands.written
 
 -- ---- all rows, and the RERRs closed
 
-module _ (test : Row → Bool) (t : List ℕ) (n : ℕ) (ne : n ≡ rows t) (at : ℕ) (r : Reported) (e : r ≡ reported_from at (all_lost test t n)) where
-  le : r.lost ≡ length (all_lost test t n)
-  le = ap (λ (q : Reported). q.lost) e
+-- At most as many rows break as a table has.
+pub lost_few : (test : Row → Bool) (t : List ℕ) → Sized t → (lost : ℕ) → lost ≡ length (broken_entries test t) → lost ≤ most_rows
+unfolding broken_entries
+lost_few test t l lost le = omega (arith, l.not_longer, le, entries_few test (each (row_at t) 0 (rows t)), each_length (row_at t) 0 (rows t))
 
-  pub lost_few : Sized t → r.lost ≤ most_rows
-  lost_few l = omega (arith, l.not_longer, le, ne, entries_few test (each (row_at t) 0 n), each_length (row_at t) 0 n)
-
-  pub lost_placed : r.place ≡ at + octets_for r.lost
-  lost_placed = ap (λ (q : Reported). q.place) e ∙ ap (λ (k : ℕ). at + octets_for k) (sym le)
-
-  pub lost_filled : r.full ≡ filled_by r.lost
-  lost_filled = ap (λ (q : Reported). q.full) e ∙ ap filled_by (sym le)
-
+module _ (test : Row → Bool) (t : List ℕ) (l : Sized t) (n : ℕ) (ne : n ≡ rows t) (lost : ℕ) (le : lost ≡ length (all_lost test t n)) where
   lost_are : all_lost test t n ≡ broken_entries test t
   unfolding broken_entries
   lost_are = ap (all_lost test t) ne
 
-  pub lost_counted : r ≡ reported_from at (broken_entries test t)
-  lost_counted = e ∙ ap (reported_from at) lost_are
+  pub lost_counted : lost ≡ length (broken_entries test t)
+  lost_counted = le ∙ ap length lost_are
 
-  pub errors_closed : Sized t → (output w v : List ℕ) → w ≡ overwrite output at (begun_after 0 (all_lost test t n)) → v ≡ closed w at r.lost
-      → v ≡ overwrite output at (frame_octets (errors_for (broken_entries test t)))
-  errors_closed l output w v we ve =
+  pub lost_in_bounds : (output w : List ℕ) → octets_for most_rows ≤ length output → length w ≡ length output → octets_for lost ≤ length w
+  lost_in_bounds output w room same_length = omega (arith, lost_few test t l lost lost_counted)
+
+  pub errors_closed : (output w v : List ℕ) → w ≡ overwrite output 0 (begun_after 0 (all_lost test t n)) → v ≡ closed w 0 lost
+      → v ≡ overwrite output 0 (frame_octets (errors_for (broken_entries test t)))
+  errors_closed output w v we ve =
       let all : List LostDestination = all_lost test t n in
-      ve ∙ ap₂ (λ (x : List ℕ) (k : ℕ). closed x at k) we le
-      ∙ closes 6 all (omega (arith, le, lost_few l)) output at
-      ∙ ap (λ (m : List LostDestination). overwrite output at (frame_octets (errors_for m))) lost_are
+      ve ∙ ap₂ (λ (x : List ℕ) (k : ℕ). closed x 0 k) we le
+      ∙ closes 6 all (omega (arith, le, lost_few test t l lost lost_counted)) output 0
+      ∙ ap (λ (m : List LostDestination). overwrite output 0 (frame_octets (errors_for m))) lost_are
 
 -- ---- if no row breaks, no row changes
 
@@ -241,24 +195,16 @@ module _ (test : Row → Bool) (t : List ℕ) where
 
 -- ---- the exit
 
-module _ (entries : List LostDestination) (r : Reported) (e : r ≡ reported_from 0 entries) where
-  pub reported_many : r.lost ≡ length entries
-  reported_many = ap (λ (q : Reported). q.lost) e
-
-  pub reported_long : r.place ≡ octets_for r.lost
-  reported_long = ap (λ (q : Reported). q.place) e ∙ zero-add (octets_for (length entries)) ∙ ap octets_for (sym reported_many)
-
-pub broken_exit : (t output w u v : List ℕ) (c : ℕ) (test : Row → Bool) (h : Head) → h ≡ head_at t
-    → (r : Reported) → r ≡ reported_from 0 (broken_entries test t) → r.lost ≤ most_rows
+pub broken_exit : (t output w u v : List ℕ) (c : ℕ) (test : Row → Bool) (h : Head) → h ≡ head_at t → Sized t
+    → (lost : ℕ) → lost ≡ length (broken_entries test t)
     → w ≡ change_where test broken t → v ≡ overwrite output 0 (frame_octets (errors_for (broken_entries test t)))
-    → u ≡ put_head w (head_with h.number h.request c h) → (e : Emitted) → e ≡ record { frames = errors_taken r.lost; octets = octets_for r.lost }
+    → u ≡ put_head w (head_with h.number h.request c h) → (e : Emitted) → e ≡ record { frames = errors_taken lost; octets = octets_for lost }
     → exit_of (Ok e) (lend u) v ≡ at_exit (lend t) output (Ok (broken_off (lend t) c test))
 unfolding broken_off
-broken_exit t output w u v c test h he r re few we ve ue e ee =
+broken_exit t output w u v c test h he l lost le we ve ue e ee =
     let entries : List LostDestination = broken_entries test t in
-    let lost : ℕ = r.lost in
-    let le : lost ≡ length entries = reported_many entries r re in
     let frames : errors_taken lost ≡ length (errors_for entries) = ap errors_taken le ∙ sym (errors_many entries) in
+    let few : lost ≤ most_rows = lost_few test t l lost le in
     let octets : octets_for lost ≡ length (frame_octets (errors_for entries)) = ap octets_for le ∙ sym (errors_long 6 entries (omega (arith, le, few))) in
     accepted_exit (lend t) output (broken_off (lend t) c test) (lend u) v e
     (ap lend (same_number t c h he w (change_where test broken t) u we ue)) ve

@@ -23,8 +23,7 @@ use Rattle.element.proofs.ListParts.{loss_lists}
 use Rattle.writing.proofs.Written.{frame_parts, lost_length}
 use Rattle.rules.specs.Exit.{Frame, frame_octets}
 use Rattle.rules.specs.Errors.{own_error, error_at, errors_taken, errors_for}
-use Rattle.breaking.specs.Reports.{octets_for, error_start, begun_before, begun_after, filled_by, begun_for, reported_after, closed}
-use Rattle.breaking.specs.declared.errors.Reported.{Reported}
+use Rattle.breaking.specs.Reports.{octets_for, error_start, begun_before, begun_after, filled_by, closed}
 
 -- ---- as the proofs of the functions need it
 
@@ -53,56 +52,38 @@ module _ (k : ℕ) where
   unfolding begun_before
   before_one e = rw (eq-eqb (k % 25) 0 e)
 
-pub same_reported : (a b : Reported) → a.lost ≡ b.lost → a.place ≡ b.place → a.full ≡ b.full → a ≡ b
-same_reported a b l p f =
-    ap₂ (λ (k q : ℕ). record { lost = k; place = q; full = a.full }) l p
-    ∙ ap (λ (m : ℕ). record { lost = b.lost; place = b.place; full = m }) f
-
--- Before the next destination, either a RERR is begun or nothing is.
-module _ (b : Reported) (fe : b.full ≡ filled_by b.lost) where
-  module _ (apart : b.lost ≡ b.full → ⊥) where
-    inside : b.lost % 25 ≡ 0 → ⊥
+-- Once k destinations are reported, the next one either begins a RERR or not. The RERRs begun so far hold f destinations.
+module _ (k f : ℕ) (fe : f ≡ filled_by k) where
+  module _ (apart : k ≡ f → ⊥) where
+    inside : k % 25 ≡ 0 → ⊥
     inside z = apart (omega arith)
 
-    pub next_there : b ≡ begun_for b
-    unfolding begun_for
-    next_there =
-        let none : length (begun_before b.lost) ≡ 0 = ap length (before_none b.lost inside) in
-        let rest = inside in
-        same_reported b _ refl (omega arith) (omega arith)
-
-    pub next_same : (s : List ℕ) (at : ℕ) → s ≡ overwrite s at (begun_before b.lost)
+    pub next_same : (s : List ℕ) (at : ℕ) → s ≡ overwrite s at (begun_before k)
     unfolding overwrite
-    next_same s at = rw (before_none b.lost inside)
+    next_same s at = rw (before_none k inside)
 
-  module _ (same : b.lost ≡ b.full) where
-    filled : b.lost % 25 ≡ 0
+  module _ (same : k ≡ f) where
+    filled : k % 25 ≡ 0
     filled = omega arith
 
-    pub next_begun : (p : ℕ) → p ≡ b.place + 10 → record { lost = b.lost; place = p; full = b.full + 25 } ≡ begun_for b
-    unfolding begun_for
-    next_begun p pe =
-        let ten : length (begun_before b.lost) ≡ 10 = ap length (before_one b.lost filled) ∙ start_long 25 in
-        same_reported _ _ refl (omega arith) (omega arith)
-
-    pub next_starts : (s t : List ℕ) (at : ℕ) → t ≡ overwrite s at (error_start 25) → t ≡ overwrite s at (begun_before b.lost)
-    next_starts s t at te = rw (before_one b.lost filled) te
+    pub next_starts : (p : ℕ) → p ≡ octets_for k → (s t : List ℕ) → t ≡ overwrite s p (error_start 25)
+        → t ≡ overwrite s (octets_for k) (begun_before k)
+    next_starts p pe s t te = rw (before_one k filled, ← pe) te
 
   -- The last RERR has its count, or gets it.
-  module _ (s : List ℕ) (at : ℕ) where
-    pub close_none : b.lost ≡ b.full → s ≡ closed s at b.lost
+  module _ (s : List ℕ) where
+    pub close_none : k ≡ f → s ≡ closed s 0 k
     unfolding closed
-    close_none same = rw (eq-eqb (b.lost % 25) 0 (filled same))
+    close_none same = rw (eq-eqb (k % 25) 0 (filled same))
 
-    pub close_last : b.place ≡ at + octets_for b.lost → (b.lost ≡ b.full → ⊥) → (t : List ℕ)
-        → t ≡ overwrite s (b.place - (10 + 10 * (b.lost + 25 - b.full))) (error_start (b.lost + 25 - b.full)) → t ≡ closed s at b.lost
+    pub close_last : (p : ℕ) → p ≡ octets_for k → (k ≡ f → ⊥) → (t : List ℕ)
+        → t ≡ overwrite s (p - (10 + 10 * (k + 25 - f))) (error_start (k + 25 - f)) → t ≡ closed s 0 k
     unfolding closed
-    close_last pe apart t te =
-        let k : ℕ = b.lost in
+    close_last p pe apart t te =
         let rest = inside apart in
-        let count : k + 25 - b.full ≡ k % 25 = omega arith in
-        let start : b.place - (10 + 10 * (k + 25 - b.full)) ≡ at + 260 * (k / 25) = omega arith in
-        rw (ne_eqb (k % 25) 0 (inside apart)) (te ∙ ap₂ (λ (p n : ℕ). overwrite s p (error_start n)) start count)
+        let count : k + 25 - f ≡ k % 25 = omega arith in
+        let start : p - (10 + 10 * (k + 25 - f)) ≡ 0 + 260 * (k / 25) = omega arith in
+        rw (ne_eqb (k % 25) 0 (inside apart)) (te ∙ ap₂ (λ (q n : ℕ). overwrite s q (error_start n)) start count)
 
 -- ---- destinations one after another
 
@@ -133,30 +114,15 @@ begun_length k (x ∷ l) =
       begun_length (suc k) l,
     )
 
--- One destination follows those before, after a RERR is begun for it if one must be.
-module _ (b g : Reported) (ge : g ≡ begun_for b) where
-  begun_place : g.place ≡ b.place + length (begun_before b.lost)
-  unfolding begun_for
-  begun_place = ap (λ (r : Reported). r.place) ge
-
-  pub entry_fits : (s t : List ℕ) → b.place + octets_for (b.lost + 1) ≤ length s + octets_for b.lost → length t ≡ length s
-      → g.place + 10 ≤ length t
-  entry_fits s t l same_length = omega (arith, before_long b.lost, begun_place)
-
-  pub entry_after : (x : LostDestination) (p : ℕ) → p ≡ g.place + 10
-      → record { lost = b.lost + 1; place = p; full = g.full } ≡ reported_after b (x ∷ [])
-  unfolding begun_for reported_after
-  entry_after x p pe =
-      same_reported _ _ refl (omega (arith, before_long b.lost, begun_place, begun_length b.lost (x ∷ [])))
-      (ap (λ (r : Reported). r.full) ge)
-
-  pub entry_added : (s t u : List ℕ) (x : LostDestination) → t ≡ overwrite s b.place (begun_before b.lost) → u ≡ overwrite t g.place (lost_octets x)
-      → u ≡ overwrite s b.place (begun_after b.lost (x ∷ []))
-  unfolding begun_after
-  entry_added s t u x te ue =
-      ue ∙ ap₂ (λ (l : List ℕ) (n : ℕ). overwrite l n (lost_octets x)) te begun_place
-      ∙ sym (overwrite_append s b.place (begun_before b.lost) (lost_octets x))
-      ∙ ap (λ (l : List ℕ). overwrite s b.place (begun_before b.lost ++ l)) (sym (append-nil (lost_octets x)))
+-- One destination follows k others, after a RERR is begun for it if one must be.
+pub entry_added : (k p : ℕ) → p + 10 ≡ octets_for (k + 1) → (s t u : List ℕ) (x : LostDestination)
+    → t ≡ overwrite s (octets_for k) (begun_before k) → u ≡ overwrite t p (lost_octets x) → u ≡ overwrite s (octets_for k) (begun_after k (x ∷ []))
+unfolding begun_after
+entry_added k p pe s t u x te ue =
+    let place : p ≡ octets_for k + length (begun_before k) = omega (arith, before_long k) in
+    ue ∙ ap₂ (λ (l : List ℕ) (n : ℕ). overwrite l n (lost_octets x)) te place
+    ∙ sym (overwrite_append s (octets_for k) (begun_before k) (lost_octets x))
+    ∙ ap (λ (l : List ℕ). overwrite s (octets_for k) (begun_before k ++ l)) (sym (append-nil (lost_octets x)))
 
 -- After 25 more destinations the octets are as before.
 begun_shift : (k : ℕ) (l : List LostDestination) → begun_after (k + 25) l ≡ begun_after k l

@@ -1,6 +1,6 @@
 -- Defines the RERRs of a break while the code writes them. Each RERR is begun with a count of 25, and the last RERR gets its own
 -- count in the end. Only contracts of the code use the definitions of this file. They are no part of what a call is.
-use Rattle.std.specs.Prelude.{ℕ, suc, ◌+◌, ◌*◌, ◌/◌, ◌%◌, cond, List, [], ◌∷◌, ◌++◌, eqb, length}
+use Rattle.std.specs.Prelude.{ℕ, suc, ◌+◌, ◌*◌, ◌/◌, ◌%◌, cond, List, [], ◌∷◌, ◌++◌, eqb}
 use Rattle.octets.specs.LittleEndian.{overwrite}
 use Rattle.element.specs.declared.Kind.TheVariants.{Rerr}
 use Rattle.element.specs.declared.LostDestination.{LostDestination}
@@ -11,7 +11,6 @@ use Rattle.element.specs.Lists.{all_ones}
 use Rattle.element.specs.Layout.{most, size_of}
 use Rattle.element.specs.Octets.{frame_start, start_octets}
 use Rattle.rules.specs.Errors.{errors_taken, own_error}
-use Rattle.breaking.specs.declared.errors.Reported.{Reported}
 
 -- Returns how many octets the RERRs for k destinations take.
 abbrev pub octets_for : ℕ → ℕ
@@ -33,33 +32,6 @@ begun_after k (x ∷ entries) = begun_before k ++ (lost_octets x ++ begun_after 
 -- Returns how many destinations fill the RERRs that k destinations take.
 abbrev pub filled_by : ℕ → ℕ
 filled_by k = most Rerr * errors_taken k
-
--- Returns what is reported once a RERR is begun for one more destination, if one must be begun.
-unfoldable pub begun_for : Reported → Reported
-begun_for before =
-    record {
-      lost = before.lost;
-      place = before.place + length (begun_before before.lost);
-      full = filled_by (before.lost + 1);
-    }
-
--- `reported_after` returns what is reported when the entries follow those reported before. `reported_from` returns what is
--- reported when the entries are all, starting at place `at`.
-unfoldable pub reported_after : Reported → List LostDestination → Reported
-reported_after before entries =
-    record {
-      lost = before.lost + length entries;
-      place = before.place + length (begun_after before.lost entries);
-      full = filled_by (before.lost + length entries);
-    }
-
-abbrev pub reported_from : ℕ → List LostDestination → Reported
-reported_from at entries =
-    record {
-      lost = length entries;
-      place = at + octets_for (length entries);
-      full = filled_by (length entries);
-    }
 
 -- Returns the output s with the count of its last RERR. The RERRs for k destinations stand in s from place `at` on.
 unfoldable pub closed : List ℕ → ℕ → ℕ → List ℕ

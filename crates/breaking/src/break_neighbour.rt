@@ -1,13 +1,14 @@
 // Reports a broken neighbour.
 ghost use Rattle.std.specs.Prelude.{◌≡◌, ◌≤◌, length, Ok};
 ghost use Rattle.layout.specs.Layout.{Sized};
-ghost use Rattle.layout.specs.Row.{is_through};
 ghost use Rattle.rules.specs.Break.{breaking, broken_off};
 ghost use Rattle.rules.specs.Exit.{at_exit, lend, least_output};
 ghost use Rattle.rules.specs.Exits.{break_exit};
 ghost use Rattle.calls.specs.Answers.{answer_to, exit_of};
+ghost use Rattle.breaking.specs.Links.{breaks};
 
-use crate::{errors, report, rows};
+use crate::report;
+use crate::rows::BrokenLink;
 use calls::{Emitted, clocked};
 use layout::address::Address;
 use layout::row;
@@ -22,23 +23,18 @@ fn check(table: &[u8], output: &[u8], clock: u64, neighbour: Address) -> Result<
 }
 
 // Writes the table and the frames of an accepted break. The clock is stored even if no row breaks.
-fn break_off(
-    table: &mut [u8],
-    output: &mut [u8],
-    clock: u64,
-    neighbour: Address,
-) -> Result<Emitted, Refusal>
+fn break_off(table: &mut [u8], output: &mut [u8], link: BrokenLink) -> Result<Emitted, Refusal>
     requires sized { Sized table.old }
     requires least_output_in_bounds { least_output ≤ length output.old }
     ensures { exit_of result (lend table.new) output.new
         ≡ at_exit (lend table.old) output.old
-        (Ok (broken_off (lend table.old) clock (is_through clock neighbour))) }
+        (Ok (broken_off (lend table.old) link.clock (breaks link))) }
 {
     let head = row::read_head(table);
-    let reported = report::report(output, 0, table, clock, neighbour);
-    rows::lose_rows(table, clock, neighbour, reported.lost);
-    clocked::store_head(table, head, head.number, clock);
-    Ok(errors::emitted(reported.lost, reported.place))
+    let reported = report::report(output, table, link);
+    link.lose_rows(table, reported.lost);
+    clocked::store_head(table, head, head.number, link.clock);
+    Ok(reported.emitted())
 }
 
 pub fn break_neighbour(
@@ -51,5 +47,5 @@ pub fn break_neighbour(
         ≡ break_exit (lend table.old) output.old clock neighbour }
 {
     check(table, output, clock, neighbour)?;
-    break_off(table, output, clock, neighbour)
+    break_off(table, output, BrokenLink { clock, neighbour })
 }

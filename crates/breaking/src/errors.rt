@@ -4,8 +4,7 @@ ghost use Rattle.std.specs.Prelude.{◌≡◌, [], ◌∷◌, ◌+◌, ◌≤◌
 ghost use Rattle.octets.specs.LittleEndian.{overwrite};
 ghost use Rattle.layout.specs.Layout.{most_rows};
 ghost use Rattle.rules.specs.Errors.{errors_taken};
-ghost use Rattle.breaking.specs.Reports.{begun_after, begun_before, begun_for, closed, error_start};
-ghost use Rattle.breaking.specs.Reports.{filled_by, octets_for, reported_after};
+ghost use Rattle.breaking.specs.Reports.{begun_after, begun_before, closed, error_start, filled_by, octets_for};
 
 use calls::Emitted;
 use element::{LostDestination, RerrFields, list};
@@ -18,8 +17,17 @@ const MOST_LOST: usize = 25;
 #[derive(Clone, Copy)]
 pub struct Reported {
     pub lost: usize,
-    pub place: usize,
-    pub full: usize,
+    place: usize,
+    full: usize,
+    ghost placed: { place ≡ octets_for lost },
+    ghost filled: { full ≡ filled_by lost },
+}
+
+// Holds the place of the next destination, and the number that fills the RERRs begun so far.
+#[derive(Clone, Copy)]
+struct Begun {
+    place: usize,
+    full: usize,
 }
 
 // Returns how many RERRs `lost` destinations take. It divides in 32 bits, where a division is cheap.
@@ -28,18 +36,6 @@ fn errors_taken(lost: usize) -> u32
     ensures { result ≡ errors_taken lost }
 {
     (lost as u32 + (MOST_LOST as u32 - 1)) / MOST_LOST as u32
-}
-
-// Returns what a break that reports `lost` destinations has written.
-pub fn emitted(lost: usize, octets: usize) -> Emitted
-    requires lost_le_most_rows { lost ≤ most_rows }
-    requires octets_value { octets ≡ octets_for lost }
-    ensures { result ≡ record { frames = errors_taken lost; octets = octets_for lost } }
-{
-    Emitted {
-        frames: errors_taken(lost),
-        octets: octets as u32,
-    }
 }
 
 // Begins a RERR of n destinations at place `at`. Returns the place of its list.
@@ -52,57 +48,72 @@ fn begin(out: &mut [u8], at: usize, n: usize) -> usize
     writing::start_rerr(out, at, Address(list::ALL_ONES), RerrFields { flags: 0 }, n)
 }
 
-// Begins a RERR after the destinations reported before, if they fill the RERRs begun so far.
-fn begin_if_full(out: &mut [u8], before: Reported) -> Reported
-    requires lost_le_most_rows { before.lost ≤ most_rows }
-    requires full_value { before.full ≡ filled_by before.lost }
-    requires lost_in_bounds { before.place + octets_for (before.lost + 1) ≤ length out.old + octets_for before.lost }
-    ensures value { result ≡ begun_for before }
-    ensures out_after { out.new ≡ overwrite out.old before.place (begun_before before.lost) }
-{
-    if before.lost != before.full {
-        return before;
+impl Reported {
+    pub fn nothing() -> Self
+        ensures { result.lost ≡ 0 }
+    {
+        Reported {
+            lost: 0,
+            place: 0,
+            full: 0,
+        }
     }
-    let place = begin(out, before.place, MOST_LOST);
-    Reported {
-        place,
-        full: before.full + MOST_LOST,
-        ..before
-    }
-}
 
-// Adds a destination to those reported before.
-pub fn add(out: &mut [u8], before: Reported, entry: LostDestination) -> Reported
-    requires lost_le_most_rows { before.lost ≤ most_rows }
-    requires full_value { before.full ≡ filled_by before.lost }
-    requires lost_in_bounds { before.place + octets_for (before.lost + 1) ≤ length out.old + octets_for before.lost }
-    ensures value { result ≡ reported_after before (entry ∷ []) }
-    ensures out_after { out.new ≡ overwrite out.old before.place (begun_after before.lost (entry ∷ [])) }
-{
-    let begun = begin_if_full(out, before);
-    let place = writing::write_lost(out, begun.place, entry);
-    Reported {
-        lost: before.lost + 1,
-        place,
-        full: begun.full,
+    // Begins a RERR for one more destination, if those reported fill the RERRs begun so far.
+    fn begin_if_full(self, out: &mut [u8]) -> Begun
+        requires next_in_bounds { octets_for (self.lost + 1) ≤ length out.old }
+        ensures place_after { result.place + 10 ≡ octets_for (self.lost + 1) }
+        ensures full_after { result.full ≡ filled_by (self.lost + 1) }
+        ensures out_after { out.new ≡ overwrite out.old (octets_for self.lost) (begun_before self.lost) }
+    {
+        if self.lost != self.full {
+            return Begun {
+                place: self.place,
+                full: self.full,
+            };
+        }
+        let place = begin(out, self.place, MOST_LOST);
+        Begun {
+            place,
+            full: self.full + MOST_LOST,
+        }
     }
-}
 
-// Gives the last RERR its count, if that is not 25. The first RERR starts at place `at`.
-pub fn close(out: &mut [u8], at: usize, reported: Reported)
-    requires lost_le_most_rows { reported.lost ≤ most_rows }
-    requires place_value { reported.place ≡ at + octets_for reported.lost }
-    requires full_value { reported.full ≡ filled_by reported.lost }
-    requires most_rows_in_bounds { at + octets_for most_rows ≤ length out.old }
-    ensures { out.new ≡ closed out.old at reported.lost }
-{
-    if reported.lost == reported.full {
-        return;
+    // Adds a destination.
+    pub fn add(self, out: &mut [u8], entry: LostDestination) -> Self
+        requires next_in_bounds { octets_for (self.lost + 1) ≤ length out.old }
+        ensures value { result.lost ≡ self.lost + 1 }
+        ensures out_after { out.new ≡ overwrite out.old (octets_for self.lost) (begun_after self.lost (entry ∷ [])) }
+    {
+        let begun = self.begin_if_full(out);
+        let place = writing::write_lost(out, begun.place, entry);
+        Reported {
+            lost: self.lost + 1,
+            place,
+            full: begun.full,
+        }
     }
-    let n = reported.lost + MOST_LOST - reported.full;
-    begin(
-        out,
-        reported.place - (writing::RERR_START + list::LOST * n),
-        n,
-    );
+
+    // Gives the last RERR its count, if that is not 25.
+    pub fn close(self, out: &mut [u8])
+        requires in_bounds { octets_for self.lost ≤ length out.old }
+        ensures { out.new ≡ closed out.old 0 self.lost }
+    {
+        if self.lost == self.full {
+            return;
+        }
+        let n = self.lost + MOST_LOST - self.full;
+        begin(out, self.place - (writing::RERR_START + list::LOST * n), n);
+    }
+
+    // Returns what a break with these destinations has written.
+    pub fn emitted(self) -> Emitted
+        requires { self.lost ≤ most_rows }
+        ensures { result ≡ record { frames = errors_taken self.lost; octets = octets_for self.lost } }
+    {
+        Emitted {
+            frames: errors_taken(self.lost),
+            octets: self.place as u32,
+        }
+    }
 }

@@ -1,9 +1,0 @@
--- `breaking::errors::close` meets its contract: the last RERR has its count, or gets it.
-use Rattle.breaking.proofs.Reported.{close_none, close_last}
-use Rattle.breaking.proofs.errors.close.Goals as goal
-
-pub returns-then-reported : goal.returns-then-reported
-returns-then-reported c = search close_none
-
-pub returns : goal.returns
-returns c = search close_last
