@@ -1,7 +1,7 @@
 -- Laws of the replies, case by case and one after another, as the proofs of the functions need them.
 use Rattle.std.specs.Prelude.{None, Some, Option}
 use Prim.Native.Nat.{ℕ, ◌+◌, ◌-◌, ◌*◌, ◌<◌, ◌≤◌}
-use mathlib.Core.Path.{◌≡◌, refl, sym, ap, ap₂, ◌∙◌}
+use mathlib.Core.Path.{◌≡◌, refl, sym, ap, ap₂, subst, ◌∙◌}
 use mathlib.Core.Bool.{Bool, true, false, not, ◌&&◌}
 use mathlib.Core.List.{List, [], ◌∷◌, ◌++◌, append-nil, flat_map}
 use lib.ListN.{length, length-append}
@@ -34,12 +34,15 @@ use Rattle.writing.proofs.Written.{frame_parts}
 use Rattle.rules.specs.declared.Arrival.{Arrival}
 use Rattle.element.specs.Flags.{reply_wanted, number_unknown}
 use Rattle.rules.specs.Exit.{Frame, frame_octets}
-use Rattle.rules.specs.Destinations.{Answered, reply, reply_fields, own_reply, newer_of, answered_number, for_oneself, for_all_ones, for_another, answered, all_answered}
+use Rattle.rules.specs.Destinations.{Answered, reply, reply_fields, own_reply, newer_of, answered_number, kept_on, for_oneself, for_all_ones, for_another, answered, all_answered}
 use Rattle.rules.proofs.Emitting.{Emits, one_answered, replies_emitted}
 use Rattle.rules.proofs.FrameOctets.{one_frame, frames_append}
 use Rattle.destinations.specs.declared.replies.Replied.{Replied}
+use Rattle.destinations.specs.declared.replies.Reply.{Reply}
+use Rattle.destinations.specs.declared.replies.Reply.TheVariants.{ForItself, ByRow}
+use Rattle.destinations.specs.declared.replies.Said.{Said}
 use Rattle.answering.specs.Answering.{answering_row}
-use Rattle.destinations.specs.Replies.{replied_after, replied_from}
+use Rattle.destinations.specs.Replies.{RepliesTo, by_row, frames_of, number_after, of_oneself, of_row, reply_saying, replied_after, replied_from}
 use Rattle.answering.proofs.AnsweringRows.{another_by, answering_is}
 
 -- ---- one reply
@@ -51,12 +54,19 @@ reply_octets : (to : Address) (f : RrepFields) → frame_octets (reply_frame to 
 unfolding flat_map
 reply_octets to f = one_frame (reply_frame to f) ∙ frame_parts to (rrep f []) ∙ append-nil (frame_start to Rrep 0 (rrep_numbers f))
 
-reply_long : (to : Address) (f : RrepFields) → length (frame_octets (reply_frame to f ∷ [])) ≡ 40
-reply_long to f = ap length (one_frame (reply_frame to f)) ∙ frame_length to (rrep f [])
+module _ (a : Arrival) (p : PathInfo) (x : Said) where
+  reply_long : length (frame_octets (reply_saying a p x ∷ [])) ≡ 40
+  unfolding reply
+  reply_long =
+      let f : RrepFields = reply_fields p x.destination x.number x.hops x.metric in
+      ap length (one_frame (reply_frame a.transmitter f)) ∙ frame_length a.transmitter (rrep f [])
 
-pub reply_written : (s v : List ℕ) (at : ℕ) (to : Address) (f : RrepFields) → v ≡ overwrite s at (frame_start to Rrep 0 (rrep_numbers f))
-    → v ≡ overwrite s at (frame_octets (record { receiver = to; element = rrep f [] } ∷ []))
-reply_written s v at to f e = e ∙ ap (overwrite s at) (sym (reply_octets to f))
+  pub reply_written : (f : RrepFields) → f ≡ reply_fields p x.destination x.number x.hops x.metric → (s v : List ℕ) (at : ℕ)
+      → v ≡ overwrite s at (frame_start a.transmitter Rrep 0 (rrep_numbers f)) → v ≡ overwrite s at (frame_octets (reply_saying a p x ∷ []))
+  unfolding reply
+  reply_written f fe s v at e =
+      e ∙ ap (overwrite s at) (sym (reply_octets a.transmitter f))
+      ∙ ap (λ (g : RrepFields). overwrite s at (frame_octets (reply_frame a.transmitter g ∷ []))) fe
 
 module _ (self : SequenceNumber) (q : Target) (u : Bool) (ue : u ≡ number_unknown q) (b : Bool) (be : b ≡ newer q.number self) where
   pub becomes_requested : (not u && b) ≡ true → q.number ≡ newer_of self q
@@ -65,166 +75,103 @@ module _ (self : SequenceNumber) (q : Target) (u : Bool) (ue : u ≡ number_unkn
   pub stays_own : (not u && b) ≡ false → self ≡ newer_of self q
   stays_own e = rw (← ue, ← be, e)
 
--- A point's reply for itself is the reply of the rules.
-module _ (t s v : List ℕ) (a : Arrival) (p : PathInfo) (n m : SequenceNumber) (me : m ≡ n) (at : ℕ) (h : Head) (he : h ≡ head_at t)
-    (f : RrepFields) (fe : f ≡ reply_fields p h.own m (record { 0 = 0 }) (record { 0 = 0 })) where
-  pub oneself_written : v ≡ overwrite s at (frame_octets (record { receiver = a.transmitter; element = rrep f [] } ∷ []))
-      → v ≡ overwrite s at (frame_octets (own_reply a p (own t) n ∷ []))
-  unfolding reply
-  oneself_written ve =
-      ve ∙ ap (λ (g : RrepFields). overwrite s at (frame_octets (reply_frame a.transmitter g ∷ [])))
-      (fe ∙ ap₂ (λ (k : Head) (x : SequenceNumber). reply_fields p k.own x (record { 0 = 0 }) (record { 0 = 0 })) he me)
+-- ---- the reply to a destination, by its address
 
--- ---- the result x for a destination, where the replies before it end at `before`
+module _ (t : List ℕ) (a : Arrival) (p : PathInfo) (n : SequenceNumber) (q : Target) where
+  -- If the result for the destination is x, a reply with the number and the replies of x is the reply to it.
+  answers : (x : Answered) → answered t a p n q ≡ x → (y : Option Reply) → x.number ≡ number_after n y → x.replies ≡ frames_of a p (own t) y
+      → RepliesTo t a p n q y
+  answers x e y ne re =
+      record {
+        number = ap (λ (z : Answered). z.number) e ∙ ne;
+        replies = ap (λ (z : Answered). z.replies) e ∙ re;
+      }
 
-module _ (before : Replied) where
-  -- The result has no reply, and leaves the own number.
-  module _ (x : Answered) (none_said : x.replies ≡ []) (same_number : x.number ≡ before.number) where
-    silent_place : before ≡ replied_after before x
+  by_row_answers : (o : Option Row) → answered t a p n q ≡ another_by t a p n q o → RepliesTo t a p n q (by_row o)
+  by_row_answers None e = answers (another_by t a p n q None) e None refl refl
+  by_row_answers (Some r) e = answers (another_by t a p n q (Some r)) e (Some (ByRow r)) refl refl
+
+  module _ (h : Head) (he : h ≡ head_at t) (b : Bool) (be : b ≡ same q.address h.own) where
+    module _ (is_self : b ≡ true) (m : SequenceNumber) (me : m ≡ newer_of n q) (k : SequenceNumber) (ke : k ≡ next_number m) where
+      self_answer : answered t a p n q ≡ for_oneself t a p n q
+      unfolding answered
+      self_answer = rw (own_is t h he q.address b true be is_self)
+
+      pub self_answers : RepliesTo t a p n q (Some (ForItself k))
+      unfolding for_oneself answered_number
+      self_answers =
+          subst (λ (i : SequenceNumber). RepliesTo t a p n q (Some (ForItself i))) (ap next_number (sym me) ∙ sym ke)
+          (answers (for_oneself t a p n q) self_answer (Some (ForItself (next_number (newer_of n q)))) refl refl)
+
+    module _ (not_self : b ≡ false) (o : Bool) (oe : o ≡ not (same q.address all_ones)) where
+      module _ (not_ones : o ≡ true) (y : Option Reply) (ye : y ≡ by_row (answering_row t a.clock q)) where
+        other_answer : answered t a p n q ≡ for_another t a p n q (row_for t q.address)
+        unfolding answered
+        other_answer = rw (own_is t h he q.address b false be not_self, not-true (same q.address all_ones) (sym oe ∙ not_ones))
+
+        pub other_answers : RepliesTo t a p n q y
+        other_answers = subst (RepliesTo t a p n q) (sym ye) (by_row_answers (answering_row t a.clock q) (other_answer ∙ answering_is t a p n q))
+
+      module _ (is_ones : o ≡ false) (w : Bool) (we : w ≡ reply_wanted p) where
+        ones_answer : answered t a p n q ≡ for_all_ones t a p n q
+        unfolding answered
+        ones_answer = rw (own_is t h he q.address b false be not_self, not-false (same q.address all_ones) (sym oe ∙ is_ones))
+
+        unwanted : not w ≡ true → for_all_ones t a p n q ≡ kept_on n q
+        unfolding for_all_ones
+        unwanted no_reply = rw (← we, not-true w no_reply)
+
+        pub unwanted_answers : not w ≡ true → RepliesTo t a p n q None
+        unwanted_answers no_reply = answers (kept_on n q) (ones_answer ∙ unwanted no_reply) None refl refl
+
+        module _ (wants_reply : not w ≡ false) (k : SequenceNumber) (ke : k ≡ next_number n) where
+          abbrev said_to_all : Answered
+          said_to_all = record { number = next_number n; replies = own_reply a p (own t) (next_number n) ∷ []; kept = q ∷ [] }
+
+          wanted : for_all_ones t a p n q ≡ said_to_all
+          unfolding for_all_ones
+          wanted = rw (← we, not-false w wants_reply)
+
+          pub wanted_answers : RepliesTo t a p n q (Some (ForItself k))
+          wanted_answers =
+              subst (λ (i : SequenceNumber). RepliesTo t a p n q (Some (ForItself i))) (sym ke)
+              (answers said_to_all (ones_answer ∙ wanted) (Some (ForItself (next_number n))) refl refl)
+
+-- ---- what a reply adds to the replies that end at `before`
+
+module _ (t : List ℕ) (a : Arrival) (p : PathInfo) (q : Target) (before : Replied) (y : Option Reply) (replies_to : RepliesTo t a p before.number q y) where
+  abbrev this : Answered
+  this = answered t a p before.number q
+
+  number_is : (z : Option Reply) → y ≡ z → this.number ≡ number_after before.number z
+  number_is z e = replies_to.number ∙ ap (number_after before.number) e
+
+  replies_are : (z : Option Reply) → y ≡ z → this.replies ≡ frames_of a p (own t) z
+  replies_are z e = replies_to.replies ∙ ap (frames_of a p (own t)) e
+
+  module _ (silent : y ≡ None) where
+    pub silent_place : before ≡ replied_after before this
     unfolding frame_octets flat_map
-    silent_place = rw (none_said, same_number, add-zero before.frames, add-zero before.place)
+    silent_place = rw (number_is None silent, replies_are None silent, add-zero before.frames, add-zero before.place)
 
-    silent_output : (s : List ℕ) → s ≡ overwrite s before.place (frame_octets x.replies)
+    pub silent_output : (s : List ℕ) → s ≡ overwrite s before.place (frame_octets this.replies)
     unfolding frame_octets flat_map overwrite
-    silent_output s = rw none_said
+    silent_output s = rw (replies_are None silent)
 
-  -- The result has one reply.
-  module _ (x : Answered) (to : Address) (f : RrepFields) (said : x.replies ≡ record { receiver = to; element = rrep f [] } ∷ []) where
-    said_place : (n : SequenceNumber) → n ≡ x.number → (place : ℕ) → place ≡ before.place + 40
-        → record { number = n; frames = before.frames + 1; place = place } ≡ replied_after before x
-    said_place n ne place pe = rw (ne, pe, said, reply_long to f)
+  module _ (n : SequenceNumber) (r : Replied) (re : r ≡ record { number = n; frames = before.frames + 1; place = before.place + 40 }) where
+    said_place : this.number ≡ n → (x : Said) → this.replies ≡ reply_saying a p x ∷ [] → r ≡ replied_after before this
+    said_place ne x said = rw (re, ne, said, reply_long a p x)
 
-    said_output : (s v : List ℕ) → v ≡ overwrite s before.place (frame_octets (record { receiver = to; element = rrep f [] } ∷ []))
-        → v ≡ overwrite s before.place (frame_octets x.replies)
-    said_output s v ve = ve ∙ ap (λ (l : List Frame). overwrite s before.place (frame_octets l)) (sym said)
+    pub oneself_place : (z : Reply) → y ≡ Some z → z ≡ ForItself n → r ≡ replied_after before this
+    oneself_place z ye ze =
+        let e : y ≡ Some (ForItself n) = ye ∙ ap Some ze in
+        said_place (number_is (Some (ForItself n)) e) (of_oneself (own t) n) (replies_are (Some (ForItself n)) e)
 
--- ---- to another, by the row that answers
-
-module _ (t : List ℕ) (a : Arrival) (p : PathInfo) (q : Target) (before : Replied) (x : Option Row) (xe : x ≡ answering_row t a.clock q) where
-  abbrev to_another : Answered
-  to_another = for_another t a p before.number q (row_for t q.address)
-
-  another_is : to_another ≡ another_by t a p before.number q x
-  another_is = answering_is t a p before.number q ∙ ap (another_by t a p before.number q) (sym xe)
-
-  module _ (e : x ≡ None) where
-    unanswered : to_another ≡ another_by t a p before.number q None
-    unanswered = another_is ∙ ap (another_by t a p before.number q) e
-
-    pub another_silent_place : before ≡ replied_after before to_another
-    another_silent_place = silent_place before to_another (ap (λ (y : Answered). y.replies) unanswered) (ap (λ (y : Answered). y.number) unanswered)
-
-    pub another_silent_output : (s : List ℕ) → s ≡ overwrite s before.place (frame_octets to_another.replies)
-    another_silent_output = silent_output before to_another (ap (λ (y : Answered). y.replies) unanswered) (ap (λ (y : Answered). y.number) unanswered)
-
-  module _ (r : Row) (e : x ≡ Some r) (f : RrepFields) (fe : f ≡ reply_fields p r.destination r.number r.hops r.metric) where
-    row_answer : to_another ≡ another_by t a p before.number q (Some r)
-    row_answer = another_is ∙ ap (another_by t a p before.number q) e
-
-    row_said : to_another.replies ≡ record { receiver = a.transmitter; element = rrep f [] } ∷ []
-    unfolding reply
-    row_said = ap (λ (y : Answered). y.replies) row_answer ∙ ap (λ (g : RrepFields). reply_frame a.transmitter g ∷ []) (sym fe)
-
-    pub another_said_place : (place : ℕ) → place ≡ before.place + 40
-        → ◌≡◌ {A = Replied} (record { number = before.number; frames = before.frames + 1; place = place }) (replied_after before to_another)
-    another_said_place = said_place before to_another a.transmitter f row_said before.number (ap (λ (y : Answered). y.number) (sym row_answer))
-
-    pub another_said_output : (s v : List ℕ) → v ≡ overwrite s before.place (frame_octets (record { receiver = a.transmitter; element = rrep f [] } ∷ []))
-        → v ≡ overwrite s before.place (frame_octets to_another.replies)
-    another_said_output = said_output before to_another a.transmitter f row_said
-
--- ---- to a destination, by its address
-
-module _ (t : List ℕ) (a : Arrival) (p : PathInfo) (q : Target) (before : Replied) (h : Head) (he : h ≡ head_at t)
-    (b : Bool) (be : b ≡ same q.address h.own) where
-  abbrev to_this : Answered
-  to_this = answered t a p before.number q
-
-  -- If the result for the destination is x, what holds for x holds for the destination.
-  answer_place : (x : Answered) → to_this ≡ x → (r : Replied) → r ≡ replied_after before x → r ≡ replied_after before to_this
-  answer_place x e r re = re ∙ ap (replied_after before) (sym e)
-
-  answer_output : (x : Answered) → to_this ≡ x → (s v : List ℕ) → v ≡ overwrite s before.place (frame_octets x.replies)
-      → v ≡ overwrite s before.place (frame_octets to_this.replies)
-  answer_output x e s v ve = ve ∙ ap (λ (y : Answered). overwrite s before.place (frame_octets y.replies)) (sym e)
-
-  -- The result is a point's reply for itself with the number m.
-  module _ (m : SequenceNumber) (number_is : to_this.number ≡ m) (replies_are : to_this.replies ≡ own_reply a p (own t) m ∷ []) where
-    own_said_place : (r : Replied) → r ≡ record { number = m; frames = before.frames + 1; place = before.place + 40 } → r ≡ replied_after before to_this
-    unfolding reply
-    own_said_place r re = re ∙ said_place before to_this a.transmitter _ replies_are m (sym number_is) (before.place + 40) refl
-
-    own_said_output : (s v : List ℕ) → v ≡ overwrite s before.place (frame_octets (own_reply a p (own t) m ∷ [])) → v ≡ overwrite s before.place (frame_octets to_this.replies)
-    own_said_output s v ve = ve ∙ ap (λ (l : List Frame). overwrite s before.place (frame_octets l)) (sym replies_are)
-
-  module _ (is_self : b ≡ true) (m : SequenceNumber) (me : m ≡ newer_of before.number q) where
-    self_answer : to_this ≡ for_oneself t a p before.number q
-    unfolding answered
-    self_answer = rw (own_is t h he q.address b true be is_self)
-
-    self_next : answered_number before.number q ≡ next_number m
-    unfolding answered_number
-    self_next = ap next_number (sym me)
-
-    self_number : to_this.number ≡ next_number m
-    unfolding for_oneself
-    self_number = ap (λ (y : Answered). y.number) self_answer ∙ self_next
-
-    self_replies : to_this.replies ≡ own_reply a p (own t) (next_number m) ∷ []
-    unfolding for_oneself
-    self_replies = ap (λ (y : Answered). y.replies) self_answer ∙ ap (λ (k : SequenceNumber). own_reply a p (own t) k ∷ []) self_next
-
-    pub self_place : (r : Replied) → r ≡ record { number = next_number m; frames = before.frames + 1; place = before.place + 40 } → r ≡ replied_after before to_this
-    self_place = own_said_place (next_number m) self_number self_replies
-
-    pub self_output : (s v : List ℕ) → v ≡ overwrite s before.place (frame_octets (own_reply a p (own t) (next_number m) ∷ [])) → v ≡ overwrite s before.place (frame_octets to_this.replies)
-    self_output = own_said_output (next_number m) self_number self_replies
-
-  module _ (not_self : b ≡ false) (o : Bool) (oe : o ≡ not (same q.address all_ones)) where
-    module _ (not_ones : o ≡ true) where
-      other_answer : to_this ≡ for_another t a p before.number q (row_for t q.address)
-      unfolding answered
-      other_answer = rw (own_is t h he q.address b false be not_self, not-true (same q.address all_ones) (sym oe ∙ not_ones))
-
-      pub other_place : (r : Replied) → r ≡ replied_after before (for_another t a p before.number q (row_for t q.address))
-          → r ≡ replied_after before to_this
-      other_place = answer_place _ other_answer
-
-      pub other_output : (s v : List ℕ) → v ≡ overwrite s before.place (frame_octets (for_another t a p before.number q (row_for t q.address)).replies)
-          → v ≡ overwrite s before.place (frame_octets to_this.replies)
-      other_output = answer_output _ other_answer
-
-    module _ (is_ones : o ≡ false) (w : Bool) (we : w ≡ reply_wanted p) where
-      ones_answer : to_this ≡ for_all_ones t a p before.number q
-      unfolding answered
-      ones_answer = rw (own_is t h he q.address b false be not_self, not-false (same q.address all_ones) (sym oe ∙ is_ones))
-
-      module _ (no_reply : not w ≡ true) where
-        unwanted : for_all_ones t a p before.number q ≡ record { number = before.number; replies = []; kept = q ∷ [] }
-        unfolding for_all_ones
-        unwanted = rw (← we, not-true w no_reply)
-
-        pub unwanted_place : before ≡ replied_after before to_this
-        unwanted_place =
-            silent_place before to_this (ap (λ (y : Answered). y.replies) (ones_answer ∙ unwanted)) (ap (λ (y : Answered). y.number) (ones_answer ∙ unwanted))
-
-        pub unwanted_output : (s : List ℕ) → s ≡ overwrite s before.place (frame_octets to_this.replies)
-        unwanted_output =
-            silent_output before to_this (ap (λ (y : Answered). y.replies) (ones_answer ∙ unwanted)) (ap (λ (y : Answered). y.number) (ones_answer ∙ unwanted))
-
-      module _ (wants_reply : not w ≡ false) where
-        abbrev next : SequenceNumber
-        next = next_number before.number
-
-        wanted : for_all_ones t a p before.number q ≡ record { number = next; replies = own_reply a p (own t) next ∷ []; kept = q ∷ [] }
-        unfolding for_all_ones
-        wanted = rw (← we, not-false w wants_reply)
-
-        pub wanted_place : (r : Replied) → r ≡ record { number = next; frames = before.frames + 1; place = before.place + 40 } → r ≡ replied_after before to_this
-        wanted_place = own_said_place next (ap (λ (y : Answered). y.number) (ones_answer ∙ wanted)) (ap (λ (y : Answered). y.replies) (ones_answer ∙ wanted))
-
-        pub wanted_output : (s v : List ℕ) → v ≡ overwrite s before.place (frame_octets (own_reply a p (own t) next ∷ [])) → v ≡ overwrite s before.place (frame_octets to_this.replies)
-        wanted_output = own_said_output next (ap (λ (y : Answered). y.number) (ones_answer ∙ wanted)) (ap (λ (y : Answered). y.replies) (ones_answer ∙ wanted))
+  pub row_place : (row : Row) (z : Reply) → y ≡ Some z → z ≡ ByRow row → (r : Replied)
+      → r ≡ record { number = before.number; frames = before.frames + 1; place = before.place + 40 } → r ≡ replied_after before this
+  row_place row z ye ze r re =
+      let e : y ≡ Some (ByRow row) = ye ∙ ap Some ze in
+      said_place before.number r re (number_is (Some (ByRow row)) e) (of_row row) (replies_are (Some (ByRow row)) e)
 
 -- ---- all replies; each takes 40 octets
 

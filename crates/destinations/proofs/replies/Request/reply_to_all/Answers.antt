@@ -1,6 +1,6 @@
 use Rattle.std.proofs.Common.{rules}
 use Rattle.destinations.proofs.Replying.{replying_start, replying_more, all_replied, replies_written}
-use Rattle.destinations.proofs.replies.write_replies.Goals as goal
+use Rattle.destinations.proofs.replies.Request.reply_to_all.Goals as goal
 
 pub loop-i-init : goal.loop-i-init
 loop-i-init c = search (rules, replying_start)
