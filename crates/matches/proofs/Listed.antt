@@ -1,16 +1,14 @@
--- Laws of writing the matches one after another, and of the RERR that they make, as the proofs of the functions need them.
-use Rattle.std.specs.Prelude.{Option, Some, None}
-use Prim.Native.Nat.{ℕ, ◌+◌, ◌-◌, ◌*◌, ◌/◌, ◌<◌, ◌≤◌}
+-- Laws of keeping the matches, and of the RERR that they make, as the proofs of the functions need them.
+use Rattle.std.specs.Prelude.{filter_map}
+use Rattle.std.specs.Bool.{then_some}
+use Rattle.std.specs.List.{cons_option}
+use Prim.Native.Nat.{ℕ, ◌+◌, ◌-◌, ◌*◌, ◌/◌, ◌≤◌}
 use mathlib.Core.Path.{◌≡◌, refl, sym, ap, ◌∙◌}
-use mathlib.Core.Bool.{Bool, true, false, not, cond}
-use mathlib.Core.List.{List, [], ◌∷◌, ◌++◌, flat_map}
+use mathlib.Core.Bool.{Bool, true, false, cond}
+use mathlib.Core.List.{List, [], ◌∷◌, flat_map}
 use lib.ListN.{length}
 use native.Mathlib.Omega.{arith}
-use borrow.Author.Tests.{not-true, not-false}
 use Rattle.octets.specs.LittleEndian.{overwrite}
-use Rattle.layout.specs.declared.row.Row.{Row}
-use Rattle.layout.specs.Layout.{row_at}
-use Rattle.table.specs.Table.{find_row}
 use Rattle.element.specs.declared.Kind.TheVariants.{Rerr}
 use Rattle.element.specs.declared.LostDestination.{LostDestination}
 use Rattle.element.specs.declared.RerrFields.{RerrFields}
@@ -19,86 +17,33 @@ use Rattle.element.specs.Layout.{PartOf}
 use Rattle.element.specs.Entries.{lost_at, lost_in, lost_octets}
 use Rattle.element.specs.Lists.{all_ones}
 use Rattle.element.specs.Octets.{frame_start}
-use Rattle.element.proofs.ListParts.{loss_lists}
-use Rattle.writing.proofs.Listing.{Listing, listing_more, taken_place}
 use Rattle.element.proofs.Scans.{each_length}
 use Rattle.element.proofs.Sizes.{frame_length}
-use Rattle.writing.proofs.Written.{lost_length, started_last}
+use Rattle.writing.proofs.Written.{started_last}
 use Rattle.rules.specs.declared.Arrival.{Arrival}
-use Rattle.rules.specs.Errors.{is_lost_by, matches}
+use Rattle.rules.specs.Errors.{matches}
 use Rattle.rules.specs.Lists.{filter}
 use Rattle.rules.specs.Onward.{to_all}
 use Rattle.rules.specs.Exit.{frame_octets}
 use Rattle.rules.proofs.Alls.{filter_fewer}
-use Rattle.rules.proofs.Branches.{cond_cases}
 use Rattle.rules.proofs.FrameOctets.{one_frame}
-use Rattle.matches.specs.Report.{match_octets, octets_if}
-use Rattle.matches.proofs.LostBy.{match_absent, match_found}
 
 -- Returns the matches among the destinations named.
 abbrev matched : List ℕ → Arrival → List LostDestination → List LostDestination
 matched t a named = filter (matches t a.clock a.transmitter) named
 
--- ---- one destination: written, or not
-
-module _ (a : Arrival) (r : Row) (m : LostDestination) (b : Bool) (be : b ≡ is_lost_by a.clock a.transmitter r) where
-  abbrev octets_by_row : List ℕ
-  octets_by_row = octets_if (is_lost_by a.clock a.transmitter r) m
-
-  pub row_not_lost : not b ≡ true → [] ≡ octets_by_row
-  unfolding octets_if
-  row_not_lost e = rw (← be, not-true b e)
-
-  pub row_lost : not b ≡ false → lost_octets m ≡ octets_by_row
-  unfolding octets_if
-  row_lost e = rw (← be, not-false b e)
-
-  pub lost_place : not b ≡ false → (at p : ℕ) → p ≡ at + 10 → p ≡ at + length octets_by_row
-  lost_place e at p pe = taken_place octets_by_row (lost_octets m) (row_lost e) at p 10 pe (lost_length m)
-
-module _ (t : List ℕ) (a : Arrival) (m : LostDestination) where
-  module _ (f : Option ℕ) (fe : f ≡ find_row t m.address) where
-    pub no_row : f ≡ None → [] ≡ match_octets t a m
-    unfolding match_octets octets_if
-    no_row e = rw (← match_absent t a.clock a.transmitter m f fe e)
-
-    pub by_row : (i : ℕ) → f ≡ Some i → (r : Row) → r ≡ row_at t i → octets_if (is_lost_by a.clock a.transmitter r) m ≡ match_octets t a m
-    unfolding match_octets
-    by_row i e r re = ap (λ (b : Bool). octets_if b m) (match_found t a.clock a.transmitter m f fe i e r re _ refl)
-
-  match_short : length (match_octets t a m) ≤ 10
-  unfolding match_octets octets_if
-  match_short =
-      cond_cases (λ (l : List ℕ). length l ≤ 10) (matches t a.clock a.transmitter m) (λ _. omega (arith, lost_length m)) (λ _. omega arith)
-
--- ---- one after another
-
-pub matches_octets : (t : List ℕ) (a : Arrival) (named : List LostDestination)
-    → flat_map (match_octets t a) named ≡ flat_map lost_octets (matched t a named)
-unfolding match_octets octets_if flat_map
-matches_octets t a [] = refl
-matches_octets t a (m ∷ named) = by (matches t a.clock a.transmitter m) (matches_octets t a named)
+-- Keeping an entry if it passes a test keeps the entries that pass.
+pub kept_are : {A : Type 0} (p : A → Bool) (xs : List A) → filter_map (λ x. then_some (p x) x) xs ≡ filter p xs
+kept_are p [] = refl
+kept_are p (x ∷ xs) = by (p x) (kept_are p xs)
   where
-    by : (b : Bool) → flat_map (match_octets t a) named ≡ flat_map lost_octets (matched t a named)
-        → cond b (lost_octets m) [] ++ flat_map (match_octets t a) named ≡ flat_map lost_octets (cond b (m ∷ matched t a named) (matched t a named))
-    by true rest = ap (λ (l : List ℕ). lost_octets m ++ l) rest
-    by false rest = rest
-
-abbrev pub Reporting : List ℕ → Arrival → List ℕ → List ℕ → ℕ → ℕ → ℕ → ℕ → List ℕ → Type 0
-Reporting t a part out₀ at n = Listing (match_octets t a) (lost_at part) n 10 out₀ at
-
-pub reporting_more : (t : List ℕ) (a : Arrival) (part out₀ : List ℕ) (at n i place : ℕ) (out : List ℕ) → Reporting t a part out₀ at n i place out
-    → i < n → (m : LostDestination) → m ≡ lost_at part i → (place' : ℕ) → place' ≡ place + length (match_octets t a m)
-    → (out' : List ℕ) → out' ≡ overwrite out place (match_octets t a m) → Reporting t a part out₀ at n (i + 1) place' out'
-reporting_more t a part out₀ at n i place out so_far l =
-    listing_more (match_octets t a) (lost_at part) n 10 out₀ at i place out so_far l (match_short t a (lost_at part i))
+    by : (b : Bool) {rest : List _} → rest ≡ filter p xs → cons_option (then_some b x) rest ≡ cond b (x ∷ filter p xs) (filter p xs)
+    by true e = ap (λ (l : List _). x ∷ l) e
+    by false e = e
 
 -- ---- the RERR from place `at` on, by the place after the matches
 
-module _ (t : List ℕ) (a : Arrival) (part : List ℕ) (at end : ℕ) (pe : end ≡ at + 10 + length (flat_map lost_octets (matched t a (lost_in part)))) where
-  many : end ≡ at + 10 + 10 * length (matched t a (lost_in part))
-  many = pe ∙ ap (λ (k : ℕ). at + 10 + k) (loss_lists.long (matched t a (lost_in part)))
-
+module _ (t : List ℕ) (a : Arrival) (part : List ℕ) (at end : ℕ) (many : end ≡ at + 10 + 10 * length (matched t a (lost_in part))) where
   module _ (n : ℕ) (ne : n ≡ (end - (at + 10)) / 10) where
     counted : n ≡ length (matched t a (lost_in part))
     counted = omega (arith, many)

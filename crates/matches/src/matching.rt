@@ -1,5 +1,6 @@
 // Finds the matches of a RERR: destinations with an active row of known number whose next hop is the transmitter.
 ghost use Rattle.std.specs.Prelude.{◌≡◌, not};
+ghost use Rattle.std.specs.Bool.{then_some};
 ghost use Rattle.element.specs.Entries.{lost_in};
 ghost use Rattle.rules.specs.Errors.{is_lost_by, matches};
 ghost use Rattle.rules.specs.Lists.{any};
@@ -18,14 +19,23 @@ pub fn is_lost_by(a: Arrival, r: Row) -> bool
     r.is_through(a.clock, a.transmitter) & (r.known == 1)
 }
 
+// Returns the destination, as received, if it is a match.
+pub fn if_match(table: &[u8], a: Arrival, m: LostDestination) -> Option<LostDestination>
+    requires { Sized table.now }
+    ensures { result ≡ then_some (matches table.now a.clock a.transmitter m) m }
+{
+    let Some(i) = search::find_row(table, m.address) else {
+        return None;
+    };
+    let r = row::read_row(table, i);
+    is_lost_by(a, r).then_some(m)
+}
+
 pub fn is_match(table: &[u8], a: Arrival, m: LostDestination) -> bool
     requires { Sized table.now }
     ensures { result ≡ matches table.now a.clock a.transmitter m }
 {
-    let Some(i) = search::find_row(table, m.address) else {
-        return false;
-    };
-    is_lost_by(a, row::read_row(table, i))
+    if_match(table, a, m).is_some()
 }
 
 // Checks refusal 26: no destination in `part` is a match.

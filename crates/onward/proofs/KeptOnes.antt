@@ -1,93 +1,30 @@
--- Laws of which destinations are kept, case by case and one after another, as the proofs of the functions need them.
+-- Laws of which destinations are kept, case by case, as the proofs of the functions need them.
 use Rattle.std.specs.Prelude.{Option, None, Some, filter_map}
 use Rattle.std.specs.List.{cons_option}
-use Rattle.std.specs.Option.{option_map_or}
-use Prim.Native.Nat.{ℕ, suc, ◌+◌, ◌*◌, ◌/◌, ◌<◌, ◌≤◌}
+use Prim.Native.Nat.{ℕ, suc, ◌/◌, ◌≤◌}
 use mathlib.Core.Path.{◌≡◌, refl, ap, ap₂, ◌∙◌}
 use mathlib.Core.Bool.{Bool, true, false, cond}
-use mathlib.Core.List.{List, [], ◌∷◌, ◌++◌, flat_map}
+use mathlib.Core.List.{List, [], ◌∷◌, ◌++◌}
 use lib.ListN.{length}
 use native.Mathlib.Omega.{arith}
-use Rattle.octets.specs.LittleEndian.{overwrite}
 use Rattle.counters.specs.declared.SequenceNumber.{SequenceNumber}
 use Rattle.layout.specs.declared.row.Row.{Row}
 use Rattle.layout.specs.Address.{same}
 use Rattle.table.specs.Table.{own}
 use Rattle.element.specs.declared.PathInfo.{PathInfo}
 use Rattle.element.specs.declared.Target.{Target}
-use Rattle.element.specs.Entries.{each, All, target_at, target_octets, targets_in}
+use Rattle.element.specs.Entries.{All, target_at, targets_in}
 use Rattle.element.specs.Lists.{all_ones}
-use Rattle.element.proofs.ListParts.{target_lists}
 use Rattle.element.proofs.Scans.{each_length}
-use Rattle.writing.proofs.Written.{target_length}
-use Rattle.writing.proofs.Listing.{Listing, listing_more, listing_counted, taken_place}
 use Rattle.rules.specs.declared.Arrival.{Arrival}
 use Rattle.element.specs.Flags.{has_rf, with_do, reply_wanted}
 use Rattle.rules.specs.Destinations.{Answered, for_oneself, for_all_ones, answered, all_answered}
 use Rattle.rules.proofs.Branches.{cond_cases}
 use Rattle.answering.specs.Answering.{answering_row}
-use Rattle.onward.specs.Kept.{kept_by, kept_of, kept_octets, kept_among}
+use Rattle.onward.specs.Kept.{kept_by, kept_of, kept_among}
 use Rattle.answering.proofs.AnsweringRows.{another_by, answering_is}
 
--- ---- one destination
-
-module _ (t : List ℕ) (c : ℕ) (q : Target) where
-  -- The destination is written, or not.
-  module _ (k : Option Target) (ke : k ≡ kept_of t c q) where
-    kept_octets_lem : option_map_or target_octets k [] ≡ kept_octets t c q
-    unfolding kept_octets
-    kept_octets_lem = rw ke
-
-    module _ (x : Target) (as_x : k ≡ Some x) where
-      pub one_kept : target_octets x ≡ kept_octets t c q
-      one_kept = rw (← kept_octets_lem, as_x)
-
-      pub kept_place : (at r : ℕ) → r ≡ at + 11 → r ≡ at + length (kept_octets t c q)
-      kept_place at r re = taken_place (kept_octets t c q) (target_octets x) one_kept at r 11 re (target_length x)
-
-    pub none_kept : k ≡ None → [] ≡ kept_octets t c q
-    none_kept struck = rw (← kept_octets_lem, struck)
-
-  kept_short : length (kept_octets t c q) ≤ 11
-  unfolding kept_octets
-  kept_short = by (kept_of t c q)
-    where
-      by : (k : Option Target) → length (option_map_or target_octets k []) ≤ 11
-      by None = omega arith
-      by (Some x) = omega (arith, target_length x)
-
--- ---- one after another
-
-abbrev pub Keeping : List ℕ → ℕ → List ℕ → List ℕ → ℕ → ℕ → ℕ → ℕ → List ℕ → Type 0
-Keeping t c part out₀ at n = Listing (kept_octets t c) (target_at part) n 11 out₀ at
-
-pub keeping_more : (t : List ℕ) (c : ℕ) (part out₀ : List ℕ) (at n i place : ℕ) (out : List ℕ) → Keeping t c part out₀ at n i place out
-    → i < n → (q : Target) → q ≡ target_at part i → (place' : ℕ) → place' ≡ place + length (kept_octets t c q)
-    → (out' : List ℕ) → out' ≡ overwrite out place (kept_octets t c q) → Keeping t c part out₀ at n (i + 1) place' out'
-keeping_more t c part out₀ at n i place out so_far l =
-    listing_more (kept_octets t c) (target_at part) n 11 out₀ at i place out so_far l (kept_short t c (target_at part i))
-
--- The kept octets of each destination, joined, are the octets of all kept destinations.
-kept_together : (t : List ℕ) (c : ℕ) (l : List Target) → flat_map (kept_octets t c) l ≡ flat_map target_octets (filter_map (kept_of t c) l)
-unfolding flat_map kept_octets
-kept_together t c [] = refl
-kept_together t c (q ∷ l) = ap (λ (m : List ℕ). kept_octets t c q ++ m) (kept_together t c l) ∙ by (kept_of t c q)
-  where
-    by : (k : Option Target) → option_map_or target_octets k [] ++ flat_map target_octets (filter_map (kept_of t c) l)
-        ≡ flat_map target_octets (cons_option k (filter_map (kept_of t c) l))
-    by None = refl
-    by (Some x) = refl
-
-module _ (t : List ℕ) (c : ℕ) (part : List ℕ) (n : ℕ) (ne : n ≡ length part / 11) where
-  pub kept_octets_among : flat_map (kept_octets t c) (each (target_at part) 0 n) ≡ flat_map target_octets (kept_among t c part)
-  unfolding kept_among
-  kept_octets_among = ap (λ (m : ℕ). flat_map (kept_octets t c) (each (target_at part) 0 m)) ne ∙ kept_together t c (each (target_at part) 0 (length part / 11))
-
-  pub all_counted : (out₀ : List ℕ) (at i place : ℕ) (out : List ℕ) → Keeping t c part out₀ at n i place out → n ≤ i
-      → place ≡ at + 11 * length (kept_among t c part)
-  all_counted out₀ at i place out so_far l =
-      listing_counted (kept_octets t c) (target_at part) n 11 out₀ at i place out so_far (flat_map target_octets (kept_among t c part)) kept_octets_among l
-      ∙ ap (λ (m : ℕ). at + m) (target_lists.long (kept_among t c part))
+-- ---- which destinations are kept
 
 -- A kept destination has the address that it had.
 pub kept_address : (t : List ℕ) (c : ℕ) (q : Target) → All (λ (k : Target). k.address ≡ q.address) (cons_option (kept_of t c q) [])

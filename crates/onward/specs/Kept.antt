@@ -1,12 +1,11 @@
 -- Defines what is kept of a destination. Only contracts of the code use the definitions of this file. The law `kept_is` says that
 -- `kept_of` gives the kept part of `answered`, whatever the own number is.
-use Rattle.std.specs.Prelude.{ℕ, cond, List, [], Option, None, Some, filter_map}
-use Rattle.std.specs.Option.{option_map_or}
+use Rattle.std.specs.Prelude.{ℕ, cond, List, Option, None, Some, filter_map}
 use Rattle.layout.specs.declared.row.Row.{Row}
 use Rattle.layout.specs.Address.{same}
 use Rattle.table.specs.Table.{own}
 use Rattle.element.specs.declared.Target.{Target}
-use Rattle.element.specs.Entries.{target_octets, targets_in}
+use Rattle.element.specs.Entries.{targets_in}
 use Rattle.element.specs.Lists.{all_ones}
 use Rattle.element.specs.Flags.{has_rf, with_do}
 use Rattle.answering.specs.Answering.{answering_row}
@@ -19,10 +18,6 @@ kept_by q (Some r) = cond (has_rf q) (Some (with_do q)) None
 -- Returns the form in which q is kept, or None if q is struck out.
 unfoldable pub kept_of : List ℕ → ℕ → Target → Option Target
 kept_of t c q = cond (same q.address (own t)) None (cond (same q.address all_ones) (Some q) (kept_by q (answering_row t c q)))
-
--- Returns the octets of what is kept of a destination.
-unfoldable pub kept_octets : List ℕ → ℕ → Target → List ℕ
-kept_octets t c q = option_map_or target_octets (kept_of t c q) []
 
 -- Returns the kept destinations of `part`.
 unfoldable pub kept_among : List ℕ → ℕ → List ℕ → List Target

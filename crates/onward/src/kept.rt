@@ -3,12 +3,13 @@ ghost use Rattle.std.specs.Prelude.{◌≡◌, ◌+◌, ◌*◌, ◌≤◌, leng
 ghost use mathlib.Core.List.{flat_map};
 ghost use Rattle.octets.specs.LittleEndian.{overwrite};
 ghost use Rattle.element.specs.Entries.{target_octets};
-ghost use Rattle.onward.specs.Kept.{kept_among, kept_octets, kept_of};
+ghost use Rattle.onward.specs.Kept.{kept_among, kept_of};
 ghost use Rattle.layout.specs.Layout.{Sized};
 
 use element::{Target, flags, list};
 use layout::address::Address;
 use layout::row;
+use writing::kept;
 
 // Returns the form in which a destination is kept in the forwarded RREQ, or None if it is struck out. The own address is struck
 // out. A destination that a row answers for is struck out too, unless RF = 1. With RF = 1 it is kept, with DO set.
@@ -32,19 +33,6 @@ fn kept_of(table: &[u8], clock: u64, q: Target) -> Option<Target>
     Some(flags::with_do(q))
 }
 
-// Writes the destination if it is kept. Returns the place after what was written.
-fn write_if_kept(output: &mut [u8], at: usize, table: &[u8], clock: u64, q: Target) -> usize
-    requires sized { Sized table.now }
-    requires at_in_bounds { at + 11 ≤ length output.old }
-    ensures value { result ≡ at + length (kept_octets table.now clock q) }
-    ensures output_after { output.new ≡ overwrite output.old at (kept_octets table.now clock q) }
-{
-    match kept_of(table, clock, q) {
-        Some(k) => writing::write_target(output, at, k),
-        None => at,
-    }
-}
-
 // Writes the kept destinations of `part`, starting at place `at`. Returns the place after them.
 pub fn write_kept(output: &mut [u8], at: usize, table: &[u8], clock: u64, part: &[u8]) -> usize
     requires sized { Sized table.now }
@@ -53,10 +41,5 @@ pub fn write_kept(output: &mut [u8], at: usize, table: &[u8], clock: u64, part: 
     ensures output_after { output.new
         ≡ overwrite output.old at (flat_map target_octets (kept_among table.now clock part.now)) }
 {
-    let n = part.len() / list::TARGET;
-    let mut place = at;
-    for i in 0..n {
-        place = write_if_kept(output, place, table, clock, list::target_at(part, i));
-    }
-    place
+    kept::write_kept(output, at, part, |q| kept_of(table, clock, q))
 }

@@ -1,9 +1,7 @@
 // Writes an element again as a frame. Each public function returns refusal 2 if the frame does not fit into the output.
 ghost use Rattle.std.specs.Prelude.{◌≡◌, ◌+◌, ◌≤◌, Err, Ok, cond, leb, length};
-ghost use mathlib.Core.List.{flat_map};
-ghost use Rattle.octets.specs.LittleEndian.{overwrite};
 ghost use Rattle.element.specs.Element.{rann, rerr, rrep, rreq};
-ghost use Rattle.element.specs.Entries.{lost_in, lost_octets, numbered_in, target_octets, targets_in};
+ghost use Rattle.element.specs.Entries.{lost_in, numbered_in, targets_in};
 ghost use Rattle.element.specs.Layout.{PartOf};
 ghost use Rattle.element.specs.Octets.{write_frame};
 ghost use Rattle.element.specs.declared.Kind.{Kind};
@@ -12,9 +10,10 @@ ghost use Rattle.refusals.specs.Numbers.{answer_of};
 ghost use Rattle.probe.specs.Probes.{written};
 
 use element::list::ListKind;
-use element::{PathInfo, RerrFields, RrepFields, RreqFields, list};
+use element::{LostDestination, PathInfo, RerrFields, RrepFields, RreqFields, Target, list};
 use layout::address::Address;
 use refusals::Refusal;
+use writing::kept;
 
 // Checks that `size` octets fit into the output from the place `at` on.
 fn check_room(out: &[u8], at: usize, size: usize) -> Result<(), Refusal>
@@ -25,27 +24,6 @@ fn check_room(out: &[u8], at: usize, size: usize) -> Result<(), Refusal>
         Ok(())
     } else {
         Err(Refusal::ShortOutput)
-    }
-}
-
-// `write_targets` and `write_losses` stay apart: a trait for the two types of entry is twice as long as both loops.
-fn write_targets(out: &mut [u8], at: usize, part: &[u8])
-    requires { at + length part.now ≤ length out.old }
-    ensures { out.new ≡ overwrite out.old at (flat_map target_octets (targets_in part.now)) }
-{
-    let n = part.len() / list::TARGET;
-    for i in 0..n {
-        writing::write_target(out, at + list::TARGET * i, list::target_at(part, i));
-    }
-}
-
-fn write_losses(out: &mut [u8], at: usize, part: &[u8])
-    requires { at + length part.now ≤ length out.old }
-    ensures { out.new ≡ overwrite out.old at (flat_map lost_octets (lost_in part.now)) }
-{
-    let n = part.len() / list::LOST;
-    for i in 0..n {
-        writing::write_lost(out, at + list::LOST * i, list::lost_at(part, i));
     }
 }
 
@@ -78,7 +56,7 @@ pub fn write_rreq(
     }
     let n = list::entries_in(part, ListKind::Targets);
     let place = writing::start_rreq(out, at, to, f, n);
-    write_targets(out, place, part);
+    kept::write_kept(out, place, part, |q: Target| Some(q));
     Ok(())
 }
 
@@ -112,6 +90,6 @@ pub fn write_rerr(
     check_room(out, at, writing::RERR_START + part.len())?;
     let n = list::entries_in(part, ListKind::LostDestinations);
     let place = writing::start_rerr(out, at, to, f, n);
-    write_losses(out, place, part);
+    kept::write_kept(out, place, part, |m: LostDestination| Some(m));
     Ok(())
 }

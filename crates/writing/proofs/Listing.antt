@@ -1,82 +1,109 @@
--- Laws of entries written one after another, where an entry may write nothing. `Listing` says how far the output is before entry
--- i, and that writing the rest gives the whole list.
-use Prim.Native.Nat.{ℕ, suc, ◌+◌, ◌-◌, ◌*◌, ◌/◌, ◌<◌, ◌≤◌}
-use mathlib.Core.Path.{◌≡◌, sym, ap, ◌∙◌}
-use mathlib.Core.List.{List, [], ◌++◌, flat_map}
+-- Laws of the kept entries of a list, written one after another. `Listing` says that writing what is kept of the rest gives the
+-- whole list.
+use Rattle.std.specs.Prelude.{Option, None, Some, filter_map}
+use Rattle.std.specs.List.{cons_option}
+use Rattle.std.specs.Option.{option_map_or}
+use Prim.Native.Nat.{ℕ, ◌+◌, ◌-◌, ◌*◌, ◌<◌, ◌≤◌}
+use mathlib.Core.Path.{◌≡◌, refl, sym, ap, ap₂, ◌∙◌}
+use mathlib.Core.List.{List, [], ◌∷◌, ◌++◌, append-nil, flat_map}
 use lib.ListN.{length, length-append}
 use native.Mathlib.Omega.{arith}
-use native.Mathlib.Nat.{add-zero, sub-zero, mul-zero, mul-suc, mul_comm, mul-le-mul_left, div-mul-le_self}
+use native.Mathlib.Nat.{sub-zero, mul-suc}
 use native.Mathlib.Numerals.{add-one}
 use Rattle.octets.specs.LittleEndian.{overwrite}
+use Rattle.octets.proofs.OctetLists.{overwrite_append}
 use Rattle.element.specs.Entries.{each}
 use Rattle.element.proofs.Scans.{each_next, each_end}
-use Rattle.writing.proofs.Written.{entries_more, entries_ended}
 
--- There are n entries, each of at most `size` octets. They are written to the output out₀ from the place `at` on.
-module _ {A : Type 0} (write : A → List ℕ) (entry : ℕ → A) (n size : ℕ) (out₀ : List ℕ) (at : ℕ) where
-  abbrev list_from : ℕ → List ℕ
-  list_from i = flat_map write (each entry i (n - i))
+-- ---- one entry
 
-  abbrev whole_list : List ℕ
-  whole_list = flat_map write (each entry 0 n)
+module _ {A : Type 0} (octets : A → List ℕ) where
+  abbrev octets_if : Option A → List ℕ
+  octets_if o = option_map_or octets o []
+
+  -- An entry is not written.
+  pub none_written : (o : Option A) → o ≡ None → (s : List ℕ) (at : ℕ) → s ≡ overwrite s at (octets_if o)
+  unfolding overwrite
+  none_written o e s at = rw e refl
+
+  joined : (o : Option A) (xs : List A) → flat_map octets (cons_option o xs) ≡ octets_if o ++ flat_map octets xs
+  unfolding flat_map
+  joined None xs = refl
+  joined (Some x) xs = refl
+
+  module _ (size : ℕ) (long : (xs : List A) → length (flat_map octets xs) ≡ size * length xs) where
+    one_long : (x : A) → length (octets x) ≡ size
+    unfolding flat_map
+    one_long x = omega (arith, long (x ∷ []), ap length (append-nil (octets x)))
+
+    -- An entry is written.
+    pub one_place : (o : Option A) (x : A) → o ≡ Some x → (at r : ℕ) → r ≡ at + size → r ≡ at + length (octets_if o)
+    one_place o x e at r re = rw (e, one_long) re
+
+    one_short : (o : Option A) → length (octets_if o) ≤ size
+    one_short None = omega arith
+    one_short (Some x) = omega (arith, one_long x)
+
+    -- The place stays within the octets that the entries so far can have.
+    pub place_bounded : (o : Option A) (at i place place' : ℕ) → place ≤ at + size * i → place' ≡ place + length (octets_if o)
+        → place' ≤ at + size * (i + 1)
+    place_bounded o at i place place' few pe =
+        omega (arith, few, pe, one_short o, ap (λ (k : ℕ). size * k) (add-one i), mul-suc size i)
+
+-- A caller that keeps each entry keeps the list.
+pub all_are_kept : {A : Type 0} (xs : List A) → filter_map Some xs ≡ xs
+all_are_kept [] = refl
+all_are_kept (x ∷ xs) = ap (λ (l : List _). x ∷ l) (all_are_kept xs)
+
+-- ---- one after another
+
+-- There are n entries. What is kept of them is written to the output out₀ from the place `at` on.
+module _ {A : Type 0} (octets : A → List ℕ) (entry : ℕ → A) (keep : A → Option A) (n : ℕ) (out₀ : List ℕ) (at : ℕ) where
+  abbrev kept_from : ℕ → List A
+  kept_from i = filter_map keep (each entry i (n - i))
+
+  abbrev all_kept : List A
+  all_kept = filter_map keep (each entry 0 n)
 
   pub record Listing (i place : ℕ) (out : List ℕ) : Type 0 where
-    pub few : place ≤ at + size * i
-    pub counted : place + length (list_from i) ≡ at + length whole_list
-    pub written : overwrite out place (list_from i) ≡ overwrite out₀ at whole_list
+    pub counted : place + length (flat_map octets (kept_from i)) ≡ at + length (flat_map octets all_kept)
+    pub written : overwrite out place (flat_map octets (kept_from i)) ≡ overwrite out₀ at (flat_map octets all_kept)
 
   pub listing_start : Listing 0 at out₀
-  listing_start = record { few = omega (arith, mul-zero size); counted = rw (sub-zero n); written = rw (sub-zero n) }
+  listing_start = record { counted = rw (sub-zero n); written = rw (sub-zero n) }
+
+  -- The octets of what is kept of the entries from i on, where o is what is kept of entry i.
+  kept_next : (i : ℕ) → i < n → (o : Option A) → o ≡ keep (entry i)
+      → flat_map octets (kept_from i) ≡ option_map_or octets o [] ++ flat_map octets (kept_from (i + 1))
+  kept_next i l o oe =
+      ap (λ (xs : List A). flat_map octets (filter_map keep xs)) (each_next entry i n l)
+      ∙ ap (λ (p : Option A). flat_map octets (cons_option p (kept_from (i + 1)))) (sym oe)
+      ∙ joined octets o (kept_from (i + 1))
 
   module _ (i place : ℕ) (out : List ℕ) (so_far : Listing i place out) where
-    pub listing_more : i < n → length (write (entry i)) ≤ size → (x : A) → x ≡ entry i → (place' : ℕ) → place' ≡ place + length (write x)
-        → (out' : List ℕ) → out' ≡ overwrite out place (write x) → Listing (i + 1) place' out'
-    unfolding flat_map
-    listing_more l short x xe place' pe out' oe =
-        let this : List ℕ = write (entry i) in
-        let left : list_from i ≡ this ++ list_from (i + 1) = ap (flat_map write) (each_next entry i n l) in
-        let after : place' ≡ place + length this = pe ∙ ap (λ (y : A). place + length (write y)) xe in
-        let next : size * (i + 1) ≡ size * i + size = ap (λ (k : ℕ). size * k) (add-one i) ∙ mul-suc size i in
+    pub listing_more : i < n → (o : Option A) → o ≡ keep (entry i) → (place' : ℕ) → place' ≡ place + length (option_map_or octets o [])
+        → (out' : List ℕ) → out' ≡ overwrite out place (option_map_or octets o []) → Listing (i + 1) place' out'
+    listing_more l o oe place' pe out' ue =
+        let this : List ℕ = option_map_or octets o [] in
+        let rest : List ℕ = flat_map octets (kept_from (i + 1)) in
+        let left : flat_map octets (kept_from i) ≡ this ++ rest = kept_next i l o oe in
         record {
-          few = omega (arith, so_far.few, after, short, next);
-          counted = omega (arith, so_far.counted, after, ap length left, length-append this (list_from (i + 1)));
+          counted = omega (arith, so_far.counted, pe, ap length left, length-append this rest);
           written =
-              entries_more write entry n out out' (overwrite out₀ at whole_list) i place place' l
-              (oe ∙ ap (λ (y : A). overwrite out place (write y)) xe) after so_far.written;
+              ap₂ (λ (u : List ℕ) (k : ℕ). overwrite u k rest) ue pe
+              ∙ sym (overwrite_append out place this rest)
+              ∙ ap (overwrite out place) (sym left)
+              ∙ so_far.written;
         }
 
-    -- The output has room for one more entry, if it has room for the list part of m octets from which the entries are read.
-    pub listing_room : (m : ℕ) → n ≡ m / size → i < n → at + m ≤ length out₀ → length out ≡ length out₀ → place + size ≤ length out
-    listing_room m ne l room same_length =
-        let next : size * suc i ≤ size * n = mul-le-mul_left size l in
-        let all : size * n ≤ m = rw (ne, mul_comm size (m / size)) (div-mul-le_self m size) in
-        omega (arith, so_far.few, mul-suc size i)
-
-    -- Here p is the octets that all entries write.
-    module _ (p : List ℕ) (all : whole_list ≡ p) (l : n ≤ i) where
-      pub listing_counted : place ≡ at + length p
+    module _ (l : n ≤ i) where
+      none_left : flat_map octets (kept_from i) ≡ []
       unfolding flat_map
-      listing_counted = omega (arith, so_far.counted, ap (λ (m : List A). length (flat_map write m)) (each_end entry i n l), ap length all)
+      none_left = ap (λ (xs : List A). flat_map octets (filter_map keep xs)) (each_end entry i n l)
 
-      pub listing_written : out ≡ overwrite out₀ at p
-      listing_written = entries_ended write entry n out (overwrite out₀ at whole_list) i place l so_far.written ∙ ap (overwrite out₀ at) all
+      pub listing_counted : (size : ℕ) → ((xs : List A) → length (flat_map octets xs) ≡ size * length xs) → place ≡ at + size * length all_kept
+      listing_counted size long = omega (arith, so_far.counted, ap length none_left, long all_kept)
 
--- An entry that must write the octets p: it writes nothing and p is empty, or it writes the octets q and q is p.
-module _ (p : List ℕ) where
-  module _ (none : [] ≡ p) where
-    pub skipped_place : (at : ℕ) → at ≡ at + length p
-    skipped_place at = sym (add-zero at) ∙ ap (λ (l : List ℕ). at + length l) none
-
-    pub skipped_written : (s : List ℕ) (at : ℕ) → s ≡ overwrite s at p
-    unfolding overwrite
-    skipped_written s at = ap (overwrite s at) none
-
-  module _ (q : List ℕ) (these : q ≡ p) where
-    pub after_these : (at r : ℕ) → r ≡ at + length q → r ≡ at + length p
-    after_these at r e = e ∙ ap (λ (l : List ℕ). at + length l) these
-
-    pub taken_place : (at r size : ℕ) → r ≡ at + size → length q ≡ size → r ≡ at + length p
-    taken_place at r size e long = after_these at r (e ∙ ap (λ (k : ℕ). at + k) (sym long))
-
-    pub taken_written : (s v : List ℕ) (at : ℕ) → v ≡ overwrite s at q → v ≡ overwrite s at p
-    taken_written s v at e = e ∙ ap (overwrite s at) these
+      pub listing_written : out ≡ overwrite out₀ at (flat_map octets all_kept)
+      unfolding overwrite
+      listing_written = sym (ap (overwrite out place) none_left) ∙ so_far.written

@@ -2,6 +2,8 @@
 // start of a frame or an entry returns the place after the octets that it wrote. The rest of the output stays unchanged.
 #![tactic(auto)]
 
+pub mod kept;
+
 ghost use Rattle.std.specs.Prelude.{◌≡◌, ◌++◌, ◌+◌, ◌≤◌, length};
 ghost use Rattle.octets.specs.LittleEndian.{field_octets, number_octets, overwrite, total};
 ghost use Rattle.element.specs.declared.Kind.{Kind};

@@ -1,16 +1,12 @@
+-- `onward::kept::write_kept` meets its contract: it keeps of each destination what `kept_of` returns.
 use Rattle.std.proofs.Common.{rules}
-use Rattle.writing.proofs.Listing.{listing_start, listing_written}
-use Rattle.onward.proofs.KeptOnes.{keeping_more, kept_octets_among, all_counted}
+use Rattle.onward.specs.Kept.{kept_of, kept_among}
 use Rattle.onward.proofs.kept.write_kept.Goals as goal
 
-pub loop-i-init : goal.loop-i-init
-loop-i-init c = search (rules, listing_start)
-
-pub loop-i-preserved : goal.loop-i-preserved
-loop-i-preserved c = search (rules, keeping_more)
-
 pub returns-clause-value : goal.returns-clause-value
-returns-clause-value c = search all_counted
+unfolding kept_among
+returns-clause-value c = c.write_kept.ensures.value (kept_of c.args.table.now c.args.clock) (λ q o h. search rules)
 
 pub returns-clause-output_after : goal.returns-clause-output_after
-returns-clause-output_after c = search (listing_written, kept_octets_among)
+unfolding kept_among
+returns-clause-output_after c = c.write_kept.ensures.out_after (kept_of c.args.table.now c.args.clock) (λ q o h. search rules)

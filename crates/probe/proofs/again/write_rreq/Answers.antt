@@ -1,5 +1,7 @@
 -- `probe::again::write_rreq` meets its contract: it writes the frame if it fits.
+use Rattle.std.proofs.Common.{rules, Some}
 use Rattle.std.proofs.lemmas.Result.{err_from_is_err_and}
+use Rattle.writing.proofs.Listing.{all_are_kept}
 use Rattle.writing.proofs.Written.{rreq_listed}
 use Rattle.probe.proofs.Frames.{no_room, wrote, rreq_size}
 use Rattle.probe.proofs.again.write_rreq.Goals as goal
@@ -13,4 +15,6 @@ pub returns-then-not-singly : goal.returns-then-not-singly
 returns-then-not-singly c = search (wrote, rreq_size, c.in_ok-check_room.was)
 
 pub returns : goal.returns
-returns c = search (wrote, rreq_size, rreq_listed, c.in_ok-check_room.was)
+returns c =
+    let listed = rw all_are_kept at (c.write_kept.ensures.out_after Some (λ q o h. search rules)) in
+    search (wrote, rreq_size, rreq_listed, listed, c.in_ok-check_room.was)
