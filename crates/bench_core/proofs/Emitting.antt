@@ -16,16 +16,16 @@ use Rattle.rules.specs.Exit.{lend, Effect, Exit, at_exit}
 use Rattle.rules.specs.Originate.{ask, announce}
 use Rattle.rules.specs.Break.{break_neighbour}
 use Rattle.rules.specs.Receive.{receive}
-use Rattle.bench_rules.specs.Bench.{Sound}
+use Rattle.bench_rules.specs.Bench.{KeptSoundly}
 use Rattle.bench_rules.specs.Commands.{arrival_from}
 use Rattle.bench_rules.proofs.Sound.{table_octets}
-use Rattle.bench_slots.specs.Slots.{sender_of, element_of}
+use Rattle.bench_slots.specs.Slots.{sender_of, element_of, kept_at}
+use Rattle.bench_slots.specs.declared.Slot.{Slot}
 use Rattle.bench_points.specs.declared.Bench.{Bench}
-use Rattle.bench_points.specs.InCode.{bench_of}
+use Rattle.bench_points.proofs.Invariant.{kept_soundly}
 use Rattle.bench_core.specs.declared.calling.Call.{Call as InCode}
 use Rattle.bench_core.specs.declared.calling.Call.TheVariants.{Ask, Announce, Receive, Break}
 use Rattle.bench_core.specs.InCode.{call_of}
-use Rattle.bench_core.proofs.Settling.{frames_few, kept_soundly}
 
 -- ---- the calls, by their cases
 
@@ -44,10 +44,10 @@ module _ (c : InCode) (slots t output : List ℕ) (x : Exit) where
   unfolding decision
   announcement_made lifetime e h = rw e h
 
-  pub receive_made : (a : Arrival) (k : ℕ) → c ≡ Receive a k → (s : List ℕ) → s ≡ element_of slots k → Comes (receive (lend t) (length output) a s)
+  pub receive_made : (a : Arrival) (slot : Slot) → c ≡ Receive a slot → (s : List ℕ) → s ≡ element_of slots slot.number → Comes (receive (lend t) (length output) a s)
       → Comes decided
   unfolding decision
-  receive_made a k e s se h = rw (e, ← se) h
+  receive_made a slot e s se h = rw (e, ← se) h
 
   pub break_made : (clock : ℕ) (neighbour : Address) → c ≡ Break clock neighbour → Comes (break_neighbour (lend t) (length output) clock neighbour)
       → Comes decided
@@ -66,20 +66,17 @@ module _ (flags : ℕ) (destination : Address) (item : List ℕ) (ie : item ≡ 
 
 -- ---- deliver
 
-module _ (b : Bench) (k p : ℕ) where
-  module _ (kl : k < b.frames) where
-    module _ (sound : Sound (bench_of b)) where
-      pub has_slot : k < 128
-      has_slot = omega (arith, kl, frames_few b sound)
+module _ (b : Bench) (slot : Slot) (k : ℕ) (is-k : (slot.number ≡ k) × (k < b.frames)) where
+  kept : KeptSoundly b.points (kept_at b.slots slot.number)
+  kept = kept_soundly b slot.number (omega (arith, is-k.0, is-k.1))
 
-      module _ (sender : ℕ) (we : sender ≡ sender_of b.slots k) where
-        pub sender_point : sender < 16
-        sender_point = omega (arith, we, (kept_soundly b sound k kl).sender, sound.points)
+  module _ (sender : ℕ) (we : sender ≡ sender_of b.slots slot.number) where
+    pub sender_point : sender < 16
+    sender_point = omega (arith, we, kept.sender, b.few_points)
 
-        module _ (i : ℕ) (is-p : Unit {0} → (i ≡ p) × (p < b.points)) where
-          pub receiver_point : i < 16
-          receiver_point = omega (arith, (is-p tt).0, (is-p tt).1, sound.points)
+    pub receive_fits : (i : ℕ) (a : Arrival) → a ≡ arrival_from b.tables b.links b.clock sender i
+        → OperandsFit (receives a (element_of b.slots slot.number))
+    receive_fits i a ae = (rw ae (number_bound 6 (table_at b.tables 544 sender) 0 (table_octets b.tables sender b.table_octets)), kept.octets)
 
-          module _ (a : Arrival) (ae : a ≡ arrival_from b.tables b.links b.clock sender i) where
-            pub receive_fits : OperandsFit (receives a (element_of b.slots k))
-            receive_fits = (rw ae (number_bound 6 (table_at b.tables 544 sender) 0 (table_octets b.tables sender sound.tables)), (kept_soundly b sound k kl).octets)
+pub receiver_point : (b : Bench) (i p : ℕ) → (i ≡ p) × (p < b.points) → i < 16
+receiver_point b i p is-p = omega (arith, is-p.0, is-p.1, b.few_points)

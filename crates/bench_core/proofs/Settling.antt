@@ -1,13 +1,13 @@
 -- Laws of what the bench keeps after a call that may emit frames: the table and the frames.
 use Prim.Native.Nat.{ℕ, ◌+◌, ◌-◌, ◌*◌, ◌<◌, ◌≤◌}
 use mathlib.Core.Path.{◌≡◌, refl, sym, ap, ap₂, subst, ◌∙◌}
-use mathlib.Core.Bool.{Bool, true, false, cond}
+use mathlib.Core.Bool.{Bool, true, false, not, cond}
 use mathlib.Core.List.{List, ◌++◌}
 use lib.Dec.{ltb}
 use lib.ListN.{length, take, drop, length-append, length-map, length-replicate, take-append-drop}
 use native.Mathlib.Omega.{arith}
 use native.Mathlib.Nat.{add-zero}
-use borrow.Author.Tests.{lt-ltb, le-ltb, ltb-false}
+use borrow.Author.Tests.{lt-ltb, le-ltb, ltb-false, not-true}
 use borrow.Rule.Slice.PartMut.{put_mid}
 use Rattle.std.specs.Prelude.{Result, Ok, Err}
 use Rattle.octets.specs.LittleEndian.{zeros, Octets}
@@ -24,14 +24,16 @@ use Rattle.calls.specs.Answers.{exit_of}
 use Rattle.bench_points.specs.declared.Bench.{Bench}
 use Rattle.bench_points.specs.declared.Printed.{Printed}
 use Rattle.bench_points.specs.declared.Fault.{Fault}
-use Rattle.bench_rules.specs.Bench.{KeptFrame, KeptSoundly, fault, line, Done, Sound, with_table_at, kept_from, settled, called}
+use Rattle.bench_rules.specs.Bench.{KeptFrame, fault, line, Done, WithLinks, with_table_at, kept_from, settled, called}
 use Rattle.bench_rules.specs.Interpreter.{leaving_links}
-use Rattle.bench_rules.proofs.Sound.{table_octets, found_sound}
-use Rattle.bench_points.proofs.Lending.{put_back}
-use Rattle.bench_points.specs.InCode.{bench_of, done_in, came_in}
+use Rattle.bench_rules.proofs.Sound.{table_octets}
+use Rattle.bench_points.proofs.Invariant.{kept_soundly}
+use Rattle.bench_points.proofs.Lending.{put_back, put_octets}
+use Rattle.bench_points.specs.InCode.{Contents, contents, bench_of, done_with, came_in}
 use Rattle.bench_core.specs.InCode.{settled_as, settled_bench, HoldsFrames}
-use Rattle.bench_slots.specs.Slots.{kept_at, kept_in, put_frames, Holds}
-use Rattle.bench_slots.proofs.Keeping.{ShortBelow, frame_found, frames_kept, output_holds}
+use Rattle.bench_slots.specs.Slots.{kept_at, kept_in, kept_slots, put_frames, Holds, SentBelow}
+use Rattle.bench_slots.proofs.Keeping.{ShortBelow, frames_kept, output_holds}
+use Rattle.bench_slots.proofs.Sent.{frames_sent}
 
 -- ---- the frames of a call
 
@@ -67,30 +69,24 @@ module _ (t : List ℕ) (octets : Octets t) (call : Call) (fit : OperandsFit cal
       by (Err n) h = tt
       by (Ok e) h = h
 
--- ---- a bench that is sound
-
-module _ (b : Bench) (sound : Sound (bench_of b)) where
-  pub frames_few : b.frames ≤ 128
-  frames_few = omega (arith, sound.few, each_length (kept_at b.slots) 0 b.frames)
-
-  pub kept_soundly : (k : ℕ) → k < b.frames → KeptSoundly b.points (kept_at b.slots k)
-  kept_soundly k l = found_sound b.points (kept_in b.slots b.frames) sound.frames k (kept_at b.slots k) (frame_found b.slots b.frames k l)
-
 -- The frames that a call leaves in its output are whole.
-pub holds_frames : (b : Bench) → Sound (bench_of b) → (o : Decision Emitted) (u output lent output₀ : List ℕ) (n : ℕ) (call : Call)
+pub holds_frames : (b : Bench) (o : Decision Emitted) (u output lent output₀ : List ℕ) (n : ℕ) (call : Call)
     → exit_of o (lend u) output ≡ at_exit (lend lent) output₀ (decision (lend lent) n call) → OperandsFit call → output₀ ≡ zeros 1560 → n ≡ 1560
     → (i : ℕ) → lent ≡ table_at b.tables 544 i → HoldsFrames o output
-holds_frames b sound o u output lent output₀ n call xe fit ue ne i te =
-    call_holds lent (subst Octets (sym te) (table_octets b.tables i sound.tables)) call fit o u output (xe ∙ rw (ue, ne))
+holds_frames b o u output lent output₀ n call xe fit ue ne i te =
+    call_holds lent (subst Octets (sym te) (table_octets b.tables i b.table_octets)) call fit o u output (xe ∙ rw (ue, ne))
 
 -- ---- a call of point p, from its exit
 
-module _ (b : Bench) (long : length b.slots ≡ 33792) (sound : Sound (bench_of b)) (p : ℕ) where
+abbrev came_with : Result Printed Fault → Contents → WithLinks
+came_with r b = record { done = done_with r b; links = b.links }
+
+module _ (b : Bench) (long : length b.slots ≡ 33792) (p : ℕ) where
   abbrev t : List ℕ
   t = table_at b.tables 544 p
 
-  -- Returns the bench with u as the table of p.
-  abbrev with_table : List ℕ → Bench
+  -- Returns what the bench holds with u as the table of p.
+  abbrev with_table : List ℕ → Contents
   with_table u =
       record { points = b.points; frames = b.frames; clock = b.clock; tables = with_table_at b.tables p u; slots = b.slots; links = b.links }
 
@@ -107,13 +103,13 @@ module _ (b : Bench) (long : length b.slots ≡ 33792) (sound : Sound (bench_of 
       }))
 
   outcome_settled : (o : Decision Emitted) (u output : List ℕ)
-      → done_in (settled_as (with_table u) o) (settled_bench (with_table u) o p output) ≡ settled_at (exit_of o (lend u) output)
+      → done_with (settled_as (with_table u) o) (settled_bench (with_table u) o p output) ≡ settled_at (exit_of o (lend u) output)
   unfolding put_frames frames_in
-  outcome_settled (Err n) u output = rw (add-zero b.frames, le-ltb 128 b.frames (frames_few b sound))
+  outcome_settled (Err n) u output = rw (add-zero b.frames, le-ltb 128 b.frames b.few_frames)
   outcome_settled (Ok e) u output = by (ltb 128 (b.frames + e.frames)) refl
     where
       by : (x : Bool) → ltb 128 (b.frames + e.frames) ≡ x
-          → done_in (settled_as (with_table u) (Ok e)) (settled_bench (with_table u) (Ok e) p output) ≡ settled_at (exit_of (Ok e) (lend u) output)
+          → done_with (settled_as (with_table u) (Ok e)) (settled_bench (with_table u) (Ok e) p output) ≡ settled_at (exit_of (Ok e) (lend u) output)
       by true xe = rw xe
       by false xe = rw xe
 
@@ -127,15 +123,15 @@ module _ (b : Bench) (long : length b.slots ≡ 33792) (sound : Sound (bench_of 
 
   -- No frame that was kept before reaches beyond its slot.
   short_before : ShortBelow b.slots b.frames
-  short_before i l = (kept_soundly b sound i l).short
+  short_before i l = (kept_soundly b i l).short
 
   module _ (call : Call) (fit : OperandsFit call) where
     octets : Octets t
-    octets = table_octets b.tables p sound.tables
+    octets = table_octets b.tables p b.table_octets
 
     decision_settled : (d : Decision Effect) → decision (lend t) 1560 call ≡ d → settled_at (at_exit (lend t) (zeros 1560) d) ≡ settled (bench_of b) p d
     unfolding at_exit settled put_frames frames_in
-    decision_settled (Err n) is = rw (add-zero b.frames, le-ltb 128 b.frames (frames_few b sound), table_back b.tables p)
+    decision_settled (Err n) is = rw (add-zero b.frames, le-ltb 128 b.frames b.few_frames, table_back b.tables p)
     decision_settled (Ok e) is = by (ltb 128 (b.frames + length e.frames)) refl
       where
         new : List KeptFrame
@@ -158,8 +154,8 @@ module _ (b : Bench) (long : length b.slots ≡ 33792) (sound : Sound (bench_of 
     exit : exit_of o (lend u) output ≡ at_exit (lend t) (zeros 1560) (decision (lend t) 1560 call)
     exit = xe ∙ rw (te, ue, ne, (is-p tt).0)
 
-    -- Returns the bench with the table of the call put back.
-    abbrev lent_back : Bench
+    -- Returns what the bench holds with the table of the call put back.
+    abbrev lent_back : Contents
     lent_back =
         record {
           points = b.points;
@@ -173,12 +169,47 @@ module _ (b : Bench) (long : length b.slots ≡ 33792) (sound : Sound (bench_of 
     back : lent_back ≡ with_table u
     back = rw (put_back b.tables u i, (is-p tt).0)
 
-    pub call_done : (r : Result Printed Fault) → r ≡ settled_as lent_back o → (b' : Bench) → b' ≡ settled_bench lent_back o p output
+    pub call_done : (r : Result Printed Fault) → r ≡ settled_as lent_back o → (b' : Bench) → contents b' ≡ settled_bench lent_back o p output
         → came_in r b' ≡ leaving_links b.links (called (bench_of b) p call)
     unfolding called
     call_done r re b' be =
-        let same : came_in r b' ≡ came_in (settled_as (with_table u) o) (settled_bench (with_table u) o p output) =
-        ap₂ came_in (re ∙ ap (λ (k : Bench). settled_as k o) back) (be ∙ ap (λ (k : Bench). settled_bench k o p output) back) in
+        let same : came_in r b' ≡ came_with (settled_as (with_table u) o) (settled_bench (with_table u) o p output) =
+        ap₂ came_with (re ∙ ap (λ (k : Contents). settled_as k o) back) (be ∙ ap (λ (k : Contents). settled_bench k o p output) back) in
         same
         ∙ ap₂ leaving_links (links_stay o u output)
         (outcome_settled o u output ∙ ap settled_at exit ∙ decision_settled call fit (decision (lend t) 1560 call) refl ∙ rw (lt-ltb p b.points (is-p tt).1))
+
+-- ---- what the type of the bench states, after a call
+
+module _ (t : List ℕ) (octets : Octets t) (n : ℕ) (call : Call) (fit : OperandsFit call) (output₀ : List ℕ) where
+  decided_octets : (d : Decision Effect) → decision (lend t) n call ≡ d → Octets (at_exit (lend t) output₀ d).lent.table
+  unfolding at_exit
+  decided_octets (Err r) is = octets
+  decided_octets (Ok e) is = (call_kept (lend t) octets n call fit e is).leaves.whole.octets
+
+  left_octets : (o : Decision Emitted) (u output : List ℕ) → exit_of o (lend u) output ≡ at_exit (lend t) output₀ (decision (lend t) n call) → Octets u
+  left_octets o u output xe =
+      subst Octets (sym (ap (λ (x : Exit). x.lent.table) xe) ∙ table_of o) (decided_octets (decision (lend t) n call) refl)
+    where
+      table_of : (o : Decision Emitted) → (exit_of o (lend u) output).lent.table ≡ u
+      table_of (Err r) = refl
+      table_of (Ok e) = refl
+
+-- The table that the call leaves is octets, and so all tables are.
+pub tables_stay : (b : Bench) (i : ℕ) (o : Decision Emitted) (u output lent output₀ : List ℕ) (n : ℕ) (call : Call)
+    → exit_of o (lend u) output ≡ at_exit (lend lent) output₀ (decision (lend lent) n call) → OperandsFit call → lent ≡ table_at b.tables 544 i
+    → Octets (put_mid (544 * i) (544 * i + 544 - 544 * i) b.tables u)
+tables_stay b i o u output lent output₀ n call xe fit te =
+    put_octets b.tables u i b.table_octets
+    (left_octets lent (subst Octets (sym te) (table_octets b.tables i b.table_octets)) n call fit output₀ o u output xe)
+
+-- The frames are kept only if they are not too many.
+pub few_kept : (kept : Bool) (m : ℕ) → kept ≡ not (ltb 128 m) → kept ≡ true → m ≤ 128
+few_kept kept m e is = ltb-false 128 m (not-true (ltb 128 m) (sym e ∙ is))
+
+-- Points have sent the frames that are kept after the n frames of a call.
+pub sent_after : (b : Bench) (sender n : ℕ) (output slots : List ℕ) → slots ≡ kept_slots b.slots sender b.frames n output → b.frames + n ≤ 128
+    → length b.slots ≡ 33792 → sender < b.points → SentBelow b.points (b.frames + n) slots
+sent_after b sender n output slots se few long is-point =
+    let room = le-ltb 128 (b.frames + n) few in
+    rw (se, room) (frames_sent b.points sender is-point n output b.slots b.frames long few b.sent)

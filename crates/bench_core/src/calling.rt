@@ -3,15 +3,15 @@ ghost use Rattle.std.specs.Prelude.{◌≡◌, length};
 ghost use Rattle.rules.specs.Calls.{OperandsFit, decision};
 ghost use Rattle.rules.specs.Exit.{at_exit, lend};
 ghost use Rattle.calls.specs.Answers.{exit_of};
-ghost use Rattle.bench_rules.specs.Bench.{Sound, called};
+ghost use Rattle.bench_rules.specs.Bench.{called};
 ghost use Rattle.bench_rules.specs.Interpreter.{leaving_links};
 ghost use Rattle.bench_points.specs.InCode.{bench_of, came_in};
-ghost use Rattle.bench_core.specs.InCode.{IsKept, call_of};
+ghost use Rattle.bench_core.specs.InCode.{call_of};
 
 use crate::settle;
 use bench_points::points::TABLE;
 use bench_points::{Bench, Fault, Printed};
-use bench_slots::SLOTS;
+use bench_slots::{SLOTS, Slot};
 use breaking::break_neighbour;
 use calls::{Emitted, LEAST_OUTPUT};
 use layout::address::Address;
@@ -26,7 +26,7 @@ use rules::Arrival;
 pub enum Call {
     Ask(u32, [u8; 7]),
     Announce(u32),
-    Receive(Arrival, usize),
+    Receive(Arrival, Slot),
     Break(u64, Address),
 }
 
@@ -37,7 +37,6 @@ fn make_with(
     output: &mut [u8],
     slots: &[u8; SLOTS],
 ) -> Result<Emitted, Refusal>
-    requires { IsKept call }
     ensures { exit_of result (lend table.new) output.new
         ≡ at_exit (lend table.old) output.old
         (decision (lend table.old) (length output.old) (call_of slots.now call)) }
@@ -45,8 +44,8 @@ fn make_with(
     match call {
         Call::Ask(lifetime, item) => ask::ask(table, output, lifetime, &item),
         Call::Announce(lifetime) => announce::announce(table, output, 0, lifetime),
-        Call::Receive(arrival, k) => {
-            receive::receive(table, output, arrival, bench_slots::element_of(slots, k))
+        Call::Receive(arrival, slot) => {
+            receive::receive(table, output, arrival, bench_slots::element_of(slots, slot))
         }
         Call::Break(clock, neighbour) => {
             break_neighbour::break_neighbour(table, output, clock, neighbour)
@@ -58,9 +57,7 @@ fn make_with(
 // line. It is a fault if there is no point p.
 #[tactic(auto, unfolding(bench_rules::specs::Bench::called))]
 pub fn make_call(bench: &mut Bench, p: u8, call: Call) -> Result<Printed, Fault>
-    requires sound { Sound (bench_of bench.old) }
-    requires kept { IsKept call }
-    requires fits { OperandsFit (call_of bench.old.slots call) }
+    requires { OperandsFit (call_of bench.old.slots call) }
     ensures { came_in result bench.new
         ≡ leaving_links bench.old.links
         (called (bench_of bench.old) p (call_of bench.old.slots call)) }
@@ -68,7 +65,8 @@ pub fn make_call(bench: &mut Bench, p: u8, call: Call) -> Result<Printed, Fault>
     let i = bench.point(p)?;
     let at = TABLE * i;
     let mut output = [0u8; LEAST_OUTPUT];
-    let part = &mut bench.tables[at..at + TABLE];
-    let outcome = make_with(call, part, &mut output, &bench.slots);
+    let Bench { tables, slots, .. } = bench;
+    let part = &mut tables[at..at + TABLE];
+    let outcome = make_with(call, part, &mut output, slots);
     settle::settle(bench, p, outcome, &output)
 }

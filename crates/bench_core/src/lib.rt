@@ -3,6 +3,5 @@
 
 mod calling;
 pub mod interpreter;
-mod operands;
 mod settle;
 mod traffic;

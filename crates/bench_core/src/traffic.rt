@@ -1,7 +1,6 @@
 // The commands that may emit frames: ask, announce, deliver and break.
 ghost use Rattle.std.specs.Prelude.{◌≡◌, ◌∷◌, ◌<◌};
 ghost use Rattle.octets.specs.LittleEndian.{number_octets};
-ghost use Rattle.bench_rules.specs.Bench.{Sound};
 ghost use Rattle.bench_rules.specs.Commands.{announce_self, arrival_from, ask_for, break_off, deliver};
 ghost use Rattle.bench_rules.specs.Interpreter.{leaving_links};
 ghost use Rattle.bench_points.specs.InCode.{bench_of, came_in};
@@ -31,7 +30,6 @@ pub fn ask_for(
     destination: Address,
     lifetime: u32,
 ) -> Result<Printed, Fault>
-    requires { Sound (bench_of bench.old) }
     ensures { came_in result bench.new
         ≡ leaving_links bench.old.links
         (ask_for (bench_of bench.old) p flags destination lifetime) }
@@ -43,7 +41,6 @@ pub fn ask_for(
 // Lets point p announce itself, with flags 0.
 #[tactic(auto, unfolding(bench_rules::specs::Commands::announce_self))]
 pub fn announce_self(bench: &mut Bench, p: u8, lifetime: u32) -> Result<Printed, Fault>
-    requires { Sound (bench_of bench.old) }
     ensures { came_in result bench.new
         ≡ leaving_links bench.old.links (announce_self (bench_of bench.old) p lifetime) }
 {
@@ -65,25 +62,20 @@ fn arrival_from(bench: &Bench, sender: u8, p: usize) -> Arrival
 // Delivers frame k from its sender to point p, whatever the receiver address of the frame is.
 #[tactic(auto, unfolding(bench_rules::specs::Commands::deliver, bench_rules::specs::Bench::called))]
 pub fn deliver_frame(bench: &mut Bench, k: u16, p: u8) -> Result<Printed, Fault>
-    requires { Sound (bench_of bench.old) }
     ensures { came_in result bench.new
         ≡ leaving_links bench.old.links
         (deliver (bench_of bench.old) bench.old.links k p) }
 {
-    let k = k as usize;
-    if bench.frames <= k {
-        return Err(Fault);
-    }
+    let slot = bench.slot(k)?;
     let receiver = bench.point(p)?;
-    let sender = bench_slots::sender_of(&bench.slots, k);
+    let sender = bench_slots::sender_of(&bench.slots, slot);
     let arrival = arrival_from(bench, sender, receiver);
-    calling::make_call(bench, p, Call::Receive(arrival, k))
+    calling::make_call(bench, p, Call::Receive(arrival, slot))
 }
 
 // Lets point p report point q as a broken neighbour. If q is p itself, the call is refused.
 #[tactic(auto, unfolding(bench_rules::specs::Commands::break_off))]
 pub fn break_off(bench: &mut Bench, p: u8, q: u8) -> Result<Printed, Fault>
-    requires { Sound (bench_of bench.old) }
     ensures { came_in result bench.new
         ≡ leaving_links bench.old.links (break_off (bench_of bench.old) p q) }
 {

@@ -12,6 +12,7 @@ use native.Mathlib.Omega.{arith}
 use borrow.Author.Tests.{lt-ltb}
 use borrow.Rule.Slice.PartMut.{put_mid, put_same}
 use Rattle.std.specs.Prelude.{Ok, ⊤, Err}
+use Rattle.octets.specs.LittleEndian.{Octets}
 use Rattle.counters.specs.declared.SequenceNumber.{SequenceNumber}
 use Rattle.layout.specs.declared.address.Address.{Address}
 use Rattle.layout.specs.Address.{individual}
@@ -22,11 +23,14 @@ use Rattle.rules.specs.Exit.{TableExit, table_at_exit}
 use Rattle.rules.specs.Fresh.{make_fresh}
 use Rattle.rules.specs.Walk.{table_at}
 use Rattle.calls.specs.Answers.{table_exit_of}
+use Rattle.bench_rules.specs.Bench.{line, WithLinks}
 use Rattle.bench_rules.specs.Commands.{add_point}
 use Rattle.bench_rules.specs.Interpreter.{leaving_links}
+use Rattle.bench_rules.proofs.Sound.{fresh_is_octets}
+use Rattle.bench_slots.specs.Slots.{kept_in}
 use Rattle.bench_points.specs.declared.Bench.{Bench}
-use Rattle.bench_points.specs.InCode.{bench_of, came_in}
-use Rattle.bench_points.proofs.Lending.{lent_table, put_back}
+use Rattle.bench_points.specs.InCode.{bench_of}
+use Rattle.bench_points.proofs.Lending.{lent_table, put_back, put_octets}
 
 -- The table is made exactly if the answer accepts, because no refusal has number 0.
 module _ (t u : List ℕ) (own : Address) (number : SequenceNumber) (a : Decision ⊤) (ae : table_exit_of a u ≡ table_at_exit t (make_fresh t own number)) where
@@ -64,17 +68,21 @@ module _ (b : Bench) (own : Address) (number : SequenceNumber) where
   abbrev place : ℕ
   place = 544 * b.points
 
-  -- Returns the bench with so many points and these tables.
-  abbrev with_points : ℕ → List ℕ → Bench
-  with_points points tables =
-      record { points = points; frames = b.frames; clock = b.clock; tables = tables; slots = b.slots; links = b.links }
+  -- Returns the line of an answer, with so many points and these tables after it.
+  abbrev line_with : (answer points : ℕ) → (tables : List ℕ) → WithLinks
+  line_with answer points tables =
+      leaving_links b.links (line answer 0 (record { tables = tables; points = points; frames = kept_in b.slots b.frames; clock = b.clock }))
 
   module _ (l : b.points < 16) (t u : List ℕ) (a : Decision ⊤) (ae : table_exit_of a u ≡ table_at_exit t (make_fresh t own number))
       (te : t ≡ take (place + 544 - place) (drop place b.tables)) where
     table_is : t ≡ table_at b.tables 544 b.points
     table_is = te ∙ lent_table b.tables b.points
 
-    pub not_added : (r : Refusal) → a ≡ Err r → (n : ℕ) → n ≡ number_of r → came_in (Ok (record { answer = n; third = 0 })) (with_points b.points (put_mid place (place + 544 - place) b.tables u))
+    -- All tables are octets still.
+    pub octets_added : (done : ⊤) → a ≡ Ok done → Octets (put_mid place (place + 544 - place) b.tables u)
+    octets_added done z = put_octets b.tables u b.points b.table_octets (fresh_is_octets t u own number (made t u own number a ae done z))
+
+    pub not_added : (r : Refusal) → a ≡ Err r → (n : ℕ) → n ≡ number_of r → line_with n b.points (put_mid place (place + 544 - place) b.tables u)
         ≡ leaving_links b.links (add_point (bench_of b) own number)
     unfolding add_point
     not_added r e n ne =
@@ -83,7 +91,7 @@ module _ (b : Bench) (own : Address) (number : SequenceNumber) where
         ap (put_mid place (place + 544 - place) b.tables) (no.same ∙ te) ∙ put_same place (place + 544 - place) b.tables in
         rw (same, lt-ltb b.points 16 l, ← table_is, no.is, no.numbered, ne)
 
-    pub point_added : (done : ⊤) → a ≡ Ok done → came_in (Ok (record { answer = 0; third = 0 })) (with_points (b.points + 1) (put_mid place (place + 544 - place) b.tables u))
+    pub point_added : (done : ⊤) → a ≡ Ok done → line_with 0 (b.points + 1) (put_mid place (place + 544 - place) b.tables u)
         ≡ leaving_links b.links (add_point (bench_of b) own number)
     unfolding add_point
     point_added done z =

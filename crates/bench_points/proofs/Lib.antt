@@ -1,2 +1,3 @@
+pub mod Invariant
 pub mod Lending
 mod Adding

@@ -8,7 +8,6 @@ use crate::{Bench, Fault, Printed};
 // Sets the link metric of points p and q. It is a fault if p or q is no point.
 #[tactic(auto, unfolding(bench_rules::specs::Commands::link))]
 pub fn link_points(bench: &mut Bench, p: u8, q: u8, metric: u32) -> Result<Printed, Fault>
-    requires { bench.old.points ≤ 16 }
     ensures { came_in result bench.new ≡ link (bench_of bench.old) bench.old.links p q metric }
 {
     let p = bench.point(p)?;

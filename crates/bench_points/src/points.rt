@@ -1,6 +1,5 @@
 // The points: their tables side by side, and the commands that add a point, advance the clock and walk between two points.
 ghost use Rattle.std.specs.Prelude.{◌≡◌, ◌<◌, ◌≤◌, length};
-ghost use Rattle.layout.specs.Row.{max_clock};
 ghost use Rattle.layout.specs.Address.{address_of};
 ghost use Rattle.rules.specs.Walk.{table_at};
 ghost use Rattle.bench_rules.specs.Commands.{add_point, advance, walk_to};
@@ -58,7 +57,6 @@ pub fn add_point(bench: &mut Bench, own: Address, number: SequenceNumber) -> Res
 // Advances the clock. A clock above 2^48 - 1 is a fault.
 #[tactic(auto, unfolding(bench_rules::specs::Commands::advance))]
 pub fn advance_clock(bench: &mut Bench, by: u32) -> Result<Printed, Fault>
-    requires { bench.old.clock ≤ max_clock }
     ensures { came_in result bench.new
         ≡ leaving_links bench.old.links (advance (bench_of bench.old) by) }
 {
@@ -76,7 +74,6 @@ pub fn advance_clock(bench: &mut Bench, by: u32) -> Result<Printed, Fault>
 // Walks from point p to point q over the tables of all points. It is a fault if p or q is no point.
 #[tactic(auto, unfolding(bench_rules::specs::Commands::walk_to))]
 pub fn walk_to(bench: &Bench, p: u8, q: u8) -> Result<Printed, Fault>
-    requires { bench.now.points ≤ 16 }
     ensures { done_in result bench.now ≡ walk_to (bench_of bench.now) p q }
 {
     let p = bench.point(p)?;

@@ -43,7 +43,7 @@ Stays (line answer third b) = Sound b
 
 -- ---- octets
 
-octets_take : (n : ℕ) (s : List ℕ) → Octets s → Octets (take n s)
+pub octets_take : (n : ℕ) (s : List ℕ) → Octets s → Octets (take n s)
 unfolding Octets
 octets_take zero s o = octets_nil
 octets_take (suc n) [] o = octets_nil
@@ -53,13 +53,13 @@ pub table_octets : (tables : List ℕ) (p : ℕ) → Octets tables → Octets (t
 unfolding table_at
 table_octets tables p o = octets_take 544 (drop (544 * p) tables) (octets_drop (544 * p) tables o)
 
-with_table_octets : (tables : List ℕ) (p : ℕ) (u : List ℕ) → Octets tables → Octets u → Octets (with_table_at tables p u)
+pub with_table_octets : (tables : List ℕ) (p : ℕ) (u : List ℕ) → Octets tables → Octets u → Octets (with_table_at tables p u)
 unfolding with_table_at
 with_table_octets tables p u o v =
     octets_append (take (544 * p) tables) _ (octets_take (544 * p) tables o)
     (octets_append u _ v (octets_drop 544 (drop (544 * p) tables) (octets_drop (544 * p) tables o)))
 
-fresh_is_octets : (t u : List ℕ) (own : Address) (number : SequenceNumber) → make_fresh t own number ≡ Ok u → Octets u
+pub fresh_is_octets : (t u : List ℕ) (own : Address) (number : SequenceNumber) → make_fresh t own number ≡ Ok u → Octets u
 unfolding make_fresh
 fresh_is_octets t u own number is = subst Octets (passed (making_fresh t own number) u is).1 (fresh_octets (length t) own number)
 
@@ -79,7 +79,7 @@ emitted_sound points p l frames fit =
     frames fit
 
 -- A frame that is found among sound frames is sound.
-pub found_sound : (points : ℕ) (frames : List KeptFrame) → All (KeptSoundly points) frames → (k : ℕ) (f : KeptFrame) → slice_get frames k ≡ Some f
+found_sound : (points : ℕ) (frames : List KeptFrame) → All (KeptSoundly points) frames → (k : ℕ) (f : KeptFrame) → slice_get frames k ≡ Some f
     → KeptSoundly points f
 unfolding All
 found_sound points [] h k f e = absurd (none-some f e)
@@ -177,7 +177,7 @@ module _ (b : Bench) (h : Sound b) where
     abbrev pub Fine : WithLinks → Type 0
     Fine x = Stays x.done
 
-    pub obeyed_sound : (c : ℕ) → Fine (obeyed b links s c)
+    obeyed_sound : (c : ℕ) → Fine (obeyed b links s c)
     unfolding obeyed
     obeyed_sound c =
         cond_cases Fine (eqb c 1) (λ _. point_sound (record { 0 = number_at 6 s 1 }) (record { 0 = number_at 4 s 7 })) (λ _.

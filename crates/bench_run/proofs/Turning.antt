@@ -6,19 +6,17 @@ use mathlib.Core.List.{List, [], ◌++◌, append-nil, append_assoc}
 use lib.ListN.{length, take, drop, length-take, length-drop}
 use lib.Seq.{take-add, drop-drop, drop_at, length-take-le}
 use native.Mathlib.Omega.{arith}
-use Rattle.std.specs.Prelude.{Option, Some}
+use Rattle.std.specs.Prelude.{Option, Some, IfSome}
 use Rattle.octets.specs.LittleEndian.{zeros}
-use Rattle.octets.proofs.Laws.{octets_zero}
-use Rattle.element.specs.Entries.{each, All}
+use Rattle.element.specs.Entries.{each}
 use Rattle.bench_links.specs.Links.{no_links}
-use Rattle.bench_rules.specs.Bench.{Sound}
 use Rattle.bench_rules.specs.Run.{Standing, going, obey_all, at_start}
 use Rattle.bench_rules.proofs.InParts.{Leads, ComesTo, comes_to}
 use Rattle.bench_points.specs.declared.Bench.{Bench}
-use Rattle.bench_points.specs.InCode.{bench_of}
+use Rattle.bench_points.specs.InCode.{Contents, contents, in_rules}
 use Rattle.bench_input.specs.declared.Cursor.{Cursor}
 use Rattle.bench_input.specs.Reading.{left, past, Unread, Extends}
-use Rattle.bench_run.specs.Blocks.{standing, course_of, pauses_in, Stands}
+use Rattle.bench_run.specs.Blocks.{standing, course_of, pauses_in}
 use Rattle.bench_run.specs.Turns.{Reached, Ready, block_course, Turned, ReadAndTurned}
 
 drop_take : (k n : ℕ) (s : List ℕ) → k ≤ n → k ≤ length s → drop k (take n s) ≡ take (n - k) (drop k s)
@@ -29,22 +27,19 @@ drop_take k n s l m =
 
 -- ---- at first
 
-abbrev empty : Bench
-empty = record { points = 0; frames = 0; clock = 0; tables = zeros 8704; slots = zeros 33792; links = no_links }
-
-sound_at_start : Sound (bench_of empty)
-unfolding each All
-sound_at_start = record { points = omega arith; clock = omega arith; tables = octets_zero 8704; few = omega arith; frames = tt }
+-- Returns where a bench stands that holds these contents.
+abbrev standing_with : Contents → (offset : ℕ) → Standing
+standing_with b offset = record { bench = in_rules b; links = b.links; offset = offset }
 
 module _ (c : Cursor) (ce : c ≡ record { from = 0; filled = 0; last = false; offset = 0 }) where
-  pub first_ready : (b : Bench) → b ≡ empty → (buffer : List ℕ) → Ready c buffer b
+  pub first_ready : (b : Bench) → contents b ≡ record { points = 0; frames = 0; clock = 0; tables = zeros 8704; slots = zeros 33792; links = no_links }
+      → (buffer : List ℕ) → Ready c buffer b
   unfolding each
   first_ready b be buffer =
-      rw (ce, be)
+      rw ce
       (record {
-        sound = sound_at_start;
         unread = record { forward = omega arith; inside = omega arith };
-        reached = record { input = []; printed = []; goes_on = λ more. refl };
+        reached = subst (λ (h : Contents). Reached (standing_with h 0) []) (sym be) (record { input = []; printed = []; goes_on = λ more. refl });
       })
 
   pub first_offset : c.offset ≡ 0
@@ -78,7 +73,6 @@ pub refilled : (c : Cursor) (b : Bench) (buffer : List ℕ) → Ready c buffer b
     → Extends (left c buffer) (left c' buffer') → Ready c' buffer' b
 refilled c b buffer ready c' buffer' unread oe more =
     record {
-      sound = ready.sound;
       unread = unread;
       reached = rw oe (more_reached (standing b c.offset) (left c buffer) (left c' buffer') ready.reached more);
     }
@@ -89,28 +83,28 @@ module _ (c : Cursor) (b : Bench) (buffer : List ℕ) (ready : Ready c buffer b)
   abbrev x : Standing
   x = standing b c.offset
 
-  module _ (used : ℕ) (is : Unit {0} → o ≡ Some used) (st : Stands o (length (left c buffer)) b') where
+  module _ (used : ℕ) (is : Unit {0} → o ≡ Some used) (few-used : IfSome o (λ k. k ≤ length (left c buffer))) where
     abbrev x' : Standing
     x' = standing b' (c.offset + used)
 
     course : going text x' ≡ block_course c.last x (left c buffer)
     course = rw (is tt) at oe
 
-    stands : Stands (Some used) (length (left c buffer)) b'
-    stands = subst (λ (k : Option ℕ). Stands k (length (left c buffer)) b') (is tt) st
+    inside-left : used ≤ length (left c buffer)
+    inside-left = subst (λ (r : Option ℕ). IfSome r (λ k. k ≤ length (left c buffer))) (is tt) few-used
 
     long : length (left c buffer) ≡ c.filled - c.from
     long = let k = ready.unread.inside in omega (arith, length-take (c.filled - c.from) (drop c.from buffer), length-drop c.from buffer, k)
 
     few : used ≤ c.filled - c.from
-    few = omega (arith, stands.0, long)
+    few = omega (arith, inside-left, long)
 
     module _ (after : Cursor) (ae : after ≡ past c used) where
       some_left : drop used (left c buffer) ≡ left after buffer
       some_left =
           let inside = length-take (c.filled - c.from) (drop c.from buffer) in
           let places : c.filled - c.from - used ≡ c.filled - (c.from + used) = omega arith in
-          drop_take used (c.filled - c.from) (drop c.from buffer) few (omega (arith, stands.0, inside))
+          drop_take used (c.filled - c.from) (drop c.from buffer) few (omega (arith, inside-left, inside))
           ∙ ap₂ (λ (n : ℕ) (r : List ℕ). take n r) places (drop-drop used c.from buffer)
           ∙ ap (λ (k : Cursor). left k buffer) (sym ae)
 
@@ -124,7 +118,6 @@ module _ (c : Cursor) (b : Bench) (buffer : List ℕ) (ready : Ready c buffer b)
       pub goes_on : Ready after buffer b'
       goes_on =
           record {
-            sound = stands.1;
             unread = rw ae (record { forward = omega (arith, few, ready.unread.forward); inside = ready.unread.inside });
             reached = subst (λ (k : ℕ). Reached (standing b' k) (left after buffer)) (sym (ap (λ (k : Cursor). k.offset) ae)) reached;
           }

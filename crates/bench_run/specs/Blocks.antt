@@ -1,8 +1,7 @@
 -- Defines what the code holds of a run while it obeys a block of the input. Only contracts of the code use the definitions of
 -- this file.
-use Rattle.std.specs.Prelude.{ℕ, ◌+◌, ◌-◌, ◌<◌, ◌≤◌, ◌≡◌, Bool, not, ◌&&◌, ◌||◌, List, length, drop, Option, Some, None}
+use Rattle.std.specs.Prelude.{ℕ, ◌+◌, ◌-◌, ◌<◌, ◌≡◌, Bool, not, ◌&&◌, ◌||◌, List, length, drop, Option, Some, None}
 use Rattle.rules.specs.Decision.{◌below◌}
-use Rattle.bench_rules.specs.Bench.{Sound}
 use Rattle.bench_rules.specs.Interpreter.{is_cut}
 use Rattle.bench_rules.specs.Run.{Standing, Course, going, ended, behind}
 use Rattle.bench_points.specs.declared.Bench.{Bench}
@@ -22,11 +21,6 @@ course_of (Some used) offset b text = going text (standing b (offset + used))
 -- have no room for a line.
 unfoldable pub pauses_in : (last : Bool) → (text s : List ℕ) → Bool
 pauses_in last text s = (not last && is_cut s) || (65536 - length text) below 64
-
--- States what the functions know about a block of n octets and about the bench, unless a fault has ended it.
-abbrev pub Stands : (used : Option ℕ) → (n : ℕ) → Bench → Type 0
-Stands None n b = Unit {0}
-Stands (Some used) n b = (used ≤ n) × Sound (bench_of b)
 
 -- States that a command which printed a line uses exactly its own octets, and at least one.
 abbrev pub Uses : (used : ℕ) → (after : Option ℕ) → (block : List ℕ) → Type 0

@@ -1,11 +1,9 @@
 -- Defines the turns of the bench. Each turn reads and obeys a block. Only contracts of the code use the definitions of this file.
 use Rattle.std.specs.Prelude.{ℕ, ◌+◌, ◌≡◌, Bool, true, ◌&&◌, List, [], ◌++◌, eqb, length, Option, Some, None, is_none, IfSome}
-use Rattle.bench_rules.specs.Bench.{Sound}
 use Rattle.bench_rules.specs.Run.{Standing, at_start, Course, going, ended, obey_until, obey_all}
 use Rattle.bench_input.specs.declared.Cursor.{Cursor}
 use Rattle.bench_input.specs.Reading.{left, past, Unread, Extends}
 use Rattle.bench_points.specs.declared.Bench.{Bench}
-use Rattle.bench_points.specs.InCode.{bench_of}
 use Rattle.bench_run.specs.Blocks.{standing, pauses_in}
 
 -- States that some input has led the bench to x, with the octets `left` still to be obeyed. Whatever octets come in later, to
@@ -26,7 +24,6 @@ block_course last x block = obey_until (pauses_in last) (length block) (going []
 
 -- States what a turn finds.
 pub record Ready (c : Cursor) (buffer : List ℕ) (b : Bench) : Type 0 where
-  pub sound : Sound (bench_of b)
   pub unread : Unread c buffer
   pub reached : Reached (standing b c.offset) (left c buffer)
 

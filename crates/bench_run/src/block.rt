@@ -1,9 +1,7 @@
 // Obeys the commands of a block, one after another, and adds the lines that they print to a text.
-ghost use Rattle.std.specs.Prelude.{◌≡◌, [], ◌+◌, ◌<◌, ◌≤◌, drop, length};
-ghost use Rattle.bench_rules.specs.Bench.{Sound};
+ghost use Rattle.std.specs.Prelude.{IfSome, ◌≡◌, [], ◌+◌, ◌<◌, ◌≤◌, drop, length};
 ghost use Rattle.bench_rules.specs.Run.{going, obey_first, obey_until};
-ghost use Rattle.bench_points.specs.InCode.{bench_of};
-ghost use Rattle.bench_run.specs.Blocks.{Stands, Uses, course_of, pauses_in, standing};
+ghost use Rattle.bench_run.specs.Blocks.{Uses, course_of, pauses_in, standing};
 
 use bench_core::interpreter;
 use bench_points::{Bench, Fault};
@@ -15,10 +13,9 @@ use std::io::Print;
 fn step(block: &[u8], offset: u64, used: usize, bench: &mut Bench, text: &mut Text) -> Option<usize>
     requires in_bounds { (used < length block.now) × (length text.old + 64 ≤ 65536) }
     requires block_bound { offset + length block.now < 18446744073709551616 }
-    requires sound { Sound (bench_of bench.old) }
     ensures text_after { course_of result offset bench.new text.new
         ≡ obey_first text.old (standing bench.old (offset + used)) (drop used block.now) }
-    ensures stands { Stands result (length block.now) bench.new }
+    ensures used_bound { IfSome result (λ after. after ≤ length block.now) }
     ensures uses { Uses used result block.now }
 {
     match interpreter::obey_first(&block[used..], bench) {
@@ -46,12 +43,11 @@ pub fn obey_block(
     bench: &mut Bench,
     text: &mut Text,
 ) -> Option<usize>
-    requires sound { Sound (bench_of bench.old) }
-    requires block_bound { offset + length block.now < 18446744073709551616 }
+    requires { offset + length block.now < 18446744073709551616 }
     ensures text_after { course_of result offset bench.new text.new
         ≡ obey_until (pauses_in last) (length block.now)
         (going [] (standing bench.old offset)) block.now }
-    ensures stands { Stands result (length block.now) bench.new }
+    ensures used_bound { IfSome result (λ after. after ≤ length block.now) }
 {
     text.clear();
     let mut used = 0;

@@ -1,2 +1,3 @@
 pub mod Slots
 pub mod Keeping
+pub mod Sent

@@ -1,6 +1,6 @@
 -- Defines the frames of the bench, as the code holds them. Each frame has a slot of 264 octets: the number of its sender (1), the
 -- receiver address (6) and the element (at most 257).
-use Rattle.std.specs.Prelude.{ℕ, zero, suc, ◌+◌, ◌*◌, ◌≤◌, cond, List, [], ◌∷◌, length, get_or, take, drop}
+use Rattle.std.specs.Prelude.{ℕ, zero, suc, ◌+◌, ◌*◌, ◌<◌, ◌≤◌, cond, List, [], ◌∷◌, length, get_or, take, drop}
 use Rattle.octets.specs.LittleEndian.{overwrite}
 use Rattle.element.specs.Entries.{each}
 use Rattle.rules.specs.Decision.{◌above◌}
@@ -22,6 +22,10 @@ kept_at slots k = record { sender = sender_of slots k; element = element_of slot
 -- Returns the frames in the first n slots.
 abbrev pub kept_in : (slots : List ℕ) → (n : ℕ) → List KeptFrame
 kept_in slots n = each (kept_at slots) 0 n
+
+-- States that points below this number sent the frames in the first n slots.
+abbrev pub SentBelow : (points n : ℕ) → (slots : List ℕ) → Type 0
+SentBelow points n slots = (i : ℕ) → i < n → sender_of slots i < points
 
 -- Returns the slots with these frames of a sender in slots k, k + 1 and so on.
 unfoldable pub put_frames : (slots : List ℕ) → (sender k : ℕ) → List (List ℕ) → List ℕ

@@ -2,7 +2,7 @@
 #![tactic(auto)]
 
 ghost use Rattle.std.specs.Prelude.{◌≡◌, not, ◌∷◌, ◌+◌, ◌*◌, ◌<◌, ◌≤◌, get_or, length};
-ghost use Rattle.octets.specs.LittleEndian.{overwrite};
+ghost use Rattle.octets.specs.LittleEndian.{Octets, overwrite};
 ghost use Rattle.rules.specs.Decision.{◌above◌};
 ghost use Rattle.rules.specs.Exit.{frames_in};
 ghost use Rattle.bench_slots.specs.Slots.{Holds, element_of, kept_slots, put_frames, sender_of};
@@ -10,10 +10,17 @@ ghost use Rattle.bench_slots.specs.Slots.{Holds, element_of, kept_slots, put_fra
 pub const MOST_FRAMES: usize = 128;
 
 // The octets of a slot: sender (1), receiver address (6), ID (1), Length (1) and at most 255 octets after Length.
-pub const SLOT: usize = 264;
+pub const SLOT_OCTETS: usize = 264;
 
 // The octets of all slots.
-pub const SLOTS: usize = MOST_FRAMES * SLOT;
+pub const SLOTS: usize = MOST_FRAMES * SLOT_OCTETS;
+
+// The number of a slot. It is below 128, so that the slot lies inside the slots.
+#[derive(Clone, Copy)]
+pub struct Slot {
+    pub number: usize,
+    ghost in_slots: { number < 128 },
+}
 
 // Returns how many octets the frame at place `at` has, by its Length.
 fn frame_length(output: &[u8], at: usize) -> usize
@@ -25,13 +32,12 @@ fn frame_length(output: &[u8], at: usize) -> usize
     8 + length as usize
 }
 
-// Writes one frame and the number of its sender into slot k.
-fn keep_frame(slots: &mut [u8; SLOTS], k: usize, sender: u8, frame: &[u8])
-    requires k_bound { k < 128 }
-    requires frame_len_bound { length frame.now ≤ 263 }
-    ensures { slots.new ≡ overwrite slots.old (264 * k) (sender ∷ frame.now) }
+// Writes one frame and the number of its sender into a slot.
+fn keep_frame(slots: &mut [u8; SLOTS], slot: Slot, sender: u8, frame: &[u8])
+    requires { length frame.now ≤ 263 }
+    ensures { slots.new ≡ overwrite slots.old (264 * slot.number) (sender ∷ frame.now) }
 {
-    let at = SLOT * k;
+    let at = SLOT_OCTETS * slot.number;
     slots[at] = sender;
     octets::write_octets(slots, at + 1, frame);
 }
@@ -45,7 +51,8 @@ fn keep_frames(slots: &mut [u8; SLOTS], output: &[u8], sender: u8, first: usize,
     let mut at = 0;
     for i in 0..n {
         let end = at + frame_length(output, at);
-        keep_frame(slots, first + i, sender, &output[at..end]);
+        let slot = Slot { number: first + i };
+        keep_frame(slots, slot, sender, &output[at..end]);
         at = end;
     }
 }
@@ -63,6 +70,7 @@ pub fn keep_emitted(
     requires holds { Holds n output.now }
     ensures value { result ≡ not ((before + n) above 128) }
     ensures slots_after { slots.new ≡ kept_slots slots.old sender before n output.now }
+    ensures octets { Octets slots.new }
 {
     if MOST_FRAMES < before + n as usize {
         return false;
@@ -71,20 +79,18 @@ pub fn keep_emitted(
     true
 }
 
-// Returns the number of the point that sent frame k.
-pub fn sender_of(slots: &[u8; SLOTS], k: usize) -> u8
-    requires k_bound { k < 128 }
-    ensures { result ≡ sender_of slots.now k }
+// Returns the number of the point that sent the frame in a slot.
+pub fn sender_of(slots: &[u8; SLOTS], slot: Slot) -> u8
+    ensures { result ≡ sender_of slots.now slot.number }
 {
-    octets::octet(slots, SLOT * k)
+    octets::octet(slots, SLOT_OCTETS * slot.number)
 }
 
-// Returns the element of frame k, without the receiver address.
-pub fn element_of(slots: &[u8; SLOTS], k: usize) -> &[u8]
-    requires k_bound { k < 128 }
-    ensures { result.now ≡ element_of slots.now k }
+// Returns the element of the frame in a slot, without the receiver address.
+pub fn element_of(slots: &[u8; SLOTS], slot: Slot) -> &[u8]
+    ensures { result.now ≡ element_of slots.now slot.number }
 {
-    let at = SLOT * k + 7;
+    let at = SLOT_OCTETS * slot.number + 7;
     let length = octets::octet(slots, at + 1);
     let end = at + 2 + length as usize;
     &slots[at..end]

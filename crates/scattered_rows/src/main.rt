@@ -3,7 +3,7 @@
 // points, and the bench has no command to forget.
 #![tactic(auto)]
 
-ghost use Rattle.std.specs.Prelude.{◌≡◌, ◌<◌, length};
+ghost use Rattle.std.specs.Prelude.{◌<◌};
 
 use calls::LEAST_OUTPUT;
 use counters::{Metric, SequenceNumber};
@@ -12,6 +12,9 @@ use layout::row;
 use rules::Arrival;
 use std::io::{self, Print};
 use table_calls::{forget, fresh};
+
+// Octets of a table with 4 rows.
+const TABLE: usize = 160;
 
 // Returns the address 2,0,0,0,0,i.
 fn point(i: u8) -> Address {
@@ -30,7 +33,12 @@ fn print_answer(rt: &impl Print, call: &str, answer: u32) -> io::Result<()> {
 }
 
 // Receives the announcement of the originator from the transmitter, and prints the answer.
-fn hear(rt: &impl Print, table: &mut [u8], originator: u8, transmitter: u8) -> io::Result<()> {
+fn hear(
+    rt: &impl Print,
+    table: &mut [u8; TABLE],
+    originator: u8,
+    transmitter: u8,
+) -> io::Result<()> {
     let mut output = [0u8; LEAST_OUTPUT];
     let arrival = Arrival {
         clock: 0,
@@ -43,7 +51,7 @@ fn hear(rt: &impl Print, table: &mut [u8], originator: u8, transmitter: u8) -> i
     }
 }
 
-fn forget_point(rt: &impl Print, table: &mut [u8], i: u8) -> io::Result<()> {
+fn forget_point(rt: &impl Print, table: &mut [u8; TABLE], i: u8) -> io::Result<()> {
     print_answer(
         rt,
         "forget",
@@ -52,17 +60,14 @@ fn forget_point(rt: &impl Print, table: &mut [u8], i: u8) -> io::Result<()> {
 }
 
 // Prints the last octet of the destination in row i: 0 if the row is free.
-fn print_row(rt: &impl Print, table: &[u8], i: usize) -> io::Result<()>
-    requires table_len { length table.now ≡ 160 }
-    requires i_bound { i < 4 }
+fn print_row(rt: &impl Print, table: &[u8; TABLE], i: usize) -> io::Result<()>
+    requires { i < 4 }
 {
     let last = row::destination_at(table, i).octets()[5];
     print!(rt; " {last}")
 }
 
-fn print_rows(rt: &impl Print, table: &[u8]) -> io::Result<()>
-    requires { length table.now ≡ 160 }
-{
+fn print_rows(rt: &impl Print, table: &[u8; TABLE]) -> io::Result<()> {
     print!(rt; "rows")?;
     for i in 0..4 {
         print_row(rt, table, i)?;
@@ -70,9 +75,7 @@ fn print_rows(rt: &impl Print, table: &[u8]) -> io::Result<()>
     println!(rt; "")
 }
 
-fn fill(rt: &impl Print, table: &mut [u8]) -> io::Result<()>
-    requires { length table.old ≡ 160 }
-{
+fn fill(rt: &impl Print, table: &mut [u8; TABLE]) -> io::Result<()> {
     let answer = refusals::number_of(fresh::make_fresh(table, point(1), SequenceNumber(0)));
     print_answer(rt, "fresh", answer)?;
     hear(rt, table, 2, 2)?;
@@ -83,9 +86,7 @@ fn fill(rt: &impl Print, table: &mut [u8]) -> io::Result<()>
 }
 
 // Frees rows 1 and 3.
-fn free_two(rt: &impl Print, table: &mut [u8]) -> io::Result<()>
-    requires { length table.old ≡ 160 }
-{
+fn free_two(rt: &impl Print, table: &mut [u8; TABLE]) -> io::Result<()> {
     forget_point(rt, table, 3)?;
     forget_point(rt, table, 5)?;
     print_rows(rt, table)
@@ -93,9 +94,7 @@ fn free_two(rt: &impl Print, table: &mut [u8]) -> io::Result<()>
 
 // Receives an announcement whose originator takes row 1 and whose transmitter takes row 3. Then no row is free, and the next
 // announcement is refused.
-fn take_two(rt: &impl Print, table: &mut [u8]) -> io::Result<()>
-    requires { length table.old ≡ 160 }
-{
+fn take_two(rt: &impl Print, table: &mut [u8; TABLE]) -> io::Result<()> {
     hear(rt, table, 6, 7)?;
     print_rows(rt, table)?;
     hear(rt, table, 8, 8)?;
@@ -103,7 +102,7 @@ fn take_two(rt: &impl Print, table: &mut [u8]) -> io::Result<()>
 }
 
 fn main(rt: HostRuntime) -> io::Result<()> {
-    let mut table = [0u8; 160];
+    let mut table = [0u8; TABLE];
     fill(&rt, &mut table)?;
     free_two(&rt, &mut table)?;
     take_two(&rt, &mut table)

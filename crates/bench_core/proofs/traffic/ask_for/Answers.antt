@@ -3,5 +3,5 @@ use Rattle.std.proofs.Common.{rules}
 use Rattle.bench_core.proofs.Emitting.{item_octets}
 use Rattle.bench_core.proofs.traffic.ask_for.Goals as goal
 
-pub make_call-requires-clause-fits : goal.make_call-requires-clause-fits
-make_call-requires-clause-fits c = (search rules, search item_octets)
+pub make_call-requires : goal.make_call-requires
+make_call-requires c = (search rules, search item_octets)

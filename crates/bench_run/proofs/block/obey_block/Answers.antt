@@ -1,3 +1,4 @@
+use Rattle.std.proofs.Common.{rules}
 use Rattle.bench_run.proofs.Stepping.{to_the_end}
 use Rattle.bench_run.proofs.Looping.{cut_pauses, room_pauses, one_obeyed, fault_ends, block_over}
 use Rattle.bench_run.proofs.block.obey_block.Goals as goal
@@ -13,7 +14,7 @@ returns-in_err-used-clause-text_after c =
     search (fault_ends c.args.last c.args.offset c.args.block.now _ c.loop-used.used c.loop-used.bench c.loop-used.text c.loop-used.invariant.0, to_the_end)
 
 pub loop-used-preserved : goal.loop-used-preserved
-loop-used-preserved c = (search (one_obeyed, to_the_end), c.in_ok-used.ensures.stands.0, c.in_ok-used.ensures.stands.1)
+loop-used-preserved c = (search (one_obeyed, to_the_end), search rules)
 
 pub returns-clause-text_after : goal.returns-clause-text_after
 returns-clause-text_after c = search block_over

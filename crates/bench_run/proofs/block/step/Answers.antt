@@ -7,12 +7,10 @@ returns-in-Ok-clause-text_after c =
     search (line_course c.args.bench.now c.args.used c.args.block.now c.obey_first.result c.obey_first.new.bench c.obey_first.ensures.bench_after
     c.in-Ok.line c.in-Ok.is c.in-Ok.ensures.command_is)
 
-pub returns-in-Ok-clause-stands : goal.returns-in-Ok-clause-stands
-returns-in-Ok-clause-stands c = (
-  search (line_fits c.args.bench.now c.args.used c.args.block.now c.obey_first.result c.obey_first.new.bench c.obey_first.ensures.bench_after
-      c.in-Ok.line c.in-Ok.is c.in-Ok.ensures.command_is),
-  c.in-Ok.ensures.remains,
-)
+pub returns-in-Ok-clause-used_bound : goal.returns-in-Ok-clause-used_bound
+returns-in-Ok-clause-used_bound c =
+    search (line_fits c.args.bench.now c.args.used c.args.block.now c.obey_first.result c.obey_first.new.bench c.obey_first.ensures.bench_after
+    c.in-Ok.line c.in-Ok.is c.in-Ok.ensures.command_is)
 
 pub returns-in-Err-clause-text_after : goal.returns-in-Err-clause-text_after
 returns-in-Err-clause-text_after c = search fault_course
