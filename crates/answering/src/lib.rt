@@ -4,7 +4,6 @@
 ghost use Rattle.std.specs.Prelude.{◌≡◌};
 ghost use Rattle.rules.specs.Destinations.{answers_for};
 ghost use Rattle.answering.specs.Answering.{answering_row};
-ghost use Rattle.layout.specs.Layout.{Sized};
 
 use element::{Target, flags};
 use layout::row;
@@ -33,7 +32,6 @@ fn answers_for(clock: u64, q: Target, r: Row) -> bool
 // looks for no row.
 #[tactic(auto, unfolding(crate::specs::Answering::answering_row, table::specs::Table::row_for))]
 pub fn answering_row(table: &[u8], clock: u64, q: Target) -> Option<Row>
-    requires { Sized table.now }
     ensures { result ≡ answering_row table.now clock q }
 {
     if flags::has_do(q) {

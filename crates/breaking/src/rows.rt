@@ -1,6 +1,5 @@
 // The link to a broken neighbour, and the rows that break with it.
 ghost use Rattle.std.specs.Prelude.{◌≡◌, cond, length, None, Some};
-ghost use Rattle.layout.specs.Layout.{Sized};
 ghost use Rattle.table.specs.Table.{change_where};
 ghost use Rattle.rules.specs.Errors.{broken, broken_entries};
 ghost use Rattle.breaking.specs.Links.{breaks};
@@ -47,7 +46,6 @@ impl BrokenLink {
 
     // Breaks every active row through the neighbour. `lost` is the number of rows that break, and if it is 0 no row is read.
     pub fn lose_rows(self, table: &mut [u8], lost: usize)
-        requires sized { Sized table.old }
         requires lost_value { lost ≡ length (broken_entries (breaks self) table.old) }
         ensures { table.new ≡ change_where (breaks self) broken table.old }
     {

@@ -1,7 +1,6 @@
 // Checks refusal 27: the call needs more new rows than are free, in whatever places the free rows lie.
 ghost use Rattle.std.specs.Prelude.{◌≡◌, cond, ◌≤◌, is_none, ltb};
 ghost use Rattle.table.specs.Table.{find_row, free_rows};
-ghost use Rattle.layout.specs.Layout.{Sized};
 ghost use Rattle.rules.specs.Receive.{rows_needed};
 
 use crate::Heard;
@@ -23,8 +22,7 @@ impl Heard {
     // Returns how many new rows the call needs: a row for the subject if none is held for the subject, and a row for the
     // transmitter if the transmitter is not the subject and none is held for the transmitter.
     fn rows_needed(self, table: &[u8], found: Option<usize>) -> usize
-        requires sized { Sized table.now }
-        requires found_value { found ≡ find_row table.now self.path.subject }
+        requires { found ≡ find_row table.now self.path.subject }
         ensures { result ≡ rows_needed table.now self.arrival self.path }
     {
         let needed = new_rows(found);
@@ -35,8 +33,7 @@ impl Heard {
     }
 
     pub fn lacks_rows(self, table: &[u8], found: Option<usize>) -> bool
-        requires sized { Sized table.now }
-        requires found_value { found ≡ find_row table.now self.path.subject }
+        requires { found ≡ find_row table.now self.path.subject }
         ensures { result ≡ ltb (free_rows table.now) (rows_needed table.now self.arrival self.path) }
     {
         let needed = self.rows_needed(table, found);

@@ -1,7 +1,6 @@
 // Checks refusal 25: the received number is older than the known number of the subject's row, or equal without a smaller metric.
 ghost use Rattle.std.specs.Prelude.{◌≡◌};
 ghost use Rattle.rules.specs.Receive.{is_stale, is_stale_for};
-ghost use Rattle.layout.specs.Layout.{Sized};
 ghost use Rattle.table.specs.Table.{find_row};
 
 use crate::Heard;
@@ -28,8 +27,7 @@ impl Heard {
     // Reports whether the subject's row makes the element stale. `found` is the place of that row. The place is handed on, so
     // that the row is searched for once.
     pub fn is_stale(self, table: &[u8], found: Option<usize>) -> bool
-        requires sized { Sized table.now }
-        requires found_value { found ≡ find_row table.now self.path.subject }
+        requires { found ≡ find_row table.now self.path.subject }
         ensures { result ≡ is_stale table.now self.arrival self.path }
     {
         let Some(i) = found else {

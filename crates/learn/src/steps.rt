@@ -1,7 +1,6 @@
 // Does steps 1 and 2 (docs/PROTOCOL.md, 'Learning'): makes or changes the subject's row and the transmitter's row.
 ghost use Rattle.std.specs.Prelude.{◌≡◌, ◌||◌, is_none};
 ghost use Rattle.table.specs.Table.{find_row, row_for};
-ghost use Rattle.layout.specs.Layout.{Sized};
 ghost use Rattle.rules.specs.Learn.{expiry_of, learnt, new_row, row_or_new, row_takes_link};
 ghost use Rattle.rules.specs.Learn.{subject_learnt, subject_row, transmitter_learnt, transmitter_row};
 
@@ -25,8 +24,7 @@ fn new_row(destination: Address) -> Row
 
 // Returns the row that a step starts from: the row at `found`, otherwise a new row.
 fn row_or_new(table: &[u8], found: Option<usize>, destination: Address) -> Row
-    requires sized { Sized table.now }
-    requires found_value { found ≡ find_row table.now destination }
+    requires { found ≡ find_row table.now destination }
     ensures { result ≡ row_or_new destination (row_for table.now destination) }
 {
     match found {
@@ -60,8 +58,7 @@ impl Heard {
 
     // `found` is the place of the subject's row. The place is handed on, so that the row is searched for once.
     fn learn_subject(self, table: &mut [u8], found: Option<usize>)
-        requires sized { Sized table.old }
-        requires found_value { found ≡ find_row table.old self.path.subject }
+        requires { found ≡ find_row table.old self.path.subject }
         ensures { table.new ≡ subject_learnt self.arrival self.path table.old }
     {
         let r = row_or_new(table, found, self.path.subject);
@@ -101,7 +98,6 @@ impl Heard {
     }
 
     fn learn_transmitter(self, table: &mut [u8])
-        requires { Sized table.old }
         ensures { table.new ≡ transmitter_learnt self.arrival self.path.lifetime table.old }
     {
         let found = search::find_row(table, self.arrival.transmitter);
@@ -115,8 +111,7 @@ impl Heard {
     // Does step 1, and step 2 if the transmitter is not the subject. `found` is the place of the subject's row. Step 1 comes
     // first, so that the subject's row takes the lower of two free rows.
     pub fn learn(self, table: &mut [u8], found: Option<usize>)
-        requires sized { Sized table.old }
-        requires found_value { found ≡ find_row table.old self.path.subject }
+        requires { found ≡ find_row table.old self.path.subject }
         ensures { table.new ≡ learnt self.arrival self.path table.old }
     {
         self.learn_subject(table, found);

@@ -4,7 +4,6 @@ ghost use Rattle.std.specs.Bool.{then_some};
 ghost use Rattle.element.specs.Entries.{lost_in};
 ghost use Rattle.rules.specs.Errors.{is_lost_by, matches};
 ghost use Rattle.rules.specs.Lists.{any};
-ghost use Rattle.layout.specs.Layout.{Sized};
 
 use element::{LostDestination, list};
 use layout::row;
@@ -21,7 +20,6 @@ pub fn is_lost_by(a: Arrival, r: Row) -> bool
 
 // Returns the destination, as received, if it is a match.
 pub fn if_match(table: &[u8], a: Arrival, m: LostDestination) -> Option<LostDestination>
-    requires { Sized table.now }
     ensures { result ≡ then_some (matches table.now a.clock a.transmitter m) m }
 {
     let Some(i) = search::find_row(table, m.address) else {
@@ -32,7 +30,6 @@ pub fn if_match(table: &[u8], a: Arrival, m: LostDestination) -> Option<LostDest
 }
 
 pub fn is_match(table: &[u8], a: Arrival, m: LostDestination) -> bool
-    requires { Sized table.now }
     ensures { result ≡ matches table.now a.clock a.transmitter m }
 {
     if_match(table, a, m).is_some()
@@ -40,7 +37,6 @@ pub fn is_match(table: &[u8], a: Arrival, m: LostDestination) -> bool
 
 // Checks refusal 26: no destination in `part` is a match.
 pub fn matches_nothing(table: &[u8], a: Arrival, part: &[u8]) -> bool
-    requires { Sized table.now }
     ensures { result ≡ not (any (matches table.now a.clock a.transmitter) (lost_in part.now)) }
 {
     let n = part.len() / list::LOST;

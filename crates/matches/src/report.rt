@@ -10,7 +10,6 @@ ghost use Rattle.rules.specs.Errors.{matches};
 ghost use Rattle.rules.specs.Lists.{filter};
 ghost use Rattle.rules.specs.Onward.{to_all};
 ghost use Rattle.rules.specs.Exit.{frame_octets};
-ghost use Rattle.layout.specs.Layout.{Sized};
 
 use crate::matching;
 use element::{RerrFields, list};
@@ -20,7 +19,6 @@ use writing::kept;
 
 // Writes the matches in `part` from place `at` on. Returns the place after them.
 fn write_matches(output: &mut [u8], at: usize, table: &[u8], a: Arrival, part: &[u8]) -> usize
-    requires sized { Sized table.now }
     requires part_in_bounds { at + length part.now ≤ length output.old }
     ensures value { result
         ≡ at + 10 * length (filter (matches table.now a.clock a.transmitter) (lost_in part.now)) }
@@ -42,7 +40,6 @@ pub fn write_error(
     f: RerrFields,
     part: &[u8],
 ) -> usize
-    requires sized { Sized table.now }
     requires part_of { PartOf Kind.Rerr part.now }
     requires at_in_bounds { at + 260 ≤ length output.old }
     ensures upper_bound { result ≤ 260 }

@@ -1,6 +1,5 @@
 // Invalidates the rows of the matches of a RERR.
 ghost use Rattle.std.specs.Prelude.{◌≡◌, cond, None, Some};
-ghost use Rattle.layout.specs.Layout.{Sized};
 ghost use Rattle.table.specs.Table.{change_where};
 ghost use Rattle.element.specs.Entries.{lost_in};
 ghost use Rattle.rules.specs.Errors.{erred, erred_with, is_match, number_beside};
@@ -53,7 +52,6 @@ fn row_after(a: Arrival, part: &[u8], r: Row) -> Option<Row>
 
 // Invalidates the row of each match.
 pub fn lose_matches(table: &mut [u8], a: Arrival, part: &[u8])
-    requires { Sized table.old }
     ensures { table.new
         ≡ change_where (is_match a.clock a.transmitter (lost_in part.now)) (erred (lost_in part.now))
         table.old }

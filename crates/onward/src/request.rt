@@ -21,7 +21,6 @@ use table::search;
 // Returns all ones, or for a unicast RREQ the active next hop of its destination, if there is one.
 #[tactic(auto, unfolding(crate::specs::Sent::request_receiver))]
 fn receiver_of(table: &[u8], clock: u64, p: PathInfo, part: &[u8]) -> Option<Address>
-    requires sized { Sized table.now }
     requires part_of { PartOf Kind.Rreq part.now }
     ensures { result ≡ request_receiver table.now clock p part.now }
 {

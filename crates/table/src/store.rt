@@ -22,8 +22,7 @@ pub fn make_fresh(table: &mut [u8], own: Address, number: SequenceNumber)
 // Writes a row where its destination was found, otherwise to the free row of lowest place. If there is no place, nothing
 // changes.
 pub fn put_row(table: &mut [u8], found: Option<usize>, r: Row)
-    requires sized { Sized table.old }
-    requires found_value { found ≡ find_row table.old r.destination }
+    requires { found ≡ find_row table.old r.destination }
     ensures { table.new ≡ store table.old r }
 {
     if let Some(i) = search::place_for(table, found) {

@@ -2,8 +2,8 @@
 use Rattle.learn.proofs.Renewals.{subject_place, subject_stored}
 use Rattle.learn.proofs.Heard.learn_subject.Goals as goal
 
-pub put_row-requires-clause-found_value : goal.put_row-requires-clause-found_value
-put_row-requires-clause-found_value c = search subject_place
+pub put_row-requires : goal.put_row-requires
+put_row-requires c = search subject_place
 
 pub returns : goal.returns
 returns c = search subject_stored
