@@ -81,6 +81,5 @@ pub fn break_off(bench: &mut Bench, p: u8, q: u8) -> Result<Printed, Fault>
 {
     let q = bench.point(q)?;
     let neighbour = points::address_of(&bench.tables, q);
-    let clock = bench.clock;
-    calling::make_call(bench, p, Call::Break(clock, neighbour))
+    calling::make_call(bench, p, Call::Break(bench.clock, neighbour))
 }

@@ -78,12 +78,10 @@ pub fn refill<R: Read>(input: &mut R, buffer: &mut [u8], c: Cursor) -> Cursor
     ensures last_value { result.last
         ≡ (c.last || (is_cut (left c buffer.old) && eqb (result.filled - result.from) (c.filled - c.from))) }
 {
-    let from = c.from;
-    let filled = c.filled;
     if c.last {
         return c;
     }
-    if !bench_commands::is_cut(&buffer[from..filled]) {
+    if !bench_commands::is_cut(&buffer[c.from..c.filled]) {
         return c;
     }
     read_more(input, buffer, c)
@@ -95,12 +93,9 @@ pub fn go_past(c: Cursor, used: usize) -> Cursor
     requires used_bound_2 { c.offset + used < 18446744073709551616 }
     ensures { result ≡ past c used }
 {
-    let from = c.from;
-    let offset = c.offset;
     Cursor {
-        from: from + used,
-        filled: c.filled,
-        last: c.last,
-        offset: offset + used as u64,
+        from: c.from + used,
+        offset: c.offset + used as u64,
+        ..c
     }
 }

@@ -25,12 +25,10 @@ fn obey_unread<R: Print>(
     ensures offset_bound { IfSome result (λ after. after.offset ≤ c.offset + length buffer.now) }
     ensures turned { Turned result (standing bench.old c.offset) c buffer.now bench.new }
 {
-    let from = c.from;
-    let filled = c.filled;
-    let used = block::obey_block(&buffer[from..filled], c.last, c.offset, bench, text);
+    let used = block::obey_block(&buffer[c.from..c.filled], c.last, c.offset, bench, text);
     block::print(rt, text);
     let used = used?;
-    if c.last & (used == filled - from) {
+    if c.last & (used == c.filled - c.from) {
         return None;
     }
     Some(bench_input::go_past(c, used))
