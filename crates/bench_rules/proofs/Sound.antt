@@ -79,7 +79,7 @@ emitted_sound points p l frames fit =
     frames fit
 
 -- A frame that is found among sound frames is sound.
-found_sound : (points : ℕ) (frames : List KeptFrame) → All (KeptSoundly points) frames → (k : ℕ) (f : KeptFrame) → slice_get frames k ≡ Some f
+pub found_sound : (points : ℕ) (frames : List KeptFrame) → All (KeptSoundly points) frames → (k : ℕ) (f : KeptFrame) → slice_get frames k ≡ Some f
     → KeptSoundly points f
 unfolding All
 found_sound points [] h k f e = absurd (none-some f e)
@@ -177,7 +177,7 @@ module _ (b : Bench) (h : Sound b) where
     abbrev pub Fine : WithLinks → Type 0
     Fine x = Stays x.done
 
-    obeyed_sound : (c : ℕ) → Fine (obeyed b links s c)
+    pub obeyed_sound : (c : ℕ) → Fine (obeyed b links s c)
     unfolding obeyed
     obeyed_sound c =
         cond_cases Fine (eqb c 1) (λ _. point_sound (record { 0 = number_at 6 s 1 }) (record { 0 = number_at 4 s 7 })) (λ _.
