@@ -42,7 +42,8 @@ fn keep_frame(slots: &mut [u8; SLOTS], slot: Slot, sender: u8, frame: &[u8])
     octets::write_octets(slots, at + 1, frame);
 }
 
-// Keeps the n frames at the start of a call's output in the slots from `first` on.
+// Keeps the n frames at the start of a call's output in the slots from `first` on. That the frames are whole there is a clause of
+// the functions that hand the output on to this one. A struct of output and number would be made for these calls alone.
 fn keep_frames(slots: &mut [u8; SLOTS], output: &[u8], sender: u8, first: usize, n: usize)
     requires n_bound { first + n ≤ 128 }
     requires holds { Holds n output.now }

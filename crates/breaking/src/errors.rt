@@ -59,7 +59,8 @@ impl Reported {
         }
     }
 
-    // Begins a RERR for one more destination, if those reported fill the RERRs begun so far.
+    // Begins a RERR for one more destination, if those reported fill the RERRs begun so far. The room for the destination stands
+    // in a clause here and in the functions that call this one, because the output is lent for writing.
     fn begin_if_full(self, out: &mut [u8]) -> Begun
         requires next_in_bounds { octets_for (self.lost + 1) ≤ length out.old }
         ensures place_after { result.place + 10 ≡ octets_for (self.lost + 1) }

@@ -8,7 +8,8 @@ ghost use Rattle.std.specs.Prelude.{◌≡◌, [], ◌≤◌};
 ghost use Rattle.rules.specs.Exit.{least_output};
 ghost use Rattle.calls.specs.Answers.{emitted};
 
-// An output of 1,560 octets holds the frames of any call.
+// An output of 1,560 octets holds the frames of any call. Functions that write frames require an output of this length, in a
+// clause: the output is lent for writing, and a struct that holds a `&mut` adds a clause where it takes one away.
 pub const LEAST_OUTPUT: usize = 1560;
 
 // The TTL of every new element and of every reply.

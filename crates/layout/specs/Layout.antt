@@ -24,8 +24,9 @@ place i = head_octets + row_octets * i
 unfoldable pub sized : List ℕ → Bool
 sized t = leb (place 1) (length t) && (leb (length t) (place most_rows) && eqb ((length t - head_octets) % row_octets) 0)
 
--- States that octets are long enough for a head, and no longer than a table of 128 rows. Many functions that are lent a table
--- require it.
+-- States that octets are long enough for a head, and no longer than a table of 128 rows. Functions that are lent a table require
+-- it where they read its head or write to it. A struct that holds the lent table and this fact was tried: it holds a `&mut`, and
+-- each function that writes must then promise that the struct still holds the reference it came with, one clause for another.
 pub record Sized (t : List ℕ) : Type 0 where
   pub with_head : head_octets ≤ length t
   pub not_longer : length t ≤ place most_rows

@@ -185,6 +185,8 @@ pub fn write_head(table: &mut [u8], h: Head)
     octets::write_fields(table, 0, &widths, &numbers);
 }
 
+// Functions of one row require that it lies in the octets. A place that a search has found does, but a struct for such a place
+// would have to hold the table, which is lent for writing between the search and the next use of the place.
 pub fn status_at(table: &[u8], i: usize) -> u8
     requires { place i + row_octets ≤ length table.now }
     ensures { result ≡ (row_at table.now i).status }

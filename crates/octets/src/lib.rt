@@ -5,7 +5,8 @@
 ghost use Rattle.std.specs.Prelude.{◌≡◌, ◌+◌, ◌<◌, ◌≤◌, drop, get_or, length, take};
 ghost use Rattle.octets.specs.LittleEndian.{Octets, number_at, overwrite, total, with_fields, with_number, zeros};
 
-// Returns the N octets from a place on. The compiler makes one load of 2, 4 or 8 octets.
+// Returns the N octets from a place on. The compiler makes one load of 2, 4 or 8 octets. That the octets have the place stands in
+// a clause of each function here, since the clauses differ in how many octets follow it.
 fn octets_at<const N: usize>(s: &[u8], at: usize) -> [u8; N]
     requires { at + N ≤ length s.now }
     ensures { result ≡ take N (drop at s.now) }

@@ -14,7 +14,9 @@ use calls::here;
 use element::PathInfo;
 use rules::Arrival;
 
-// Returns the path with the three changes: hop count + 1, TTL - 1, metric + link.
+// Returns the path with the three changes: hop count + 1, TTL - 1, metric + link. That the path can be extended by the link
+// stands as a clause here and in the functions that call this one. They take the path inside of the fields of their element,
+// where a struct of arrival and path would repeat it.
 fn onward(a: Arrival, p: PathInfo) -> PathInfo
     requires extends { Extends a p }
     requires le_ttl { 1 ≤ p.ttl }

@@ -34,7 +34,8 @@ pub enum Fields {
     Error(RerrFields),
 }
 
-// Returns the type with this ID, or `None` for an ID that is none of the four.
+// Returns the type with this ID, or `None` for an ID that is none of the four. It is an Option and no TryFrom, since its caller
+// makes refusal 7 of `None`, and an error type of one value would say no more.
 fn kind_of_id(id: u8) -> Option<Kind>
     ensures { result ≡ kind_of_id id }
 {

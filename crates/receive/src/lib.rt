@@ -33,7 +33,9 @@ fn check_arrival(table: &[u8], output: &[u8], a: Arrival) -> Result<(), Refusal>
     Ok(())
 }
 
-// Reads the element and receives it by its type. The caller must check refusals 1 to 5 first.
+// Reads the element and receives it by its type. The caller must check refusals 1 to 5 first. What they find stands in three
+// clauses here and in each function below. No struct has them: the table and the output are lent for writing, and an arrival has
+// any clock until it is checked.
 fn receive_element(
     table: &mut [u8],
     output: &mut [u8],
