@@ -105,12 +105,13 @@ pub fn write_number(s: &mut [u8], at: usize, n: usize, x: u64)
 }
 
 // Writes the numbers in `values` side by side from place `at` on, each in as many octets as `widths` says.
-pub fn write_fields<const N: usize>(s: &mut [u8], at: usize, widths: &[u8; N], values: &[u64; N])
-    requires { at + total widths.now ≤ length s.old }
+pub fn write_fields(s: &mut [u8], at: usize, widths: &[u8], values: &[u64])
+    requires widths_in_bounds { at + total widths.now ≤ length s.old }
+    requires widths_len { length widths.now ≡ length values.now }
     ensures { s.new ≡ with_fields widths.now s.old at 0 values.now }
 {
     let mut o = 0;
-    for i in 0..N {
+    for i in 0..widths.len() {
         let w = widths[i] as usize;
         write_number(s, at + o, w, values[i]);
         o += w;
