@@ -186,10 +186,11 @@ fn is_again(part: &[u8], kind: ListKind, from: usize, address: Address, seen: bo
 // Reports whether an address stands twice. From the last entry down, it marks each address in `seen`. Two addresses may share a
 // mark, so if the mark is already set it searches the later entries for the address. The loop counts down by hand, because the
 // invariant of a `for` over a reversed range knows what the range has given, and not the place `from` that the marks begin at.
-fn has_duplicate_by_marks(part: &[u8], kind: ListKind, seen: &mut [bool], last: usize) -> bool
-    requires { length seen.old ≡ last + 1 }
+fn has_duplicate_by_marks(part: &[u8], kind: ListKind, seen: &mut [bool]) -> bool
+    requires { 0 < length seen.old }
     ensures { result ≡ has_duplicate (addresses_in kind part.now) }
 {
+    let last = seen.len() - 1;
     let mut from = entries_in(part, kind);
     while 0 < from {
         let i = from - 1;
@@ -212,7 +213,7 @@ pub fn has_duplicate(part: &[u8], kind: ListKind) -> bool
         return false;
     }
     let mut seen = [false; 256];
-    has_duplicate_by_marks(part, kind, &mut seen, 255)
+    has_duplicate_by_marks(part, kind, &mut seen)
 }
 
 pub fn has_ones_beside_others(part: &[u8], kind: ListKind) -> bool

@@ -70,11 +70,12 @@ fn passes_by(table: &[u8], own: Address, i: usize, seen: bool) -> bool
 
 // Reports whether the first n rows pass. It marks in `seen` the destination of each row that passes. Two destinations may share
 // a mark. If the mark of a row is already set, the rows before that row are searched.
-fn rows_pass_by(table: &[u8], own: Address, n: usize, seen: &mut [bool], last: usize) -> bool
+fn rows_pass_by(table: &[u8], own: Address, n: usize, seen: &mut [bool]) -> bool
     requires n_in_bounds { place n ≤ length table.now }
-    requires seen_len { length seen.old ≡ last + 1 }
+    requires some_marks { 0 < length seen.old }
     ensures { result ≡ every (passes table.now own) n }
 {
+    let last = seen.len() - 1;
     for i in 0..n {
         let h = row::destination_at(table, i).mark(last);
         if !passes_by(table, own, i, seen[h]) {
@@ -93,7 +94,7 @@ fn rows_pass_marked<const N: usize>(table: &[u8], own: Address, n: usize) -> boo
     ensures { result ≡ every (passes table.now own) n }
 {
     let mut seen = [false; N];
-    rows_pass_by(table, own, n, &mut seen, N - 1)
+    rows_pass_by(table, own, n, &mut seen)
 }
 
 // Reports whether the first n rows pass. A table of few rows uses few marks, because all marks must be cleared first.
