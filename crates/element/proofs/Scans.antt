@@ -9,7 +9,6 @@ use native.Mathlib.Omega.{arith}
 use native.Mathlib.Nat.{sub-zero}
 use native.Mathlib.Numerals.{add-one}
 use Rattle.std.specs.List.{list_any, range_with_len}
-use borrow.Author.Tests.{eq-eqb, ne_eqb}
 use Rattle.octets.specs.LittleEndian.{number_at, fields_at}
 use Rattle.layout.specs.declared.address.Address.{Address}
 use Rattle.layout.specs.Address.{same}

@@ -2,7 +2,7 @@
 use Prim.Native.Nat.{ℕ, zero, suc, ◌+◌, ◌-◌, ◌*◌, ◌/◌, ◌%◌, ◌^◌, ◌<◌, ◌≤◌}
 use mathlib.Core.Path.{◌≡◌, refl, sym, ap, ap₂, ◌∙◌}
 use mathlib.Core.Logic.{◌⊎◌, inl, inr, ⊎_elim}
-use mathlib.Core.List.{List, [], ◌∷◌, ◌++◌}
+use mathlib.Core.List.{List, [], ◌∷◌}
 use lib.ListN.{length, get_or, set, take, drop, length-set, length-replicate, get_or-replicate, drop_of_length-le}
 use borrow.Author.Count.{below_more}
 use lib.Seq.{ext_get_or, get_or-set_same, get_or-set_other, drop-cons, get_or-take, get_or-drop, set_out}
@@ -13,7 +13,6 @@ use native.Mathlib.Nat.{not-suc-le-zero, zero-add, suc-add, add-zero, add-suc, p
 use borrow.Author.Tests.{ltb-true, ltb-false}
 use lib.Dec.{ltb}
 use mathlib.Core.Bool.{Bool, true, false}
-use Rattle.std.proofs.lemmas.List.{length-drop, take_more, take_more_set}
 use Rattle.std.specs.Int.{byte_at, byte_worth, bytes_low_first, sum_through}
 use Rattle.octets.specs.LittleEndian.{number_at, number_octets, overwrite, with_number, fields_at, with_fields, total, zeros, Octets}
 
@@ -102,14 +101,6 @@ length_number zero s at x = refl
 length_number (suc n) s at x = length_number n (set s at (x % 256)) (suc at) (x / 256) ∙ length-set s at (x % 256)
 
 -- ---- the library's octets of a number
-
--- For a loop that takes octets out: p has j octets of those from place `at` on, and takes one more.
-pub taken_more : (p s : List ℕ) (at j : ℕ) → j < length p → at + j < length s → take j p ≡ take j (drop at s)
-    → take (j + 1) (set p j (get_or s (at + j) 0)) ≡ take (j + 1) (drop at s)
-taken_more p s at j l m h =
-    take_more_set p j (get_or s (at + j) 0) l
-    ∙ ap₂ (λ (q : List ℕ) (x : ℕ). q ++ x ∷ []) h (sym (get_or-drop at s j 0))
-    ∙ sym (take_more (drop at s) j 0 (omega (arith, length-drop at s)))
 
 -- Reading n octets that were taken out of s is reading them where they stand.
 number_taken : (n : ℕ) (s : List ℕ) (at : ℕ) → number_at n (take n (drop at s)) 0 ≡ number_at n s at

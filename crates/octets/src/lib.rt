@@ -11,11 +11,7 @@ fn octets_at<const N: usize>(s: &[u8], at: usize) -> [u8; N]
     requires { at + N ≤ length s.now }
     ensures { result ≡ take N (drop at s.now) }
 {
-    let mut p = [0u8; N];
-    for j in 0..N {
-        p[j] = s[at + j];
-    }
-    p
+    std::array::from_fn(|j| s[at + j])
 }
 
 pub fn read_u8(s: &[u8], at: usize) -> u8

@@ -1,18 +1,7 @@
-use Rattle.std.proofs.Common.{◌≡◌, arith, refl, ◌∙◌, sym}
-use Rattle.std.proofs.lemmas.List.{length-replicate, length-set, take_all}
-use Rattle.octets.proofs.Laws.{taken_more}
+-- `octets::octets_at` meets its contract: the closure gives the octet at its index after the place.
+use Rattle.std.proofs.Common.{of_calls}
+use Rattle.octets.proofs.Filled.{filled}
 use Rattle.octets.proofs.octets_at.Goals as goal
 
-pub loop-j-init : goal.loop-j-init
-loop-j-init g c = (length-replicate _ _, refl)
-
-pub loop-j-preserved : goal.loop-j-preserved
-loop-j-preserved g c =
-    let inv = c.loop-j.invariant in
-    (length-set _ _ _ ∙ inv.0, taken_more c.loop-j.p c.args.s.now c.args.at c.loop-j.j (omega arith) (omega arith) inv.1)
-
 pub returns : goal.returns
-returns g c =
-    let inv = c.loop-j.invariant in
-    let all : c.loop-j.j ≡ g.row.N = omega arith in
-    sym (take_all g.row.N c.loop-j.p (omega arith)) ∙ (rw all at inv.1)
+returns g c = filled _ _ c.args.s.now c.args.at g.row.N (λ x r f' called. search of_calls parts 8) c.from_fn.result c.from_fn.ensures.items c.requires
