@@ -4,16 +4,40 @@
 pub mod flags;
 pub mod list;
 
+ghost use Rattle.std.specs.Prelude.{MatchResult, ◌≡◌, false, true};
+ghost use Rattle.element.specs.Layout.{kind_with, known};
+
 use counters::{HopCount, Metric, RequestId, SequenceNumber};
 use layout::address::Address;
 
-// The four types of element.
+// The four types of element. The discriminant of a type is its ID.
 #[derive(Clone, Copy, PartialEq, Eq)]
 pub enum Kind {
-    Rann,
-    Rreq,
-    Rrep,
-    Rerr,
+    Rann = 126,
+    Rreq = 130,
+    Rrep = 131,
+    Rerr = 132,
+}
+
+// Says that an ID is that of no type.
+#[derive(Clone, Copy, PartialEq, Eq)]
+pub struct UnknownKind;
+
+#[tactic(auto, unfolding(crate::specs::Layout::known, crate::specs::Layout::kind_with))]
+impl TryFrom<u8> for Kind {
+    type Error = UnknownKind;
+
+    ghost try_from_gives = { λ n r. MatchResult r (λ k. (known n ≡ true) × (k ≡ kind_with n)) (λ _. known n ≡ false) };
+
+    fn try_from(id: u8) -> Result<Kind, UnknownKind> {
+        match id {
+            126 => Ok(Kind::Rann),
+            130 => Ok(Kind::Rreq),
+            131 => Ok(Kind::Rrep),
+            132 => Ok(Kind::Rerr),
+            _ => Err(UnknownKind),
+        }
+    }
 }
 
 // The fields that a RANN, a RREQ and a RREP share. The path leads to the subject: the originator of a RANN or a RREQ, the

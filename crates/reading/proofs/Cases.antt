@@ -10,8 +10,8 @@ use lib.Seq.{take_all}
 use native.Mathlib.Omega.{arith}
 use native.Mathlib.Nat.{add-zero}
 use borrow.Author.Tests.{eqb-true, not-false}
-use Rattle.std.specs.Prelude.{Option, Some, None, Result, Ok, Err, unwrap_or}
-use Rattle.std.specs.Option.{ok_or}
+use Rattle.std.specs.Prelude.{Result, Ok, Err}
+use Rattle.std.specs.Result.{MatchResult, result_unwrap_or}
 use Rattle.std.proofs.lemmas.List.{drop_min}
 use Rattle.octets.specs.LittleEndian.{number_at, fields_at}
 use Rattle.refusals.specs.declared.Refusal.{Refusal}
@@ -23,7 +23,7 @@ use Rattle.reading.specs.declared.Fields.{Fields}
 use Rattle.reading.specs.declared.Fields.TheVariants.{Announcement}
 use Rattle.element.specs.Layout.{known, kind_with, fits, length_with, count_ok}
 use Rattle.element.specs.Octets.{kind_in, count_as, wrong_length, other_id, misfit, path_from, read_as, read_element, list_part}
-use Rattle.reading.specs.Reading.{fixed_fields, kind_of_id, reading}
+use Rattle.reading.specs.Reading.{fixed_fields, reading}
 use Rattle.octets.proofs.Tests.{both, clash}
 use Rattle.element.proofs.Lengths.{least_length}
 use Rattle.element.proofs.Passing.{length_right}
@@ -37,27 +37,15 @@ module _ (s : List ℕ) (a : Bool) (ae : a ≡ wrong_length s) (no_a : a ≡ fal
   pub one_octet : 0 < length s
   one_octet = let h = two_octets in omega arith
 
-  module _ (o : Option Kind) (oe : o ≡ kind_of_id (get_or s 0 0)) (q : Result Kind Refusal) (qe : q ≡ ok_or o UnknownId) where
-    pub read_7 : (x : Refusal) → q ≡ Err x → Err x ≡ reading s
-    unfolding reading other_id kind_of_id
-    read_7 x e = by (known (get_or s 0 0)) refl
-      where
-        by : (b : Bool) → known (get_or s 0 0) ≡ b → Err x ≡ reading s
-        by true be = clash cc
-        by false be = cc
+  pub read_7 : (Unit {0} → known (get_or s 0 0) ≡ false) → Err UnknownId ≡ reading s
+  unfolding reading other_id
+  read_7 none = let h = none tt in cc
 
-    module _ (k : Kind) (ke : q ≡ Ok k) (f : Bool) (fe : f ≡ fits k (get_or s 1 0) (count_as k s)) where
-      known_kind : (known (get_or s 0 0) ≡ true) × (kind_in s ≡ k)
-      unfolding kind_of_id
-      known_kind = by (known (get_or s 0 0)) refl
-        where
-          by : (b : Bool) → known (get_or s 0 0) ≡ b → (b ≡ true) × (kind_in s ≡ k)
-          by true be = (refl, cc)
-          by false be = clash cc
-
+  module _ (k : Kind) (known_kind : Unit {0} → (known (get_or s 0 0) ≡ true) × (k ≡ kind_in s)) where
+    module _ (f : Bool) (fe : f ≡ fits k (get_or s 1 0) (count_as k s)) where
       pub read_8 : not f ≡ true → Err BadCount ≡ reading s
       unfolding reading other_id misfit
-      read_8 no_f = let h = known_kind in cc
+      read_8 no_f = let h = known_kind tt in cc
 
       pub fixed_part_there : not f ≡ false → 2 + length_with k 0 ≤ length s
       unfolding fits
@@ -68,22 +56,31 @@ module _ (s : List ℕ) (a : Bool) (ae : a ≡ wrong_length s) (no_a : a ≡ fal
 
       pub read_all : not f ≡ false → (r : Fields) → r ≡ fixed_fields (read_as k s) → Ok r ≡ reading s
       unfolding reading other_id misfit read_element
-      read_all yes_f r e = let h = known_kind in cc
+      read_all yes_f r e = let h = known_kind tt in cc
 
 -- ---- the list part
 
 -- An ID that is none of the four counts as that of a RERR.
-module _ (s : List ℕ) (id : ℕ) (ide : id ≡ get_or s 0 0) (o : Option Kind) (oe : o ≡ kind_of_id id) where
-  pub starts_there : (k : Kind) → k ≡ unwrap_or o Rerr → (long : ℕ) → long ≡ length_with k 0 → 2 + long ≡ 2 + length_with (kind_in s) 0
-  unfolding kind_of_id known kind_with
-  starts_there k ke long le = rw (le, ke, oe, by (eqb id 126) (eqb id 130) (eqb id 131) (eqb id 132), ide) refl
-    where
-      by : (w x y z : Bool) → unwrap_or (cond (w || x || y || z) (Some (cond w Rann (cond x Rreq (cond y Rrep Rerr)))) None) Rerr ≡ cond w Rann (cond x Rreq (cond y Rrep Rerr))
-      by true x y z = refl
-      by false true y z = refl
-      by false false true z = refl
-      by false false false true = refl
-      by false false false false = refl
+counts_as_rerr : (id : ℕ) → known id ≡ false → Rerr ≡ kind_with id
+unfolding known kind_with
+counts_as_rerr id e = by (eqb id 126) (eqb id 130) (eqb id 131) (eqb id 132) e
+  where
+    by : (w x y z : Bool) → (w || x || y || z) ≡ false → Rerr ≡ cond w Rann (cond x Rreq (cond y Rrep Rerr))
+    by true x y z none = clash cc
+    by false true y z none = clash cc
+    by false false true z none = clash cc
+    by false false false z none = refl
+
+kind_or_rerr : {E : Type 0} (id : ℕ) (q : Result Kind E) → MatchResult q (λ k. (known id ≡ true) × (k ≡ kind_with id)) (λ _. known id ≡ false)
+    → result_unwrap_or q Rerr ≡ kind_with id
+kind_or_rerr id (Ok k) told = told.1
+kind_or_rerr id (Err e) told = counts_as_rerr id told
+
+pub starts_there : {E : Type 0} (s : List ℕ) (id : ℕ) → id ≡ get_or s 0 0
+    → (q : Result Kind E) → MatchResult q (λ k. (known id ≡ true) × (k ≡ kind_with id)) (λ _. known id ≡ false)
+    → (k : Kind) → k ≡ result_unwrap_or q Rerr → (long : ℕ) → long ≡ length_with k 0 → 2 + long ≡ 2 + length_with (kind_in s) 0
+starts_there s id ide q told k ke long le =
+    ap (λ (n : ℕ). 2 + n) (le ∙ ap (λ (j : Kind). length_with j 0) (ke ∙ kind_or_rerr id q told ∙ ap kind_with ide))
 
 pub list_left : (s : List ℕ) (begin start : ℕ) → begin ≡ 2 + length_with (kind_in s) 0 → start ≡ min begin (length s) → take (length s - start) (drop start s) ≡ list_part s
 unfolding list_part

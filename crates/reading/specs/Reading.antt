@@ -1,9 +1,7 @@
 -- Defines the result of reading an element: one of refusals 6 to 8, or its fixed fields. PROTOCOL, 'Elements' and 'Refusals'.
-use Rattle.std.specs.Prelude.{cond, List, ℕ, Option, Some, None, Result, Ok, Err}
+use Rattle.std.specs.Prelude.{cond, List, ℕ, Result, Ok, Err}
 use Rattle.refusals.specs.declared.Refusal.{Refusal}
 use Rattle.refusals.specs.declared.Refusal.TheVariants.{ElementLength, UnknownId, BadCount}
-use Rattle.element.specs.declared.Kind.{Kind}
-use Rattle.element.specs.Layout.{kind_with, known}
 use Rattle.element.specs.Element.{Element, rann, rreq, rrep, rerr}
 use Rattle.element.specs.Octets.{wrong_length, other_id, misfit, read_element}
 use Rattle.reading.specs.declared.Fields.{Fields}
@@ -15,10 +13,6 @@ fixed_fields (rann p) = Announcement p
 fixed_fields (rreq f targets) = Request f
 fixed_fields (rrep f dependents) = Reply f
 fixed_fields (rerr f destinations) = Error f
-
--- Returns the type with this ID, or None for an ID that is none of the four.
-unfoldable pub kind_of_id : ℕ → Option Kind
-kind_of_id id = cond (known id) (Some (kind_with id)) None
 
 -- Returns the first of refusals 6 to 8 that applies, or the fixed fields if none applies.
 unfoldable pub reading : List ℕ → Result Fields Refusal

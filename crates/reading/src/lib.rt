@@ -17,7 +17,7 @@ ghost use Rattle.element.specs.Octets.{
   rreq_from,
   wrong_length,
 };
-ghost use Rattle.reading.specs.Reading.{fixed_fields, kind_of_id, reading};
+ghost use Rattle.reading.specs.Reading.{fixed_fields, reading};
 ghost use Rattle.element.specs.declared.Kind.{Kind};
 
 use counters::{HopCount, Metric, RequestId, SequenceNumber};
@@ -32,20 +32,6 @@ pub enum Fields {
     Request(RreqFields),
     Reply(RrepFields),
     Error(RerrFields),
-}
-
-// Returns the type with this ID, or `None` for an ID that is none of the four. It is an Option and no TryFrom, since its caller
-// makes refusal 7 of `None`, and an error type of one value would say no more.
-fn kind_of_id(id: u8) -> Option<Kind>
-    ensures { result ≡ kind_of_id id }
-{
-    match id {
-        126 => Some(Kind::Rann),
-        130 => Some(Kind::Rreq),
-        131 => Some(Kind::Rrep),
-        132 => Some(Kind::Rerr),
-        _ => None,
-    }
 }
 
 fn length_with(kind: Kind, n: u8) -> u32
@@ -170,7 +156,9 @@ pub fn read(element: &[u8]) -> Result<Fields, Refusal>
     if has_wrong_length(element) {
         return Err(Refusal::ElementLength);
     }
-    let kind = kind_of_id(element[0]).ok_or(Refusal::UnknownId)?;
+    let Ok(kind) = Kind::try_from(element[0]) else {
+        return Err(Refusal::UnknownId);
+    };
     if !fits_kind(element, kind) {
         return Err(Refusal::BadCount);
     }
@@ -182,7 +170,7 @@ pub fn read(element: &[u8]) -> Result<Fields, Refusal>
 fn list_start(element: &[u8]) -> usize
     ensures { result ≡ 2 + length_with (kind_in element.now) 0 }
 {
-    let kind = kind_of_id(octet_or_zero(element, 0)).unwrap_or(Kind::Rerr);
+    let kind = Kind::try_from(octet_or_zero(element, 0)).unwrap_or(Kind::Rerr);
     2 + length_with(kind, 0) as usize
 }
 

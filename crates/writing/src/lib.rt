@@ -14,7 +14,7 @@ ghost use Rattle.element.specs.Octets.{fixed_numbers, frame_start, start_octets,
 ghost use Rattle.element.specs.declared.list.ListKind.{ListKind};
 
 use element::list::ListKind;
-use element::{LostDestination, PathInfo, RerrFields, RrepFields, RreqFields, Target, list};
+use element::{Kind, LostDestination, PathInfo, RerrFields, RrepFields, RreqFields, Target, list};
 use layout::address::Address;
 
 // How many octets a frame has up to its list: the receiver address, and an element without entries.
@@ -51,7 +51,7 @@ pub fn rann_numbers(p: PathInfo) -> [u64; 9]
     ensures { result ≡ fixed_numbers Kind.Rann 0 (rann_numbers p) }
 {
     [
-        126,
+        Kind::Rann as u64,
         21,
         p.flags as u64,
         p.hops.0 as u64,
@@ -84,7 +84,7 @@ pub fn rreq_numbers(f: RreqFields, n: usize) -> [u64; 11]
     let p = f.path;
     let count = n as u64;
     [
-        130,
+        Kind::Rreq as u64,
         26 + 11 * count,
         p.flags as u64,
         p.hops.0 as u64,
@@ -150,7 +150,7 @@ pub fn rrep_numbers(f: RrepFields, n: usize) -> [u64; 12]
     let p = f.path;
     let count = n as u64;
     [
-        131,
+        Kind::Rrep as u64,
         32 + 10 * count,
         p.flags as u64,
         p.hops.0 as u64,
@@ -199,7 +199,7 @@ pub fn rerr_numbers(f: RerrFields, n: usize) -> [u64; 4]
     ensures { result ≡ fixed_numbers Kind.Rerr n (rerr_numbers f) }
 {
     let count = n as u64;
-    [132, 2 + 10 * count, f.flags as u64, count]
+    [Kind::Rerr as u64, 2 + 10 * count, f.flags as u64, count]
 }
 
 // Writes a RERR with n destinations up to its list. `write_lost` writes each destination.
