@@ -1,13 +1,13 @@
 -- Laws of the tables side by side by their octets: where each table lies, that all have one length, and what the checks find.
 use Rattle.std.specs.List.{list_any, range_with_len}
-use Prim.Native.Nat.{ℕ, ◌+◌, ◌-◌, ◌*◌, ◌%◌, ◌<◌, ◌≤◌}
+use Prim.Native.Nat.{ℕ, ◌+◌, ◌-◌, ◌*◌, ◌/◌, ◌%◌, ◌<◌, ◌≤◌}
 use mathlib.Core.Path.{◌≡◌, refl, sym, ap, ◌∙◌}
 use mathlib.Core.Bool.{Bool, true, false, not, ◌&&◌, ◌||◌}
 use mathlib.Core.List.{List}
 use lib.Dec.{eqb, leb, ltb}
 use lib.ListN.{length, take, drop, length-take, length-drop}
 use native.Mathlib.Omega.{arith}
-use native.Mathlib.Nat.{sub-zero, mul-zero, mul-suc, mul_comm, mul-le-mul_left, min-eq_left, div-le_self, mod-add-div}
+use native.Mathlib.Nat.{sub-zero, mul-zero, mul-suc, mul_comm, mul-div_cancel_left, mul-le-mul_left, min-eq_left, div-le_self, mod-add-div}
 use borrow.Author.Tests.{eq-eqb, ne_eqb, eqb-true, le-leb, lt-leb, leb-true, not-false}
 use Rattle.octets.specs.LittleEndian.{number_at}
 use Rattle.layout.specs.declared.address.Address.{Address}
@@ -61,7 +61,7 @@ module _ (s : List ℕ) (count : ℕ) where
       unfolding side_by_side
       even e t te b be = rw (le-leb 1 count least, le-leb count 16 most, eq-eqb (length s % count) 0 e, ← te) be
 
--- What the ghost fields of `Pieces` say: refusal 1 is passed, and `long` is the length of each piece.
+-- What the ghost fields of `Pieces` say.
 record Cut (s : List ℕ) (long count : ℕ) : Type 0 where
   some_piece : 1 ≤ count
   few : count ≤ 16
@@ -89,27 +89,39 @@ cut s count passed =
       not_longer = omega (arith, size.not_longer, long);
     }
 
-pub divisible : (s : List ℕ) (count : ℕ) (b : Bool) → b ≡ side_by_side s count → not b ≡ false → 0 < count
-divisible s count b be yes_b = (cut s count (sym be ∙ not-false b yes_b)).some_piece
+-- Octets that pass refusal 1 are pieces as the ghost fields say; b is whether they pass.
+module _ (s : List ℕ) (count : ℕ) (b : Bool) (be : b ≡ side_by_side s count) (yes : not b ≡ false) where
+  split_cut : Cut s (length_of_each s count) count
+  split_cut = cut s count (sym be ∙ not-false b yes)
 
-module _ (s : List ℕ) (long count : ℕ) (divided : long ≡ length_of_each s count) (passed : side_by_side s count ≡ true) where
-  pieces_cut : Cut s long count
-  pieces_cut = rw divided (cut s count passed)
+  pub divisible : 1 ≤ count
+  divisible = split_cut.some_piece
 
-  pub few_pieces : count ≤ 16
-  few_pieces = pieces_cut.few
+  pub split_few : count ≤ 16
+  split_few = split_cut.few
 
-  pub long_enough : 6 ≤ long
-  long_enough = omega (arith, pieces_cut.with_head)
+  pub split_whole : count * (length s / count) ≡ length s
+  split_whole = split_cut.whole
+
+  pub split_with_head : head_octets ≤ length s / count
+  split_with_head = split_cut.with_head
+
+  pub split_not_longer : length s / count ≤ place most_rows
+  split_not_longer = split_cut.not_longer
+
+module _ (s : List ℕ) (long count : ℕ) (some_piece : 1 ≤ count) (whole : count * long ≡ length s) where
+  -- `long` is the length of each piece.
+  pub divided : long ≡ length_of_each s count
+  divided = sym (ap (λ (n : ℕ). n / count) (sym whole) ∙ mul-div_cancel_left long some_piece)
 
   module _ (i : ℕ) (l : i < count) where
     pub piece_within : long * i + long ≤ length s
-    piece_within = omega (arith, mul-le-mul_left long l, mul-suc long i, mul_comm long count, pieces_cut.whole)
+    piece_within = omega (arith, mul-le-mul_left long l, mul-suc long i, mul_comm long count, whole)
 
-    pub piece_sized : (t : List ℕ) → t ≡ table_at s long i → Sized t
-    piece_sized t e =
+    pub piece_sized : head_octets ≤ long → long ≤ place most_rows → (t : List ℕ) → t ≡ table_at s long i → Sized t
+    piece_sized with_head not_longer t e =
         let n = ap length e ∙ piece_long s long i piece_within in
-        record { with_head = omega (arith, pieces_cut.with_head, n); not_longer = omega (arith, pieces_cut.not_longer, n) }
+        record { with_head = omega (arith, with_head, n); not_longer = omega (arith, not_longer, n) }
 
   -- The tables and the points, in order of their indices.
   tables_each : tables_in s count ≡ each (table_at s long) 0 count

@@ -5,10 +5,11 @@ use Rattle.refusals.specs.declared.Refusal.TheVariants.{TableLength}
 use Rattle.std.proofs.lemmas.Option.{none-some}
 use Rattle.std.specs.Prelude.{Err, Ok, Option, None, Some, ⊤}
 use Rattle.std.specs.List.{find, range_with_len}
-use Prim.Native.Nat.{ℕ, zero, suc, ◌+◌, ◌-◌, ◌<◌, ◌≤◌}
+use Prim.Native.Nat.{ℕ, zero, suc, ◌+◌, ◌-◌, ◌*◌, ◌<◌, ◌≤◌}
 use mathlib.Core.Path.{◌≡◌, refl, sym, ap, ◌∙◌}
 use mathlib.Core.Bool.{Bool, true, false, not, ◌||◌, cond, or-true}
 use mathlib.Core.List.{List, [], ◌∷◌}
+use lib.ListN.{length}
 use native.Mathlib.Omega.{arith}
 use native.Mathlib.Nat.{sub-zero}
 use native.Mathlib.Numerals.{add-one}
@@ -21,12 +22,13 @@ use Rattle.table.specs.Table.{row_for, active_next}
 use Rattle.table.proofs.Places.{first_below}
 use Rattle.element.specs.Entries.{each}
 use Rattle.element.specs.Lists.{contains, has_duplicate}
-use Rattle.rules.specs.Walk.{Walked, arrived, stopped, too_long, length_of_each, table_at, tables_in, side_by_side, points, row_of_point, leads_to, go_on, follow, walking, walk}
+use Rattle.rules.specs.Walk.{Walked, arrived, stopped, too_long, table_at, tables_in, side_by_side, points, row_of_point, leads_to, go_on, follow, walking, walk}
 use Rattle.rules.proofs.Rulings.{passed_check}
 use Rattle.calls.specs.Answers.{answer_to}
 use Rattle.calls.proofs.Checks.{as_decision, decided_as, answer_passed}
 use Rattle.walk.specs.OnTheWay.{stopped_at, resumed}
 use Rattle.walk.specs.Pieces.{point_at}
+use Rattle.walk.proofs.Tables.{divided}
 
 -- ---- the row of a point, by the place of the point
 
@@ -48,9 +50,9 @@ module _ (s : List ℕ) (long : ℕ) (a d : Address) where
       by true f = refl
       by false f = refl
 
-  module _ (n : ℕ) (divided : long ≡ length_of_each s n) (f : Option ℕ) (fe : f ≡ find (λ k. same (point_at s long k) a) (range_with_len 0 n)) where
+  module _ (n : ℕ) (some_piece : 1 ≤ n) (whole : n * long ≡ length s) (f : Option ℕ) (fe : f ≡ find (λ k. same (point_at s long k) a) (range_with_len 0 n)) where
     row_is : row_of_point (tables_in s n) a d ≡ row_at_place s long d f
-    row_is = ap (λ (m : ℕ). row_of_point (each (table_at s m) 0 n) a d) (sym divided) ∙ row_each 0 n ∙ ap (row_at_place s long d) (sym fe)
+    row_is = ap (λ (m : ℕ). row_of_point (each (table_at s m) 0 n) a d) (sym (divided s long n some_piece whole)) ∙ row_each 0 n ∙ ap (row_at_place s long d) (sym fe)
 
     pub row_absent : f ≡ None → (c : ℕ) → None ≡ active_next c (row_of_point (tables_in s n) a d)
     unfolding active_next

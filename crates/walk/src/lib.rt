@@ -4,8 +4,8 @@
 pub mod pieces;
 mod way;
 
-ghost use Rattle.std.specs.Prelude.{◌≡◌};
-ghost use Rattle.rules.specs.Walk.{table_checks, tables_in, walk, walked_at_exit, walking};
+ghost use Rattle.std.specs.Prelude.{◌≡◌, true};
+ghost use Rattle.rules.specs.Walk.{side_by_side, table_checks, tables_in, walk, walked_at_exit, walking};
 ghost use Rattle.calls.specs.Answers.{answer_to};
 ghost use Rattle.walk.specs.Answers.{walk_decision, numbers_of};
 
@@ -78,6 +78,7 @@ fn check_state(pieces: &Pieces, clock: u64) -> Result<(), Refusal>
 
 // Checks all refusals of a walk in their order. The pieces pass refusal 1.
 fn check(pieces: &Pieces, clock: u64, start: Address, destination: Address) -> Result<(), Refusal>
+    requires { side_by_side pieces.now.octets.now pieces.now.count ≡ true }
     ensures { result ≡ answer_to (walking pieces.now.octets.now pieces.now.count clock start destination).checks }
 {
     if row::MAX_CLOCK < clock {

@@ -4,12 +4,12 @@ ghost use Rattle.std.specs.List.{find, range_with_len};
 ghost use Rattle.std.specs.Result.{MatchResult};
 ghost use Rattle.refusals.specs.declared.Refusal.TheVariants.{TableLength};
 ghost use Rattle.layout.specs.Address.{same};
-ghost use Rattle.layout.specs.Layout.{Sized};
+ghost use Rattle.layout.specs.Layout.{Sized, head_octets, most_rows, place};
 ghost use Rattle.table.specs.Table.{is_table};
 ghost use Rattle.element.specs.Entries.{each};
 ghost use Rattle.element.specs.Lists.{contains, has_duplicate};
 ghost use Rattle.rules.specs.Lists.{any};
-ghost use Rattle.rules.specs.Walk.{has_later_clock, length_of_each, points, side_by_side, table_at, tables_in};
+ghost use Rattle.rules.specs.Walk.{has_later_clock, points, side_by_side, table_at, tables_in};
 ghost use Rattle.walk.specs.Pieces.{point_at};
 
 use layout::address::Address;
@@ -17,18 +17,22 @@ use layout::row;
 use refusals::Refusal;
 use table::legal;
 
-// Octets that pass refusal 1: 1 to 16 pieces of one length that a table may have. A piece may turn out not to be a table.
+// 1 to 16 pieces of one length, which is within the bounds for a table. A piece may turn out not to be a table. Whoever knows the
+// facts of the ghost fields can make one.
 #[derive(Clone, Copy)]
 pub struct Pieces<'a> {
-    octets: &'a [u8],
-    long: usize,
+    pub octets: &'a [u8],
+    pub long: usize,
     pub count: usize,
-    ghost divided: { long ≡ length_of_each octets.now count },
-    ghost passed: { side_by_side octets.now count ≡ true },
+    pub ghost some_piece: { 1 ≤ count },
+    pub ghost few: { count ≤ 16 },
+    pub ghost whole: { count * long ≡ length octets.now },
+    pub ghost with_head: { head_octets ≤ long },
+    pub ghost not_longer: { long ≤ place most_rows },
 }
 
 // Returns table i, which is a part of the octets.
-fn table_at(octets: &[u8], long: usize, i: usize) -> &[u8]
+pub fn table_at(octets: &[u8], long: usize, i: usize) -> &[u8]
     requires { long * i + long ≤ length octets.now }
     ensures { result.now ≡ table_at octets.now long i }
 {
@@ -65,7 +69,7 @@ impl<'a> Pieces<'a> {
     // Returns the octets as `count` pieces, or refusal 1.
     pub fn split(octets: &'a [u8], count: usize) -> Result<Pieces<'a>, Refusal>
         ensures { MatchResult result
-            (λ p. (p.octets.now ≡ octets.now) × (p.count ≡ count))
+            (λ p. (p.octets.now ≡ octets.now) × (p.count ≡ count) × (side_by_side octets.now count ≡ true))
             (λ r. (r ≡ TableLength) × (side_by_side octets.now count ≡ false)) }
     {
         if !are_side_by_side(octets, count) {
@@ -94,7 +98,8 @@ impl<'a> Pieces<'a> {
         point_at(self.octets, self.long, i)
     }
 
-    // Returns the place of the point with this address. The loop was faster than `find` of the library.
+    // Returns the place of the point with this address. With `find` of the library, a walk through 16 points takes 48
+    // instructions more: 24,020 for 23,972 at 16 rows (0.2 %), and 6,062 for 6,014 at one (0.8 %).
     pub fn find(&self, address: Address) -> Option<usize>
         ensures { result
             ≡ find (λ i. same (point_at self.now.octets.now self.now.long i) address) (range_with_len 0 self.now.count) }
@@ -107,7 +112,8 @@ impl<'a> Pieces<'a> {
         None
     }
 
-    // Reports whether a point from number `from` on has this address. The loop was faster than `any`.
+    // Reports whether a point from number `from` on has this address. With `any` of the library, a walk through 16 points takes
+    // 550 instructions more: 24,522 for 23,972 at 16 rows (2.3 %), and 6,564 for 6,014 at one (9.1 %).
     fn contains_from(&self, from: usize, address: Address) -> bool
         ensures { result ≡ contains (each (point_at self.now.octets.now self.now.long) from (self.now.count - from)) address }
     {

@@ -1,5 +1,4 @@
 use Rattle.std.proofs.Common.{rules}
-use Rattle.walk.proofs.Tables.{few_pieces}
 use Rattle.walk.proofs.Ways.{way_start, way_arrived, way_stopped, way_more, way_ended}
 use Rattle.walk.proofs.way.follow.Goals as goal
 
@@ -13,7 +12,7 @@ pub returns-in_default : goal.returns-in_default
 returns-in_default c = search way_stopped
 
 pub overflow_add-hops : goal.overflow_add-hops
-overflow_add-hops c = let few = few_pieces _ _ _ c.args.pieces.now.divided c.args.pieces.now.passed in search rules
+overflow_add-hops c = let few = c.args.pieces.now.few in search rules
 
 pub loop-preserved : goal.loop-preserved
 loop-preserved c = (search way_more, search rules)

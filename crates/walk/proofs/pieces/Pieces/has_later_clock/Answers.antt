@@ -8,5 +8,5 @@ use Rattle.walk.proofs.pieces.Pieces.has_later_clock.Goals as goal
 pub returns : goal.returns
 returns c =
     let s = c.args.self.now in
-    later_found s.octets.now s.long s.count s.divided s.passed _ c.args.clock
+    later_found s.octets.now s.long s.count s.some_piece s.whole _ c.args.clock
     (any_from_yields_List _ _ _ _ c.any.ensures.ran (YieldsList-from_range 0 s.count s.count (cc) (omega arith)) (λ x b q k. search (rules, tests)))
