@@ -28,8 +28,8 @@ fn answers_for(clock: u64, q: Target, r: Row) -> bool
     flags::is_number_unknown(q) | !r.number.is_older(q.number)
 }
 
-// Returns the row from which the point makes an intermediate reply for the destination q, if a row answers for it. With DO = 1 it
-// looks for no row.
+// Returns the row from which the point makes an intermediate reply for the destination q, if a row answers for q. With DO = 1 the
+// function looks for no row.
 #[tactic(auto, unfolding(crate::specs::Answering::answering_row, table::specs::Table::row_for))]
 pub fn answering_row(table: &[u8], clock: u64, q: Target) -> Option<Row>
     ensures { result ≡ answering_row table.now clock q }

@@ -42,6 +42,7 @@ fn is_item_list(items: &[u8]) -> bool
     (items.len() % 7 == 0) & (7 <= items.len()) & (items.len() <= 140)
 }
 
+// The loop is written as that of `list::has_forbidden`, which has the reason.
 fn has_high_flags(items: &[u8]) -> bool
     ensures { result ≡ any has_high_flags (items_in items.now) }
 {

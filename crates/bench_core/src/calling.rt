@@ -20,8 +20,8 @@ use refusals::Refusal;
 use rules::Arrival;
 
 // A call with its operands: an ask with a lifetime and an item, an announcement with a lifetime, a receive of the frame in a
-// slot, or a break with the clock and the neighbour. It is a value, and no closure that makes the call: the contract of such a
-// closure would have to name the call of the rules for any table and output.
+// slot, or a break with the clock and the neighbour. A `Call` is a value, and no closure that makes the call: the contract of
+// such a closure would have to name the call of the rules for any table and output.
 #[derive(Clone, Copy)]
 pub enum Call {
     Ask(u32, [u8; 7]),

@@ -8,8 +8,9 @@ ghost use Rattle.bench_input.specs.Reading.{Extends, Keeps, Unread, left, past};
 use std::io::Read;
 
 // The unread octets are the octets of the buffer that are not obeyed yet: those from place `from` on and before place `filled`.
-// `last` says whether standard input has ended. `offset` is the offset of the first unread octet in the input. The cursor has
-// places and no slice, because the buffer is written again while the cursor stays.
+// `last` says whether standard input has ended; no value stands beside it that an Option could hold. `offset` is the offset of
+// the first unread octet in the input. The cursor has places and no slice, because the memory is fixed: the buffer is written
+// again while the cursor stays.
 #[derive(Clone, Copy)]
 pub struct Cursor {
     pub from: usize,

@@ -14,9 +14,9 @@ pub fn none() -> Metrics
     [[0u32; 16]; 16]
 }
 
-// Sets the link metric of points p and q both ways, because a frame can pass over a link in either direction. Here and below,
-// p and q are below 16 by a clause. A type for them is no plainer: callers know the bound from their bench, and would make a value
-// of the type for these calls alone.
+// Sets the link metric of points p and q both ways, because a frame can pass over a link in either direction. Here and
+// below, p and q are below 16 by a clause. A type for them is no plainer: callers know the bound from their bench, and would make
+// a value of the type for these calls alone.
 pub fn set_both_ways(links: &mut Metrics, p: usize, q: usize, metric: u32)
     requires { (p < 16) × (q < 16) }
     ensures { links.new ≡ linked links.old p q metric }

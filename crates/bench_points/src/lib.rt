@@ -33,7 +33,8 @@ pub struct Bench {
     pub ghost sent: { SentBelow points frames slots },
 }
 
-// What a command prints after its own number: its answer or refusal, and the number of frames or hops.
+// What a command prints after its own number: its answer or refusal, and the number of frames or hops. Both are numbers, because
+// numbers are printed.
 #[derive(Clone, Copy, PartialEq, Eq, Debug)]
 pub struct Printed {
     pub answer: u32,

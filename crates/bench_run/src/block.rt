@@ -51,6 +51,7 @@ pub fn obey_block(
 {
     text.clear();
     let mut used = 0;
+    // No `for` counts here, because each command says how far it came.
     while used < block.len() {
         if !last & bench_commands::is_cut(&block[used..]) {
             return Some(used);

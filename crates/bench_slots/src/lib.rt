@@ -15,7 +15,7 @@ pub const SLOT_OCTETS: usize = 264;
 // The octets of all slots.
 pub const SLOTS: usize = MOST_FRAMES * SLOT_OCTETS;
 
-// The number of a slot. It is below 128, so that the slot lies inside the slots.
+// The number of a slot, which is below 128.
 #[derive(Clone, Copy)]
 pub struct Slot {
     pub number: usize,

@@ -90,7 +90,8 @@ impl Text {
         self.put(octet);
     }
 
-    // Adds the line of a command: the command, its answer or refusal, and the third number.
+    // Adds the line of a command: the command, its answer or refusal, and the third number. The room for a line is a clause of
+    // the functions that add a line: a type for a text with room would be made anew before each line.
     pub fn put_line(&mut self, command: u8, answer: u32, third: u32)
         requires { length self.old + 64 ≤ 65536 }
         ensures { self.new ≡ self.old ++ line_text command answer third }

@@ -12,6 +12,9 @@ pub struct SequenceNumber(pub u32);
 #[derive(Clone, Copy, PartialEq, Eq)]
 pub struct RequestId(pub u32);
 
+// Code compares the number inside of a metric, a hop count or a number with a constant: a value made to be compared is no
+// plainer. Metrics have no derived order. With one, learn proves, but three edits that break its comparisons are then refused by
+// a limit of the search, where they are refused for the fact that they break.
 #[derive(Clone, Copy, PartialEq, Eq)]
 pub struct Metric(pub u32);
 

@@ -11,7 +11,9 @@ pub struct OwnCounters {
     pub request: RequestId,
 }
 
-// Returns the counters after a new element, which takes the next own number. A new RREQ also takes the next request ID.
+// Returns the counters after a new element, which takes the next own number. A new RREQ also takes the next request ID. `rreq`
+// says whether the element is a RREQ: the types of elements are those of crate element, above this one. `advanced`, `advance`
+// and `numbered` are the three forms that docs/DECISIONS.md names.
 #[tactic(auto, unfolding(crate::specs::Numbering::advanced_for))]
 fn advanced(counters: OwnCounters, rreq: bool) -> OwnCounters
     ensures { result ≡ advanced_for rreq counters }

@@ -177,8 +177,8 @@ impl<'a> Request<'a> {
         }
     }
 
-    // Writes the reply to one destination, if there is a reply. It decides first and writes then, so that one function alone
-    // writes.
+    // Writes the reply to one destination, if there is a reply. The reply is decided first and written then, so that
+    // `write_reply` alone writes.
     fn reply_to(&self, output: &mut [u8], q: Target, before: Replied) -> Replied
         requires place_in_bounds { before.place + 40 ≤ length output.old }
         requires frames_bound { before.frames < 20 }

@@ -72,8 +72,9 @@ entry_size Rrep = size_of Dependents
 entry_size Rerr = size_of LostDestinations
 
 -- States that octets can be the list part of an element of this type: whole entries, and an allowed number of them. Functions
--- require it as a clause beside the octets. A struct of octets and this fact is no plainer: the type of element is fixed in each
--- function, so it would be three structs of one shape, or a field for the type that each call hands on.
+-- require it as a clause beside the octets, which they are handed beside the fields of the element. A struct with the fields, the
+-- octets and this fact is no plainer: an own element has fields and no lent octets, so three structs would come on top of
+-- `RreqFields`, `RrepFields` and `RerrFields`.
 pub record PartOf (k : Kind) (part : List ℕ) : Type 0 where
   pub whole : length part % entry_size k ≡ 0
   pub some : fewest k * entry_size k ≤ length part

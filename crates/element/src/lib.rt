@@ -68,7 +68,9 @@ pub struct Target {
     pub number: SequenceNumber,
 }
 
-// A destination of a RERR, which the transmitter can no longer reach, with the number that the RERR gives for it.
+// A destination of a RERR, which the transmitter can no longer reach, with the number that the RERR gives for it. It has the
+// fields of a `NumberedAddress` and is a type of its own, because the published standard gives a destination of a RERR more
+// fields.
 #[derive(Clone, Copy, PartialEq, Eq)]
 pub struct LostDestination {
     pub address: Address,

@@ -40,8 +40,8 @@ pub enum ListKind {
     Items,
 }
 
-// Each kind of entry has a function of its own. `Entry` of crate writing joins the two kinds whose entries are written again one by
-// one. No code reads whole entries of any kind, and `address_at` reads their addresses.
+// Each kind of entry has a function of its own. `Entry` of crate writing joins the two kinds whose entries are written again one
+// by one. No code reads a whole entry of a kind that it gets as a value, and `address_at` reads the addresses of such entries.
 pub fn target_at(part: &[u8], i: usize) -> Target
     requires { size_of ListKind.Targets * (i + 1) ≤ length part.now }
     ensures { result ≡ target_at part.now i }

@@ -28,6 +28,7 @@ use rules::Arrival;
 use table_calls::{forget, fresh, next_hop};
 use walk::Walked;
 
+// What C gets. The answers are numbers, because C has no `Result`.
 #[repr(C)]
 #[derive(Clone, Copy)]
 pub struct HwmpHop {
@@ -82,6 +83,7 @@ impl From<Result<Emitted, Refusal>> for HwmpOutcome {
     }
 }
 
+// Each entry hands its operands on. The entries for C have bodies of one shape where their calls take operands of one kind.
 #[unsafe(no_mangle)]
 pub extern "C" fn hwmp_fresh(table: &mut [u8], own: &[u8; 6], number: u32) -> u32
     ensures { record { answer = result; table = table.new }

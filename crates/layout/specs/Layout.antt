@@ -25,8 +25,11 @@ unfoldable pub sized : List ℕ → Bool
 sized t = leb (place 1) (length t) && (leb (length t) (place most_rows) && eqb ((length t - head_octets) % row_octets) 0)
 
 -- States that octets are long enough for a head, and no longer than a table of 128 rows. Functions that are lent a table require
--- it where they read its head or write to it. A struct that holds the lent table and this fact was tried: it holds a `&mut`, and
--- each function that writes must then promise that the struct still holds the reference it came with, one clause for another.
+-- it where they, or what they call, read or write its head, or count its rows up to 128. A struct that holds a table lent for
+-- writing and this fact was tried: it holds a `&mut`, and each function that takes it must then promise that the struct still
+-- holds the reference it came with, one clause for another. For a table lent for reading, a struct is no plainer where each
+-- function makes one call (`Request` of crate destinations has one where several do): the caller would make a struct for that
+-- call alone.
 pub record Sized (t : List ℕ) : Type 0 where
   pub with_head : head_octets ≤ length t
   pub not_longer : length t ≤ place most_rows

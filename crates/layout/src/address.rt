@@ -16,8 +16,8 @@ impl From<&[u8; 6]> for Address {
 }
 
 impl Address {
-    // Returns the octets as they stand in a frame. A method, as `to_le_bytes` of a number is, and no From: `<[u8; 6]>::from(a)`
-    // does not say what the array is.
+    // Returns the octets as they stand in a frame. This is a method, as `to_le_bytes` of a number is. `<[u8; 6]>::from(a)` would
+    // not say what the array holds.
     pub fn octets(self) -> [u8; 6]
         ensures { result ≡ octets_of self }
     {

@@ -21,7 +21,8 @@ pub const MAX_CLOCK: u64 = 281474976710655;
 const UNREACHABLE: u32 = 4294967295;
 
 // A head and a row have their fields in the order of the octets. In a table, `zero2`, `zero8` and `zero` are 0 (refusal 21). In
-// a row, `known` is 1 if the number is known, `hops` is the hop count, and `next` is the next hop.
+// a row, `known` is 1 if the number is known, `hops` is the hop count, and `next` is the next hop. `status` and `known` hold
+// octets as found, and no enum or bool, because refusal 21 judges a row after it is read.
 #[derive(Clone, Copy, PartialEq, Eq)]
 pub struct Head {
     pub own: Address,

@@ -35,7 +35,8 @@ pub fn is_match(table: &[u8], a: Arrival, m: LostDestination) -> bool
     if_match(table, a, m).is_some()
 }
 
-// Checks refusal 26: no destination in `part` is a match.
+// Checks refusal 26: no destination in `part` is a match. The loop is written as that of `list::has_forbidden`, which has the
+// reason.
 pub fn matches_nothing(table: &[u8], a: Arrival, part: &[u8]) -> bool
     ensures { result ≡ not (any (matches table.now a.clock a.transmitter) (lost_in part.now)) }
 {

@@ -100,7 +100,8 @@ pub fn write_number(s: &mut [u8], at: usize, n: usize, x: u64)
     }
 }
 
-// Writes the numbers in `values` side by side from place `at` on, each in as many octets as `widths` says.
+// Writes the numbers in `values` side by side from place `at` on, each in as many octets as `widths` says. The widths of a
+// layout are a list of the definitions, and the values are those of one element, so that the two stay apart.
 pub fn write_fields(s: &mut [u8], at: usize, widths: &[u8], values: &[u64])
     requires widths_in_bounds { at + total widths.now ≤ length s.old }
     requires widths_len { length widths.now ≡ length values.now }

@@ -48,7 +48,7 @@ fn put_numbered(numbers: &mut [u64], at: usize, part: &[u8])
 }
 
 // `put_rreq`, `put_rrep` and `put_rerr` require room for 71 numbers, the most that an element has. An array of 71 in the clause's
-// place would be narrower: it would bar longer room.
+// place would be narrower: it would bar longer room. They stay apart, because the fields of the types differ.
 pub fn put_rann(numbers: &mut [u64], path: PathInfo)
     requires { 9 ≤ length numbers.old }
     ensures { numbers.new ≡ overwrite numbers.old 0 (element_numbers (rann path)) }

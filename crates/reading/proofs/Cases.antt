@@ -14,7 +14,6 @@ use Rattle.std.specs.Prelude.{Result, Ok, Err}
 use Rattle.std.specs.Result.{MatchResult, result_unwrap_or}
 use Rattle.std.proofs.lemmas.List.{drop_min}
 use Rattle.octets.specs.LittleEndian.{number_at, fields_at}
-use Rattle.refusals.specs.declared.Refusal.{Refusal}
 use Rattle.refusals.specs.declared.Refusal.TheVariants.{UnknownId, BadCount}
 use Rattle.element.specs.declared.Kind.{Kind}
 use Rattle.element.specs.declared.Kind.TheVariants.{Rann, Rreq, Rrep, Rerr}

@@ -65,6 +65,7 @@ fn is_mismarked(q: Target) -> bool
     flags::is_number_unknown(q) & (q.number.0 != 0)
 }
 
+// The loop is written as that of `list::has_forbidden`, which has the reason.
 fn has_mismarked(part: &[u8]) -> bool
     ensures { result ≡ any is_mismarked (targets_in part.now) }
 {

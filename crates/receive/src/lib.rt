@@ -34,8 +34,8 @@ fn check_arrival(table: &[u8], output: &[u8], a: Arrival) -> Result<(), Refusal>
 }
 
 // Reads the element and receives it by its type. The caller must check refusals 1 to 5 first. What they find stands in three
-// clauses here and in each function below. No struct has them: the table and the output are lent for writing, and an arrival has
-// any clock until it is checked.
+// clauses here and in each function below. No struct has them. The table and the output are lent for writing. An arrival with a
+// checked clock, as a struct, would be taken apart in each of these functions, because what they call takes an Arrival.
 fn receive_element(
     table: &mut [u8],
     output: &mut [u8],

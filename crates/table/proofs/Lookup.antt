@@ -259,7 +259,7 @@ held_ok : (a : Address) (r : Row) → is_held a r ≡ true → row_ok a r ≡ tr
 unfolding row_ok
 held_ok a r e = rw e (or-true (is_free r))
 
--- Laws of storing a legal held row if there is room for it: its destination has a row, or Some row is free, wherever it lies.
+-- Laws of storing a legal held row if there is room for it: its destination has a row, or some row is free, wherever it lies.
 module _ (t : List ℕ) (r : Row) (legal : Legal t) (held : is_held (own t) r ≡ true) (fit : FitRow r)
     (room : new_rows (row_for t r.destination) ≤ free_rows t) where
   place_of : Spot t r.destination

@@ -59,7 +59,7 @@ unfoldable pub active_next : ℕ → Option Row → Option Address
 active_next c None = None
 active_next c (Some r) = cond (active c r) (Some r.next) None
 
--- Returns how many new rows a destination needs: 0 if a row is held for it, 1 if None is.
+-- Returns how many new rows a destination needs: 0 if a row is held for it, 1 if none is.
 abbrev pub new_rows : Option Row → ℕ
 new_rows (Some r) = 0
 new_rows None = 1

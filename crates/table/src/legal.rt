@@ -111,7 +111,8 @@ fn rows_pass(table: &[u8], own: Address, n: usize) -> bool
     rows_pass_marked::<1024>(table, own, n)
 }
 
-// Counts the rows without `search::rows_of`, because these octets are known to have a head: each call takes fewer instructions.
+// Counts the rows without `search::rows_of`, because these octets are known to have a head: a call takes up to
+// four instructions less.
 pub fn is_table(table: &[u8]) -> bool
     requires { Sized table.now }
     ensures { result ≡ is_table table.now }

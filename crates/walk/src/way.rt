@@ -12,7 +12,7 @@ use counters::HopCount;
 use layout::address::Address;
 use table::search;
 
-// Returns the active next hop that the point at address `at` has for the destination. Returns nobody if there is none, or if
+// Returns the active next hop that the point at address `at` has for the destination. Returns None if there is none, or if
 // no point has that address.
 fn next_from(pieces: &Pieces, at: Address, clock: u64, destination: Address) -> Option<Address>
     ensures { result ≡ active_next clock (row_of_point (tables_in pieces.now.octets.now pieces.now.count) at destination) }

@@ -1,4 +1,5 @@
-// Writes the entries of a list part that a caller keeps, one after another. The lists of a RREQ and of a RERR share it.
+// Writes the entries of a list part that a caller keeps, one after another. Those who write a RREQ
+// or a RERR again share the loop.
 ghost use Rattle.std.specs.Prelude.{◌≡◌, ◌+◌, ◌*◌, ◌≤◌, ℕ, List, [], Option, length};
 ghost use Rattle.std.proofs.Common.{arith};
 ghost use Rattle.std.specs.Option.{option_map_or};

@@ -1,5 +1,7 @@
 // Writes frames into a lent output, each as a receiver address and an element. Every function that writes a whole frame, the
-// start of a frame or an entry returns the place after the octets that it wrote. The rest of the output stays unchanged.
+// start of a frame or an entry returns the place after the octets that it wrote. The rest of the output stays unchanged. A place
+// is handed on beside the output: a struct of both would hold a `&mut`, and each function that takes such a struct must then
+// promise that the struct still holds the reference it came with.
 #![tactic(auto)]
 
 pub mod kept;
@@ -26,8 +28,8 @@ pub const RREP_START: usize = 40;
 
 pub const RERR_START: usize = 10;
 
-// Writes the receiver address, and the numbers of an element up to its list. The starts of the types share it. They stay apart
-// above it, because they differ in their fields, their widths and whether they have a count.
+// Writes the receiver address, and the numbers of an element up to its list. All types share this function. Each type has
+// a function of its own above this one, because the types differ in their fields, their widths and whether they have a count.
 fn start_frame<const N: usize>(
     out: &mut [u8],
     at: usize,
@@ -179,7 +181,8 @@ pub fn start_rrep(out: &mut [u8], at: usize, to: Address, f: RrepFields, n: usiz
     at + RREP_START
 }
 
-// Writes a RREP with the dependents of a lent list part, unchanged.
+// Writes a RREP with the dependents of a lent list part, unchanged. `write_rreq` stays apart, because the fields of the two types
+// differ, and so do the functions that write them.
 pub fn write_rrep(out: &mut [u8], at: usize, to: Address, f: RrepFields, part: &[u8]) -> usize
     requires part_of { PartOf Kind.Rrep part.now }
     requires part_in_bounds { at + start_octets Kind.Rrep + length part.now ≤ length out.old }

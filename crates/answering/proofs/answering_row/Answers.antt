@@ -1,4 +1,4 @@
--- `answering::answering_row` meets its contract: it returns the row that answers, or nobody.
+-- `answering::answering_row` meets its contract: it returns the row that answers, or None.
 use Rattle.table.proofs.Cases.{found_within}
 use Rattle.answering.proofs.AnsweringRows.{nobody_do}
 use Rattle.answering.proofs.answering_row.Goals as goal
