@@ -1,6 +1,6 @@
--- `bench_text::Text::put_fault` meets its contract: it adds E, a space, the offset and the end of the line.
-use Rattle.bench_text.proofs.Printing.{fault_added}
+-- `bench_text::Text::put_fault` meets its contract: it adds the line that the function `put_fault` writes.
+use Rattle.bench_text.proofs.Printing.{line_added}
 use Rattle.bench_text.proofs.Text.put_fault.Goals as goal
 
-pub returns : goal.returns
-returns c = search fault_added
+pub returns-clause-text_after : goal.returns-clause-text_after
+returns-clause-text_after c = search line_added
