@@ -1,18 +1,18 @@
 -- Laws of the command that adds a point.
 use Rattle.refusals.proofs.Laws.{never_0}
-use Rattle.refusals.specs.Numbers.{number_of}
+use Rattle.refusals.specs.Numbers.{answer_of, number_of}
 use Rattle.refusals.specs.declared.Refusal.TheVariants.{TableLength, BadAddress}
 use Rattle.refusals.specs.declared.Refusal.{Refusal}
-use Prim.Native.Nat.{ℕ, ◌+◌, ◌-◌, ◌*◌, ◌<◌}
+use Prim.Native.Nat.{ℕ, ◌+◌, ◌-◌, ◌*◌, ◌<◌, ◌≤◌}
 use mathlib.Core.Path.{◌≡◌, refl, sym, ap, ◌∙◌}
 use mathlib.Core.Bool.{Bool, true, false, not, cond}
 use mathlib.Core.List.{List}
+use lib.Dec.{eqb}
 use lib.ListN.{length, take, drop}
 use native.Mathlib.Omega.{arith}
-use borrow.Author.Tests.{lt-ltb}
+use borrow.Author.Tests.{le-ltb, lt-ltb, ne_eqb}
 use borrow.Rule.Slice.PartMut.{put_mid, put_same}
 use Rattle.std.specs.Prelude.{Ok, ⊤, Err}
-use Rattle.octets.specs.LittleEndian.{Octets}
 use Rattle.counters.specs.declared.SequenceNumber.{SequenceNumber}
 use Rattle.layout.specs.declared.address.Address.{Address}
 use Rattle.layout.specs.Address.{individual}
@@ -23,14 +23,11 @@ use Rattle.rules.specs.Exit.{TableExit, table_at_exit}
 use Rattle.rules.specs.Fresh.{make_fresh}
 use Rattle.rules.specs.Walk.{table_at}
 use Rattle.calls.specs.Answers.{table_exit_of}
-use Rattle.bench_rules.specs.Bench.{line, WithLinks}
+use Rattle.bench_rules.specs.Bench.{line}
 use Rattle.bench_rules.specs.Commands.{add_point}
-use Rattle.bench_rules.specs.Interpreter.{leaving_links}
-use Rattle.bench_rules.proofs.Sound.{fresh_is_octets}
-use Rattle.bench_slots.specs.Slots.{kept_in}
-use Rattle.bench_points.specs.declared.Bench.{Bench}
-use Rattle.bench_points.specs.InCode.{bench_of}
-use Rattle.bench_points.proofs.Lending.{lent_table, put_back, put_octets}
+use Rattle.bench_points.specs.declared.Fault.{Fault}
+use Rattle.bench_points.specs.InCode.{Adds}
+use Rattle.bench_points.proofs.Lending.{lent_table, put_back}
 
 -- The table is made exactly if the answer accepts, because no refusal has number 0.
 module _ (t u : List ℕ) (own : Address) (number : SequenceNumber) (a : Decision ⊤) (ae : table_exit_of a u ≡ table_at_exit t (make_fresh t own number)) where
@@ -64,35 +61,44 @@ module _ (t u : List ℕ) (own : Address) (number : SequenceNumber) (a : Decisio
       by false true e = let q = ap (λ (x : TableExit). x.answer) e in absurd (omega arith)
       by false false e = ap (λ (v : List ℕ). Ok v) (sym (ap (λ (x : TableExit). x.table) e))
 
-module _ (b : Bench) (own : Address) (number : SequenceNumber) where
+module _ (points : ℕ) (own : Address) (number : SequenceNumber) (tables : List ℕ) where
+  pub seventeenth : 16 ≤ points → (e : Fault) → Adds (Err e) points own number tables tables
+  unfolding Adds add_point
+  seventeenth l e frames clock = rw (le-ltb points 16 l)
+
   abbrev place : ℕ
-  place = 544 * b.points
+  place = 544 * points
 
-  -- Returns the line of an answer, with so many points and these tables after it.
-  abbrev line_with : (answer points : ℕ) → (tables : List ℕ) → WithLinks
-  line_with answer points tables =
-      leaving_links b.links (line answer 0 (record { tables = tables; points = points; frames = kept_in b.slots b.frames; clock = b.clock }))
+  module _ (l : points < 16) (t u : List ℕ) (a : Decision ⊤) (ae : table_exit_of a u ≡ table_at_exit t (make_fresh t own number))
+      (te : t ≡ take (place + 544 - place) (drop place tables)) (n : ℕ) (ne : n ≡ answer_of a) where
+    table_is : t ≡ table_at tables 544 points
+    table_is = te ∙ lent_table tables points
 
-  module _ (l : b.points < 16) (t u : List ℕ) (a : Decision ⊤) (ae : table_exit_of a u ≡ table_at_exit t (make_fresh t own number))
-      (te : t ≡ take (place + 544 - place) (drop place b.tables)) where
-    table_is : t ≡ table_at b.tables 544 b.points
-    table_is = te ∙ lent_table b.tables b.points
+    abbrev Added : Type 0
+    Added = Adds (Ok (record { answer = n; third = 0 })) points own number tables (put_mid place (place + 544 - place) tables u)
 
-    -- All tables are octets still.
-    pub octets_added : (done : ⊤) → a ≡ Ok done → Octets (put_mid place (place + 544 - place) b.tables u)
-    octets_added done z = put_octets b.tables u b.points b.table_octets (fresh_is_octets t u own number (made t u own number a ae done z))
-
-    pub not_added : (r : Refusal) → a ≡ Err r → (n : ℕ) → n ≡ number_of r → line_with n b.points (put_mid place (place + 544 - place) b.tables u)
-        ≡ leaving_links b.links (add_point (bench_of b) own number)
-    unfolding add_point
-    not_added r e n ne =
+    not_added : (r : Refusal) → a ≡ Err r → Added
+    unfolding Adds add_point
+    not_added r e frames clock =
         let no = not_made t u own number a ae r e in
-        let same : put_mid place (place + 544 - place) b.tables u ≡ b.tables =
-        ap (put_mid place (place + 544 - place) b.tables) (no.same ∙ te) ∙ put_same place (place + 544 - place) b.tables in
-        rw (same, lt-ltb b.points 16 l, ← table_is, no.is, no.numbered, ne)
+        let same : put_mid place (place + 544 - place) tables u ≡ tables =
+        ap (put_mid place (place + 544 - place) tables) (no.same ∙ te) ∙ put_same place (place + 544 - place) tables in
+        let nr : n ≡ number_of r = ne ∙ ap answer_of e in
+        let more : eqb (number_of r) 0 ≡ false = ne_eqb (number_of r) 0 (never_0 r) in
+        let stay : points + 0 ≡ points = omega arith in
+        rw (same, lt-ltb points 16 l, ← table_is, no.is, no.numbered, nr, more)
+        (ap (λ (k : ℕ). line (number_of r) 0 (record { tables = tables; points = k; frames = frames; clock = clock })) stay)
 
-    pub point_added : (done : ⊤) → a ≡ Ok done → line_with 0 (b.points + 1) (put_mid place (place + 544 - place) b.tables u)
-        ≡ leaving_links b.links (add_point (bench_of b) own number)
-    unfolding add_point
-    point_added done z =
-        rw (put_back b.tables u b.points, lt-ltb b.points 16 l, ← table_is, made t u own number a ae done z)
+    table_made : (done : ⊤) → a ≡ Ok done → Added
+    unfolding Adds add_point
+    table_made done z frames clock =
+        let zero : n ≡ 0 = ne ∙ ap answer_of z in
+        rw (put_back tables u points, lt-ltb points 16 l, ← table_is, made t u own number a ae done z, zero)
+
+    pub table_added : Added
+    table_added = by a refl
+      where
+        by : (d : Decision ⊤) → a ≡ d → Added
+        by (Err r) e = not_added r e
+        by (Ok done) e = table_made done e
+

@@ -1,3 +1,4 @@
 pub mod Invariant
 pub mod Lending
 mod Adding
+mod Walking

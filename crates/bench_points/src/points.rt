@@ -1,10 +1,11 @@
 // The points: their tables side by side, and the commands that add a point, advance the clock and walk between two points.
-ghost use Rattle.std.specs.Prelude.{◌≡◌, ◌<◌, ◌≤◌, length};
+ghost use Rattle.std.specs.Prelude.{IfOk, ◌≡◌, ◌<◌, ◌≤◌, length};
+ghost use Rattle.octets.specs.LittleEndian.{Octets};
 ghost use Rattle.layout.specs.Address.{address_of};
 ghost use Rattle.rules.specs.Walk.{table_at};
 ghost use Rattle.bench_rules.specs.Commands.{add_point, advance, walk_to};
 ghost use Rattle.bench_rules.specs.Interpreter.{leaving_links};
-ghost use Rattle.bench_points.specs.InCode.{bench_of, came_in, done_in};
+ghost use Rattle.bench_points.specs.InCode.{Adds, Walks, bench_of, came_in, done_in, points_after};
 
 use crate::{Bench, Fault, Printed};
 use counters::SequenceNumber;
@@ -29,29 +30,50 @@ pub fn address_of(tables: &[u8; TABLES], p: usize) -> Address
     pieces::point_at(tables, TABLE, p)
 }
 
+// Adds a point with a fresh table to the tables of this many points, if its answer is 0. A refused point is not added, and a 17th
+// point is a fault.
+pub fn add_table(
+    points: usize,
+    own: Address,
+    number: SequenceNumber,
+    tables: &mut [u8],
+) -> Result<Printed, Fault>
+    requires { length tables.old ≡ 8704 }
+    ensures adds { Adds result points own number tables.old tables.new }
+    ensures points_bound { IfOk result (λ _. points < 16) }
+    ensures octets { Octets tables.new }
+{
+    if MOST_POINTS <= points {
+        return Err(Fault);
+    }
+    let at = TABLE * points;
+    let part = &mut tables[at..at + TABLE];
+    let answer = refusals::number_of(fresh::make_fresh(part, own, number));
+    Ok(Printed { answer, third: 0 })
+}
+
+// Returns how many points there are after `add_table`: a point more if its answer is 0.
+fn points_after(added: Result<Printed, Fault>, points: usize) -> usize
+    requires { IfOk added (λ _. points < 16) }
+    ensures value { result ≡ points_after added points }
+    ensures lower_bound { points ≤ result }
+    ensures upper_bound { points ≤ 16 → result ≤ 16 }
+{
+    match added {
+        Ok(Printed { answer: 0, .. }) => points + 1,
+        _ => points,
+    }
+}
+
 // Adds a point with a fresh table. A refused point is not added, and a 17th point is a fault.
-#[tactic(auto, unfolding(bench_rules::specs::Commands::add_point))]
 pub fn add_point(bench: &mut Bench, own: Address, number: SequenceNumber) -> Result<Printed, Fault>
     ensures { came_in result bench.new
         ≡ leaving_links bench.old.links (add_point (bench_of bench.old) own number) }
 {
-    let p = bench.points;
-    if MOST_POINTS <= p {
-        return Err(Fault);
-    }
-    let at = TABLE * p;
-    let part = &mut bench.tables[at..at + TABLE];
-    if let Err(refusal) = fresh::make_fresh(part, own, number) {
-        return Ok(Printed {
-            answer: u32::from(refusal),
-            third: 0,
-        });
-    }
-    bench.points = p + 1;
-    Ok(Printed {
-        answer: 0,
-        third: 0,
-    })
+    let points = bench.points;
+    let added = add_table(points, own, number, &mut bench.tables);
+    bench.points = points_after(added, points);
+    added
 }
 
 // Advances the clock. A clock above 2^48 - 1 is a fault.
@@ -71,20 +93,31 @@ pub fn advance_clock(bench: &mut Bench, by: u32) -> Result<Printed, Fault>
     })
 }
 
-// Walks from point p to point q over the tables of all points. It is a fault if p or q is no point.
-#[tactic(auto, unfolding(bench_rules::specs::Commands::walk_to))]
-pub fn walk_to(bench: &Bench, p: u8, q: u8) -> Result<Printed, Fault>
-    ensures { done_in result bench.now ≡ walk_to (bench_of bench.now) p q }
+// Walks from point p to point q over the tables of this many points. It is a fault if p or q is no point.
+pub fn walk_between(
+    points: usize,
+    clock: u64,
+    p: u8,
+    q: u8,
+    tables: &[u8],
+) -> Result<Printed, Fault>
+    requires tables_len { length tables.now ≡ 8704 }
+    requires points_bound { points ≤ 16 }
+    ensures { Walks result points clock p q tables.now }
 {
-    let p = bench.point(p)?;
-    let q = bench.point(q)?;
-    let start = address_of(&bench.tables, p);
-    let destination = address_of(&bench.tables, q);
-    let octets = TABLE * bench.points;
+    if points <= p as usize {
+        return Err(Fault);
+    }
+    if points <= q as usize {
+        return Err(Fault);
+    }
+    let start = pieces::point_at(tables, TABLE, p as usize);
+    let destination = pieces::point_at(tables, TABLE, q as usize);
+    let octets = TABLE * points;
     let ending = walk::walk(
-        &bench.tables[..octets],
-        bench.points as u32,
-        bench.clock,
+        &tables[..octets],
+        points as u32,
+        clock,
         start,
         destination,
     );
@@ -93,4 +126,11 @@ pub fn walk_to(bench: &Bench, p: u8, q: u8) -> Result<Printed, Fault>
         answer: walked.answer,
         third: walked.hops,
     })
+}
+
+// Walks from point p to point q over the tables of all points. It is a fault if p or q is no point.
+pub fn walk_to(bench: &Bench, p: u8, q: u8) -> Result<Printed, Fault>
+    ensures { done_in result bench.now ≡ walk_to (bench_of bench.now) p q }
+{
+    walk_between(bench.points, bench.clock, p, q, &bench.tables)
 }

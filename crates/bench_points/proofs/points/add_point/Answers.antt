@@ -1,15 +1,12 @@
--- `bench_points::points::add_point` meets its contract: the point is refused, or it is added.
-use Rattle.std.proofs.Common.{refl}
-use Rattle.bench_points.proofs.Adding.{octets_added, not_added, point_added}
+-- `bench_points::points::add_point` meets its contract: the frames and the clock stay.
+use Rattle.std.proofs.Common.{ap}
+use Rattle.bench_slots.specs.Slots.{kept_in}
+use Rattle.bench_rules.specs.Interpreter.{leaving_links}
+use Rattle.bench_points.specs.InCode.{Adds}
 use Rattle.bench_points.proofs.points.add_point.Goals as goal
 
-pub returns-in-Err : goal.returns-in-Err
-returns-in-Err c = search not_added
-
-pub invariant_of-bench-2-clause-table_octets : goal.invariant_of-bench-2-clause-table_octets
-invariant_of-bench-2-clause-table_octets c =
-    octets_added c.args.bench.now c.args.own c.args.number c.if-p-ge-MOST_POINTS.false _ c.make_fresh.new.table c.make_fresh.result
-    c.make_fresh.ensures refl c.in_default.field-0 c.in_default.is
-
 pub returns : goal.returns
-returns c = search point_added
+unfolding Adds
+returns c =
+    rw (c.points_after-bench.ensures.value)
+    (ap (leaving_links c.args.bench.now.links) (c.add_table-added.ensures.adds (kept_in c.args.bench.now.slots c.args.bench.now.frames) c.args.bench.now.clock))
