@@ -5,7 +5,7 @@ ghost use Rattle.rules.specs.Exit.{at_exit, lend};
 ghost use Rattle.calls.specs.Answers.{exit_of};
 ghost use Rattle.bench_rules.specs.Bench.{called};
 ghost use Rattle.bench_rules.specs.Interpreter.{leaving_links};
-ghost use Rattle.bench_points.specs.InCode.{bench_of, came_in};
+ghost use Rattle.bench_points.specs.InCode.{FaultKeeps, bench_of, came_in};
 ghost use Rattle.bench_core.specs.InCode.{call_of};
 
 use crate::settle;
@@ -58,9 +58,10 @@ fn make_with(
 #[tactic(auto, unfolding(bench_rules::specs::Bench::called))]
 pub fn make_call(bench: &mut Bench, p: u8, call: Call) -> Result<Printed, Fault>
     requires { OperandsFit (call_of bench.old.slots call) }
-    ensures { came_in result bench.new
+    ensures bench_after { came_in result bench.new
         ≡ leaving_links bench.old.links
         (called (bench_of bench.old) p (call_of bench.old.slots call)) }
+    ensures fault_keeps { FaultKeeps result bench.old bench.new }
 {
     let i = bench.point(p)?;
     let at = TABLE * i;

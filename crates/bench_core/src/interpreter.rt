@@ -3,7 +3,7 @@ ghost use Rattle.std.specs.Prelude.{IfOk, ◌≡◌, ◌<◌, ◌≤◌, length}
 ghost use Rattle.octets.specs.LittleEndian.{number_at};
 ghost use Rattle.bench_commands.specs.Commands.{octet_of};
 ghost use Rattle.bench_rules.specs.Interpreter.{command, length_of, obeyed};
-ghost use Rattle.bench_points.specs.InCode.{bench_of, came_in};
+ghost use Rattle.bench_points.specs.InCode.{FaultKeeps, bench_of, came_in};
 ghost use Rattle.bench_core.specs.InCode.{printed_of};
 
 use crate::traffic;
@@ -23,8 +23,9 @@ pub struct Line {
 #[tactic(auto, unfolding(bench_rules::specs::Interpreter::obeyed))]
 fn obey(command: Command, input: &[u8], bench: &mut Bench) -> Result<Printed, Fault>
     requires { length_of (octet_of command) ≤ length input.now }
-    ensures { came_in result bench.new
+    ensures bench_after { came_in result bench.new
         ≡ obeyed (bench_of bench.old) bench.old.links input.now (octet_of command) }
+    ensures fault_keeps { FaultKeeps result bench.old bench.new }
 {
     match command {
         Command::Point => {
@@ -69,6 +70,7 @@ pub fn obey_first(input: &[u8], bench: &mut Bench) -> Result<Line, Fault>
     requires { 0 < length input.now }
     ensures bench_after { came_in (printed_of result) bench.new
         ≡ command (bench_of bench.old) bench.old.links input.now }
+    ensures fault_keeps { FaultKeeps result bench.old bench.new }
     ensures command_is { IfOk result (λ line. octet_of line.command ≡ number_at 1 input.now 0) }
 {
     let Ok(command) = Command::try_from(octets::octet(input, 0)) else {

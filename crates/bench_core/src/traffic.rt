@@ -3,7 +3,7 @@ ghost use Rattle.std.specs.Prelude.{◌≡◌, ◌∷◌, ◌<◌};
 ghost use Rattle.octets.specs.LittleEndian.{number_octets};
 ghost use Rattle.bench_rules.specs.Commands.{announce_self, arrival_from, ask_for, break_off, deliver};
 ghost use Rattle.bench_rules.specs.Interpreter.{leaving_links};
-ghost use Rattle.bench_points.specs.InCode.{bench_of, came_in};
+ghost use Rattle.bench_points.specs.InCode.{FaultKeeps, bench_of, came_in};
 
 use crate::calling::{self, Call};
 use bench_points::{Bench, Fault, Printed, points};
@@ -30,9 +30,10 @@ pub fn ask_for(
     destination: Address,
     lifetime: u32,
 ) -> Result<Printed, Fault>
-    ensures { came_in result bench.new
+    ensures bench_after { came_in result bench.new
         ≡ leaving_links bench.old.links
         (ask_for (bench_of bench.old) p flags destination lifetime) }
+    ensures fault_keeps { FaultKeeps result bench.old bench.new }
 {
     let item = item_of(flags, destination);
     calling::make_call(bench, p, Call::Ask(lifetime, item))
@@ -41,8 +42,9 @@ pub fn ask_for(
 // Lets point p announce itself, with flags 0.
 #[tactic(auto, unfolding(bench_rules::specs::Commands::announce_self))]
 pub fn announce_self(bench: &mut Bench, p: u8, lifetime: u32) -> Result<Printed, Fault>
-    ensures { came_in result bench.new
+    ensures bench_after { came_in result bench.new
         ≡ leaving_links bench.old.links (announce_self (bench_of bench.old) p lifetime) }
+    ensures fault_keeps { FaultKeeps result bench.old bench.new }
 {
     calling::make_call(bench, p, Call::Announce(lifetime))
 }
@@ -62,9 +64,10 @@ fn arrival_from(bench: &Bench, sender: u8, p: usize) -> Arrival
 // Delivers frame k from its sender to point p, whatever the receiver address of the frame is.
 #[tactic(auto, unfolding(bench_rules::specs::Commands::deliver, bench_rules::specs::Bench::called))]
 pub fn deliver_frame(bench: &mut Bench, k: u16, p: u8) -> Result<Printed, Fault>
-    ensures { came_in result bench.new
+    ensures bench_after { came_in result bench.new
         ≡ leaving_links bench.old.links
         (deliver (bench_of bench.old) bench.old.links k p) }
+    ensures fault_keeps { FaultKeeps result bench.old bench.new }
 {
     let slot = bench.slot(k)?;
     let receiver = bench.point(p)?;
@@ -76,8 +79,9 @@ pub fn deliver_frame(bench: &mut Bench, k: u16, p: u8) -> Result<Printed, Fault>
 // Lets point p report point q as a broken neighbour. If q is p itself, the call is refused.
 #[tactic(auto, unfolding(bench_rules::specs::Commands::break_off))]
 pub fn break_off(bench: &mut Bench, p: u8, q: u8) -> Result<Printed, Fault>
-    ensures { came_in result bench.new
+    ensures bench_after { came_in result bench.new
         ≡ leaving_links bench.old.links (break_off (bench_of bench.old) p q) }
+    ensures fault_keeps { FaultKeeps result bench.old bench.new }
 {
     let q = bench.point(q)?;
     let neighbour = points::address_of(&bench.tables, q);

@@ -44,6 +44,12 @@ done_in r b = done_with r (contents b)
 abbrev pub came_in : Result Printed Fault → Bench → WithLinks
 came_in r b = record { done = done_in r b; links = b.links }
 
+-- States that a fault leaves the numbers of the bench as they were. Its tables, slots and links do not matter after a fault.
+abbrev pub FaultKeeps : {A : Type 0} → Result A Fault → (before after : Bench) → Type 0
+FaultKeeps (Err e) before after =
+    (after.points ≡ before.points) × (after.frames ≡ before.frames) × (after.clock ≡ before.clock)
+FaultKeeps (Ok x) before after = Unit {0}
+
 -- ---- contracts of commands that are lent a part of what a bench holds
 
 -- Each contract holds for any frames, and for any clock where the clock plays no part, because the command leaves them alone.

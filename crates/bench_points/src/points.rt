@@ -5,7 +5,7 @@ ghost use Rattle.layout.specs.Address.{address_of};
 ghost use Rattle.rules.specs.Walk.{table_at};
 ghost use Rattle.bench_rules.specs.Commands.{add_point, advance, walk_to};
 ghost use Rattle.bench_rules.specs.Interpreter.{leaving_links};
-ghost use Rattle.bench_points.specs.InCode.{Adds, Walks, bench_of, came_in, done_in, points_after};
+ghost use Rattle.bench_points.specs.InCode.{Adds, FaultKeeps, Walks, bench_of, came_in, done_in, points_after};
 
 use crate::{Bench, Fault, Printed};
 use counters::SequenceNumber;
@@ -67,8 +67,9 @@ fn points_after(added: Result<Printed, Fault>, points: usize) -> usize
 
 // Adds a point with a fresh table. A refused point is not added, and a 17th point is a fault.
 pub fn add_point(bench: &mut Bench, own: Address, number: SequenceNumber) -> Result<Printed, Fault>
-    ensures { came_in result bench.new
+    ensures bench_after { came_in result bench.new
         ≡ leaving_links bench.old.links (add_point (bench_of bench.old) own number) }
+    ensures fault_keeps { FaultKeeps result bench.old bench.new }
 {
     let points = bench.points;
     let added = add_table(points, own, number, &mut bench.tables);
@@ -79,8 +80,9 @@ pub fn add_point(bench: &mut Bench, own: Address, number: SequenceNumber) -> Res
 // Advances the clock. A clock above 2^48 - 1 is a fault.
 #[tactic(auto, unfolding(bench_rules::specs::Commands::advance))]
 pub fn advance_clock(bench: &mut Bench, by: u32) -> Result<Printed, Fault>
-    ensures { came_in result bench.new
+    ensures bench_after { came_in result bench.new
         ≡ leaving_links bench.old.links (advance (bench_of bench.old) by) }
+    ensures fault_keeps { FaultKeeps result bench.old bench.new }
 {
     let clock = bench.clock + by as u64;
     if row::MAX_CLOCK < clock {

@@ -14,5 +14,5 @@ settle-requires-clause-holds_frames c =
     holds_frames c.args.bench.now _ _ _ _ _ _ _ c.make_with-outcome.ensures c.requires refl refl c.in_ok-i.i
     (lent_table c.args.bench.now.tables c.in_ok-i.i)
 
-pub returns : goal.returns
-returns c = search (call_done, lent_table)
+pub returns-clause-bench_after : goal.returns-clause-bench_after
+returns-clause-bench_after c = search (call_done, lent_table)

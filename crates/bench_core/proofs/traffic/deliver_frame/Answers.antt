@@ -6,13 +6,13 @@ use Rattle.bench_slots.proofs.Keeping.{each_beyond, frame_found}
 use Rattle.bench_core.proofs.Emitting.{sender_point, receiver_point, receive_fits}
 use Rattle.bench_core.proofs.traffic.deliver_frame.Goals as goal
 
-pub returns-in_err-slot : goal.returns-in_err-slot
+pub returns-in_err-slot-clause-bench_after : goal.returns-in_err-slot-clause-bench_after
 unfolding deliver
-returns-in_err-slot c = grind (arith, each_beyond)
+returns-in_err-slot-clause-bench_after c = grind (arith, each_beyond)
 
-pub returns-in_err-receiver : goal.returns-in_err-receiver
+pub returns-in_err-receiver-clause-bench_after : goal.returns-in_err-receiver-clause-bench_after
 unfolding deliver called
-returns-in_err-receiver c = grind (arith, frame_found)
+returns-in_err-receiver-clause-bench_after c = grind (arith, frame_found)
 
 pub arrival_from-arrival-requires : goal.arrival_from-arrival-requires
 arrival_from-arrival-requires c = (
@@ -23,6 +23,6 @@ arrival_from-arrival-requires c = (
 pub make_call-requires : goal.make_call-requires
 make_call-requires c = search (receive_fits c.args.bench.now c.in_ok-slot.slot c.args.k c.in_ok-slot.ensures)
 
-pub returns : goal.returns
+pub returns-clause-bench_after : goal.returns-clause-bench_after
 unfolding deliver called
-returns c = grind (arith, frame_found)
+returns-clause-bench_after c = grind (arith, frame_found)
