@@ -101,4 +101,3 @@ module _ (points : ℕ) (own : Address) (number : SequenceNumber) (tables : List
         by : (d : Decision ⊤) → a ≡ d → Added
         by (Err r) e = not_added r e
         by (Ok done) e = table_made done e
-

@@ -116,13 +116,7 @@ pub fn walk_between(
     let start = pieces::point_at(tables, TABLE, p as usize);
     let destination = pieces::point_at(tables, TABLE, q as usize);
     let octets = TABLE * points;
-    let ending = walk::walk(
-        &tables[..octets],
-        points as u32,
-        clock,
-        start,
-        destination,
-    );
+    let ending = walk::walk(&tables[..octets], points as u32, clock, start, destination);
     let walked = Walked::from(ending);
     Ok(Printed {
         answer: walked.answer,

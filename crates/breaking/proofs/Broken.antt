@@ -6,7 +6,10 @@ use Prim.Native.Nat.{ℕ, zero, suc, ◌+◌, ◌-◌, ◌<◌, ◌≤◌}
 use mathlib.Core.Path.{◌≡◌, refl, sym, ap, ap₂, ◌∙◌}
 use mathlib.Core.Bool.{Bool, true, false, not, cond}
 use mathlib.Core.List.{List, [], ◌∷◌, ◌++◌, flat_map}
-use lib.ListN.{length, length-append}
+use lib.ListN.{length, length-append, take, drop}
+use lib.Seq.{sets-eq}
+use Rattle.std.proofs.lemmas.List.{append_assoc, drop-append-le, drop-drop, take-append-drop}
+use borrow.Rule.Slice.PartMut.{mid_len, mid_of, put_mid}
 use native.Mathlib.Nat.{zero-add, add-zero}
 use native.Mathlib.Numerals.{add-one}
 use native.Mathlib.Omega.{arith}
@@ -159,6 +162,36 @@ module _ (test : Row → Bool) (t : List ℕ) (l : Sized t) (n : ℕ) (ne : n �
       ve ∙ ap₂ (λ (x : List ℕ) (k : ℕ). closed x 0 k) we le
       ∙ closes 6 all (omega (arith, le, lost_few test t l lost lost_counted)) output 0
       ∙ ap (λ (m : List LostDestination). overwrite output 0 (frame_octets (errors_for m))) lost_are
+
+-- ---- the RERRs in a part of the output
+
+-- What is written at the start of the part from place `at` on is written at place `at`.
+part_written : (s x : List ℕ) (at : ℕ) → at + length x ≤ length s
+    → put_mid at (length s - at) s (overwrite (mid_of at (length s - at) s) 0 x) ≡ overwrite s at x
+unfolding overwrite
+part_written s x at l =
+    let k : ℕ = length s - at in
+    let m : List ℕ = mid_of at k s in
+    let n : ℕ = length x in
+    let rest : List ℕ = drop k (drop at s) in
+    let long : length m ≡ k = mid_len at (length s) s (omega arith) in
+    let fits : 0 + n ≤ length m = omega (arith, l, long) in
+    let front : overwrite m 0 x ≡ x ++ drop n m = sets-eq x m 0 fits ∙ ap (λ (j : ℕ). x ++ drop j m) (zero-add n) in
+    ap (λ (z : List ℕ). take at s ++ (z ++ rest)) front
+    ∙ ap (λ (z : List ℕ). take at s ++ z)
+    (append_assoc x (drop n m) rest
+    ∙ ap (λ (z : List ℕ). x ++ z)
+    (sym (drop-append-le n m rest (omega (arith, l, long))) ∙ ap (drop n) (take-append-drop k (drop at s)) ∙ drop-drop n at s))
+    ∙ sym (append_assoc (take at s) x (drop (at + n) s)) ∙ sym (sets-eq x s at l)
+
+pub errors_placed : (test : Row → Bool) (t : List ℕ) → Sized t → (s : List ℕ) (at : ℕ) → at + octets_for most_rows ≤ length s → (out : List ℕ)
+    → out ≡ overwrite (mid_of at (length s - at) s) 0 (frame_octets (errors_for (broken_entries test t)))
+    → put_mid at (length s - at) s out ≡ overwrite s at (frame_octets (errors_for (broken_entries test t)))
+errors_placed test t l s at room out oe =
+    let entries : List LostDestination = broken_entries test t in
+    let few : length entries ≤ most_rows = lost_few test t l (length entries) refl in
+    let long : length (frame_octets (errors_for entries)) ≡ octets_for (length entries) = errors_long 6 entries (omega (arith, few)) in
+    ap (put_mid at (length s - at) s) oe ∙ part_written s (frame_octets (errors_for entries)) at (omega (arith, few, long, room))
 
 -- ---- if no row breaks, no row changes
 

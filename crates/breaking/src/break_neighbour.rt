@@ -31,7 +31,7 @@ fn break_off(table: &mut [u8], output: &mut [u8], link: BrokenLink) -> Result<Em
         (Ok (broken_off (lend table.old) link.clock (breaks link))) }
 {
     let head = row::read_head(table);
-    let reported = report::report(output, table, link);
+    let reported = report::report(output, 0, table, link);
     link.lose_rows(table, reported.lost);
     clocked::store_head(table, head, head.number, link.clock);
     Ok(reported.emitted())

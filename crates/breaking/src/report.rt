@@ -59,8 +59,8 @@ fn report_rows(output: &mut [u8], table: &[u8], n: usize, link: BrokenLink) -> R
     reported
 }
 
-// Writes the RERRs for a broken link. Returns what they report.
-pub fn report(output: &mut [u8], table: &[u8], link: BrokenLink) -> Reported
+// Writes the RERRs for a broken link from the start of the output on.
+fn report_all(output: &mut [u8], table: &[u8], link: BrokenLink) -> Reported
     requires sized { Sized table.now }
     requires most_rows_in_bounds { octets_for most_rows ≤ length output.old }
     ensures value { result.lost ≡ length (broken_entries (breaks link) table.now) }
@@ -70,4 +70,15 @@ pub fn report(output: &mut [u8], table: &[u8], link: BrokenLink) -> Reported
     let reported = report_rows(output, table, search::rows_of(table), link);
     reported.close(output);
     reported
+}
+
+// Writes the RERRs for a broken link, starting at place `at`. Returns what they report.
+pub fn report(output: &mut [u8], at: usize, table: &[u8], link: BrokenLink) -> Reported
+    requires sized { Sized table.now }
+    requires most_rows_in_bounds { at + octets_for most_rows ≤ length output.old }
+    ensures value { result.lost ≡ length (broken_entries (breaks link) table.now) }
+    ensures output_after { output.new
+        ≡ overwrite output.old at (frame_octets (errors_for (broken_entries (breaks link) table.now))) }
+{
+    report_all(&mut output[at..], table, link)
 }
