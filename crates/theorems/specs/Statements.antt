@@ -23,7 +23,7 @@
 --   Call                       a receive, ask, announce, root request or break, with its operands
 --   OperandsFit call           C's types can hold the operands of the call
 --   decision l room call       what the rules decide on a call that is lent l and an output of `room` octets
---   accepted e                 the call is accepted; its effect e is the `Lent` that it leaves and the frames that it emits
+--   Ok e                       the call is accepted; its effect e is the `Lent` that it leaves and the frames that it emits
 --   read_element s             the element that the octets s are read as; `rreq f targets` is a RREQ with these destinations
 --   at_exit l output decision  answer, frames and octets reported, and all lent octets, when the call has ended
 use Rattle.rules.specs.Lists.{all, any}
