@@ -29,6 +29,11 @@ range_more a (suc n) = ap (λ (xs : List ℕ). a ∷ xs) (range_more (a + 1) n �
 places_more : (n : ℕ) → range_with_len 0 (suc n) ≡ range_with_len 0 n ++ n ∷ []
 places_more n = range_more 0 n ∙ ap (λ (k : ℕ). range_with_len 0 n ++ k ∷ []) (zero-add n)
 
+-- A free row is one more, a held row is none.
+pub counted_le : (i found next : ℕ) (b : Bool) → next ≡ found + cond b 1 0 → found ≤ i → next ≤ i + 1
+counted_le i found next true e h = omega arith
+counted_le i found next false e h = omega arith
+
 module _ (p : ℕ → Bool) where
   first_suc : (n : ℕ) → first p (suc n) ≡ option_or (first p n) (cond (p n) (Some n) None)
   first_suc n = ap (find p) (places_more n) ∙ find-append p (range_with_len 0 n) (n ∷ [])
@@ -36,6 +41,12 @@ module _ (p : ℕ → Bool) where
   count_suc : (n : ℕ) → count p (suc n) ≡ count p n + cond (p n) 1 0
   count_suc n = ap (count_by p) (places_more n) ∙ sum_by-append (λ k. cond (p k) 1 0) (range_with_len 0 n) (n ∷ [])
       ∙ ap (λ (k : ℕ). count p n + k) (zero-add (cond (p n) 1 0))
+
+  pub count_more : (i found next : ℕ) (b : Bool) → b ≡ p i → found ≡ count p i → next ≡ found + cond b 1 0 → next ≡ count p (i + 1)
+  count_more i found next b e h n = rw (add-one, count_suc i, ← h, ← e) n
+
+  pub count_ended : (n i found : ℕ) → found ≡ count p i → i ≤ n → n ≤ i → found ≡ count p n
+  count_ended n i found h l g = rw (le_antisymm g l) h
 
   every_suc : (n : ℕ) → every p (suc n) ≡ (every p n && p n)
   every_suc n = ap (list_all p) (places_more n) ∙ list_all-append p (range_with_len 0 n) (n ∷ []) ∙ ap (λ (b : Bool). list_all p (range_with_len 0 n) && b) (and-true (p n))
