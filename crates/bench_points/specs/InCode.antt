@@ -1,5 +1,5 @@
--- Defines how what the code holds is read as the bench of the rules, the result of a command, and the contracts of commands that
--- are lent a part of what a bench holds.
+-- Defines how what the code holds is read as the bench of the rules, the result of a command, and the contracts of functions
+-- that are lent a part of what a bench holds.
 use Rattle.std.specs.Prelude.{ℕ, ◌≡◌, ◌+◌, cond, eqb, List, Result, Ok, Err}
 use Rattle.counters.specs.declared.SequenceNumber.{SequenceNumber}
 use Rattle.layout.specs.declared.address.Address.{Address}
@@ -44,13 +44,13 @@ done_in r b = done_with r (contents b)
 abbrev pub came_in : Result Printed Fault → Bench → WithLinks
 came_in r b = record { done = done_in r b; links = b.links }
 
--- States that a fault leaves the numbers of the bench as they were. Its tables, slots and links do not matter after a fault.
+-- States that a fault leaves the numbers of the bench as they were. Its tables and slots do not matter after a fault of a call.
 abbrev pub FaultKeeps : {A : Type 0} → Result A Fault → (before after : Bench) → Type 0
 FaultKeeps (Err e) before after =
     (after.points ≡ before.points) × (after.frames ≡ before.frames) × (after.clock ≡ before.clock)
 FaultKeeps (Ok x) before after = Unit {0}
 
--- ---- contracts of commands that are lent a part of what a bench holds
+-- ---- contracts of functions that are lent a part of what a bench holds
 
 -- Each contract holds for any frames, and for any clock where the clock plays no part, because the command leaves them alone.
 

@@ -10,6 +10,7 @@ use crate::{Bench, Fault, Printed};
 pub fn link_points(bench: &mut Bench, p: u8, q: u8, metric: u32) -> Result<Printed, Fault>
     ensures bench_after { came_in result bench.new ≡ link (bench_of bench.old) bench.old.links p q metric }
     ensures fault_keeps { FaultKeeps result bench.old bench.new }
+    ensures memory_keeps { (bench.new.tables ≡ bench.old.tables) × (bench.new.slots ≡ bench.old.slots) }
 {
     let p = bench.point(p)?;
     let q = bench.point(q)?;

@@ -30,8 +30,8 @@ pub fn address_of(tables: &[u8; TABLES], p: usize) -> Address
     pieces::point_at(tables, TABLE, p)
 }
 
-// Adds a point with a fresh table to the tables of this many points, if its answer is 0. A refused point is not added, and a 17th
-// point is a fault.
+// Adds a point with a fresh table behind the first `points` tables. The caller counts the point by `points_after`, because a
+// refused point is not added. A 17th point is a fault.
 pub fn add_table(
     points: usize,
     own: Address,
@@ -53,7 +53,7 @@ pub fn add_table(
 }
 
 // Returns how many points there are after `add_table`: a point more if its answer is 0.
-fn points_after(added: Result<Printed, Fault>, points: usize) -> usize
+pub fn points_after(added: Result<Printed, Fault>, points: usize) -> usize
     requires { IfOk added (λ _. points < 16) }
     ensures value { result ≡ points_after added points }
     ensures lower_bound { points ≤ result }
@@ -70,10 +70,10 @@ pub fn add_point(bench: &mut Bench, own: Address, number: SequenceNumber) -> Res
     ensures bench_after { came_in result bench.new
         ≡ leaving_links bench.old.links (add_point (bench_of bench.old) own number) }
     ensures fault_keeps { FaultKeeps result bench.old bench.new }
+    ensures slots_keep { bench.new.slots ≡ bench.old.slots }
 {
-    let points = bench.points;
-    let added = add_table(points, own, number, &mut bench.tables);
-    bench.points = points_after(added, points);
+    let added = add_table(bench.points, own, number, &mut bench.tables);
+    bench.points = points_after(added, bench.points);
     added
 }
 
@@ -83,6 +83,7 @@ pub fn advance_clock(bench: &mut Bench, by: u32) -> Result<Printed, Fault>
     ensures bench_after { came_in result bench.new
         ≡ leaving_links bench.old.links (advance (bench_of bench.old) by) }
     ensures fault_keeps { FaultKeeps result bench.old bench.new }
+    ensures memory_keeps { (bench.new.tables ≡ bench.old.tables) × (bench.new.slots ≡ bench.old.slots) }
 {
     let clock = bench.clock + by as u64;
     if row::MAX_CLOCK < clock {
@@ -95,7 +96,7 @@ pub fn advance_clock(bench: &mut Bench, by: u32) -> Result<Printed, Fault>
     })
 }
 
-// Walks from point p to point q over the tables of this many points. It is a fault if p or q is no point.
+// Walks from point p to point q over the first `points` tables. It is a fault if p or q is no point.
 pub fn walk_between(
     points: usize,
     clock: u64,

@@ -13,7 +13,7 @@ pub const MOST: usize = 65536;
 // No line is longer. A line has a command and two numbers of 32 bits, or E and an offset of 64 bits, with spaces and a newline.
 pub const LONGEST_LINE: usize = 64;
 
-// Writes one octet at place `at` of octets. This and each function below returns the place after what it has written.
+// Writes one octet at place `at` of the text. This and each function below returns the place after what it has written.
 fn put(text: &mut [u8], at: usize, octet: u8) -> usize
     requires { at < length text.old }
     ensures value { result ≡ at + 1 }

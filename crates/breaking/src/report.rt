@@ -77,6 +77,7 @@ pub fn report(output: &mut [u8], at: usize, table: &[u8], link: BrokenLink) -> R
     requires sized { Sized table.now }
     requires most_rows_in_bounds { at + octets_for most_rows ≤ length output.old }
     ensures value { result.lost ≡ length (broken_entries (breaks link) table.now) }
+    ensures lost_le_most_rows { result.lost ≤ most_rows }
     ensures output_after { output.new
         ≡ overwrite output.old at (frame_octets (errors_for (broken_entries (breaks link) table.now))) }
 {

@@ -9,4 +9,5 @@ pub returns-clause-bench_after : goal.returns-clause-bench_after
 unfolding Adds
 returns-clause-bench_after c =
     rw (c.points_after-bench.ensures.value)
-    (ap (leaving_links c.args.bench.now.links) (c.add_table-added.ensures.adds (kept_in c.args.bench.now.slots c.args.bench.now.frames) c.args.bench.now.clock))
+    (ap (leaving_links c.args.bench.now.links)
+    (c.add_table-added.ensures.adds (kept_in c.args.bench.now.slots c.args.bench.now.frames) c.args.bench.now.clock))
