@@ -44,7 +44,8 @@ done_in r b = done_with r (contents b)
 abbrev pub came_in : Result Printed Fault → Bench → WithLinks
 came_in r b = record { done = done_in r b; links = b.links }
 
--- States that a fault leaves the numbers of the bench as they were. Its tables and slots do not matter after a fault of a call.
+-- States that a fault leaves the numbers of the bench as they were. It says nothing of the tables and the slots, which a call that
+-- ends in a fault may have changed.
 abbrev pub FaultKeeps : {A : Type 0} → Result A Fault → (before after : Bench) → Type 0
 FaultKeeps (Err e) before after =
     (after.points ≡ before.points) × (after.frames ≡ before.frames) × (after.clock ≡ before.clock)
